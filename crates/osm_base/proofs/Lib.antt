@@ -1,0 +1,15 @@
+pub mod Digits
+pub mod KeyLaw
+pub mod Places
+pub mod CoordLaw
+pub mod WrittenLaws
+pub mod MapViews
+pub mod RisingKeys
+pub mod ByRank
+pub mod ExtendLaws
+pub mod AnyMap
+pub mod TagLaws
+mod Examples
+mod TagPlaces
+mod ValueExamples
+pub mod SameLaws

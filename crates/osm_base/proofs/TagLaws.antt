@@ -1,0 +1,137 @@
+-- What a change of tags leaves: its look-ups, its order, its place.
+use Rattle.std.proofs.Common.{◌≡◌, ◌≢◌, ℕ, ◌<◌, ◌&&◌, Bool, true, false, not, cond, List, [], ◌∷◌, ◌++◌, map, length, Option, Some, None, is_some, refl, sym, ◌∙◌, ap, subst, Ordering}
+use Rattle.std.specs.declared.cmp.Ordering.TheVariants.{Less, Equal, Greater}
+use Rattle.std.specs.Ordering.{eq_by_cmp, is_lt, is_eq, ordering_reverse}
+use Rattle.std.specs.List.{list_all, list_any, filter}
+use Rattle.std.specs.Prelude.{nat_lt, T}
+use Rattle.std.specs.FinMap.{slice_cmp-IsAntisymmetric, nat_cmp-IsAntisymmetric, is_sorted}
+use Rattle.std.specs.FinMap.Entries.{is_sorted-put, is_sorted-where_key, find-put, find-where_key, is_some-find, same_entries, by_order, below_all}
+use Rattle.std.proofs.lemmas.Bool.{lt-ltb}
+use Rattle.std.proofs.lemmas.Cmp.{nat_list_cmp_total, tied_itself}
+use Rattle.osm_base.proofs.AnyMap.{list_any_map}
+use Rattle.osm_base.specs.Tags.{Pair, bytes_cmp, are_tags, value_of, with_tag, without_tag, has_tag}
+
+anded : (a b : Bool) → T a → T b → T (a && b)
+anded true b p q = q
+anded false b p q = p
+
+pub fore : (a b : Bool) → T (a && b) → T a
+fore true b p = tt
+fore false b p = p
+
+pub aft : (a b : Bool) → T (a && b) → T b
+aft true b p = p
+aft false b p = absurd p
+
+-- Keys that tie are one.
+pub one_key : (k j : List ℕ) → bytes_cmp k j ≡ Equal → k ≡ j
+one_key = slice_cmp-IsAntisymmetric nat_cmp-IsAntisymmetric
+
+pub key_itself : (key : List ℕ) → eq_by_cmp bytes_cmp key key ≡ true
+key_itself key = ap is_eq (tied_itself nat_list_cmp_total key)
+
+untied : (k j : List ℕ) (o : Ordering) → bytes_cmp k j ≡ o → k ≢ j → is_eq o ≡ false
+untied k j Less e apart = refl
+untied k j Equal e apart = absurd (apart (one_key k j e))
+untied k j Greater e apart = refl
+
+pub other_key : (k j : List ℕ) → k ≢ j → eq_by_cmp bytes_cmp k j ≡ false
+other_key k j apart = untied k j (bytes_cmp k j) refl apart
+
+-- After a put the key has the new value,
+pub value_of_put : (tags : List Pair) (key value : List ℕ) → value_of (with_tag tags key value) key ≡ Some value
+value_of_put tags key value =
+    find-put bytes_cmp nat_list_cmp_total key key value tags ∙ ap (λ b. cond b (Some value) (value_of tags key)) (key_itself key)
+
+-- and each other key what it had.
+pub value_of_put_other : (tags : List Pair) (key value other : List ℕ) → other ≢ key → value_of (with_tag tags key value) other ≡ value_of tags other
+value_of_put_other tags key value other apart =
+    find-put bytes_cmp nat_list_cmp_total other key value tags ∙ ap (λ b. cond b (Some value) (value_of tags other)) (other_key other key apart)
+
+value_of_where : (p : List ℕ → Bool) (tags : List Pair) (key : List ℕ) → value_of (filter (λ t. p t.0) tags) key ≡ cond (p key) (value_of tags key) None
+value_of_where p tags key = find-where_key bytes_cmp p key (λ j e. ap p (sym (one_key key j e))) tags
+
+-- After a take the key has no value,
+pub value_of_take : (tags : List Pair) (key : List ℕ) → value_of (without_tag tags key) key ≡ None
+value_of_take tags key =
+    value_of_where (λ j. not (eq_by_cmp bytes_cmp key j)) tags key ∙ ap (λ b. cond (not b) (value_of tags key) None) (key_itself key)
+
+-- and each other key what it had.
+pub value_of_take_other : (tags : List Pair) (key other : List ℕ) → other ≢ key → value_of (without_tag tags key) other ≡ value_of tags other
+value_of_take_other tags key other apart =
+    value_of_where (λ j. not (eq_by_cmp bytes_cmp key j)) tags other ∙ ap (λ b. cond (not b) (value_of tags other) None) (other_key key other (λ e. apart (sym e)))
+
+-- A key is there exactly where it has a value.
+pub has_tag_is : (tags : List Pair) (key : List ℕ) → has_tag tags key ≡ is_some (value_of tags key)
+has_tag_is tags key =
+    sym (list_any_map (eq_by_cmp bytes_cmp key) (λ (t : Pair). t.0) tags) ∙ sym (is_some-find bytes_cmp key tags)
+
+-- Tags with the same values are the same tags.
+pub tags_by_values : (a b : List Pair) → T (are_tags a) → T (are_tags b) → ((key : List ℕ) → value_of a key ≡ value_of b key) → a ≡ b
+tags_by_values a b g h e =
+    same_entries bytes_cmp nat_list_cmp_total one_key a b (fore (is_sorted bytes_cmp a) _ g) (fore (is_sorted bytes_cmp b) _ h) e
+
+named_put : (key value : List ℕ) (tags : List Pair) → T (nat_lt 0 (length key)) → T (list_all (λ t. nat_lt 0 (length t.0)) tags) → T (list_all (λ t. nat_lt 0 (length t.0)) (with_tag tags key value))
+named_put key value [] k h = anded _ _ k h
+named_put key value (t ∷ tags) k h = elim (bytes_cmp key t.0) as (λ o. T (list_all (λ t. nat_lt 0 (length t.0)) (by_order o ((key, value) ∷ t ∷ tags) ((t.0, value) ∷ tags) (t ∷ with_tag tags key value)))) [
+  | Less ↦ anded _ _ k h
+  | Equal ↦ h
+  | Greater ↦ anded _ _ (fore (nat_lt 0 (length t.0)) _ h) (named_put key value tags k (aft (nat_lt 0 (length t.0)) _ h))
+]
+
+named_without : (p : List ℕ → Bool) (tags : List Pair) → T (list_all (λ t. nat_lt 0 (length t.0)) tags) → T (list_all (λ t. nat_lt 0 (length t.0)) (filter (λ t. p t.0) tags))
+named_without p [] h = h
+named_without p (t ∷ tags) h = elim (p t.0) as (λ b. T (list_all (λ t. nat_lt 0 (length t.0)) (cond b (t ∷ filter (λ t. p t.0) tags) (filter (λ t. p t.0) tags)))) [
+  | true ↦ anded _ _ (fore (nat_lt 0 (length t.0)) _ h) (named_without p tags (aft (nat_lt 0 (length t.0)) _ h))
+  | false ↦ named_without p tags (aft (nat_lt 0 (length t.0)) _ h)
+]
+
+-- A key that is not empty, as the test of the tags says it.
+pub named : (key : List ℕ) → 0 < length key → T (nat_lt 0 (length key))
+named key h = subst T (sym (lt-ltb 0 (length key) h)) tt
+
+-- A put keeps the tags in order,
+pub are_tags_put : (key value : List ℕ) (tags : List Pair) → T (nat_lt 0 (length key)) → T (are_tags tags) → T (are_tags (with_tag tags key value))
+are_tags_put key value tags k h =
+    anded _ _ (is_sorted-put bytes_cmp nat_list_cmp_total key value tags (fore (is_sorted bytes_cmp tags) _ h)) (named_put key value tags k (aft (is_sorted bytes_cmp tags) _ h))
+
+-- and so does a take.
+pub are_tags_without : (key : List ℕ) (tags : List Pair) → T (are_tags tags) → T (are_tags (without_tag tags key))
+are_tags_without key tags h =
+    anded _ _ (is_sorted-where_key bytes_cmp (λ k. not (eq_by_cmp bytes_cmp key k)) tags (fore (is_sorted bytes_cmp tags) _ h)) (named_without (λ k. not (eq_by_cmp bytes_cmp key k)) tags (aft (is_sorted bytes_cmp tags) _ h))
+
+less : (o : Ordering) → T (is_lt o) → o ≡ Less
+less Less p = refl
+less Equal p = absurd p
+less Greater p = absurd p
+
+-- How a greater key shows from the other side.
+above : (j k : List ℕ) → T (is_lt (bytes_cmp j k)) → bytes_cmp k j ≡ Greater
+above j k h = nat_list_cmp_total.antisymm k j ∙ ap ordering_reverse (less (bytes_cmp j k) h)
+
+-- The key above all others
+below_back : (j : List ℕ) (front back : List Pair) (t : Pair) → T (below_all bytes_cmp j (front ++ t ∷ back)) → T (is_lt (bytes_cmp j t.0))
+below_back j [] back t h = fore (is_lt (bytes_cmp j t.0)) _ h
+below_back j (f ∷ front) back t h = below_back j front back t (aft (is_lt (bytes_cmp j f.0)) _ h)
+
+sorted_put_last : (front back : List Pair) (t : Pair) → T (is_sorted bytes_cmp (front ++ t ∷ back)) → with_tag front t.0 t.1 ≡ front ++ t ∷ []
+sorted_put_last [] back t h = refl
+sorted_put_last (f ∷ front) back t h =
+    let o = above f.0 t.0 (below_back f.0 front back t (fore (below_all bytes_cmp f.0 (front ++ t ∷ back)) _ h)) in
+    let rest = sorted_put_last front back t (aft (below_all bytes_cmp f.0 (front ++ t ∷ back)) _ h) in
+    rw o (ap (λ (ts : List Pair). f ∷ ts) rest)
+
+sorted_has_last : (front back : List Pair) (t : Pair) → T (is_sorted bytes_cmp (front ++ t ∷ back)) → has_tag front t.0 ≡ false
+sorted_has_last [] back t h = refl
+sorted_has_last (f ∷ front) back t h =
+    let o = above f.0 t.0 (below_back f.0 front back t (fore (below_all bytes_cmp f.0 (front ++ t ∷ back)) _ h)) in
+    let rest = sorted_has_last front back t (aft (below_all bytes_cmp f.0 (front ++ t ∷ back)) _ h) in
+    rw o rest
+
+-- Of tags that are put in their order each goes to the end,
+pub put_last : (front back : List Pair) (t : Pair) → T (are_tags (front ++ t ∷ back)) → with_tag front t.0 t.1 ≡ front ++ t ∷ []
+put_last front back t h = sorted_put_last front back t (fore (is_sorted bytes_cmp (front ++ t ∷ back)) _ h)
+
+-- and its key is not there yet.
+pub has_last : (front back : List Pair) (t : Pair) → T (are_tags (front ++ t ∷ back)) → has_tag front t.0 ≡ false
+has_last front back t h = sorted_has_last front back t (fore (is_sorted bytes_cmp (front ++ t ∷ back)) _ h)

@@ -1,0 +1,14 @@
+pub mod Shared
+pub mod RankLaws
+pub mod Content
+pub mod Tags
+pub mod Same
+pub mod Meta
+pub mod Coord
+pub mod Number
+pub mod KeyEq
+pub mod Rank
+pub mod Plain
+pub mod Place
+pub mod RisingKeys
+pub mod Extends

@@ -1,0 +1,266 @@
+//! What an object of the map has: its tags, and its place, its references or its members.
+ghost use Rattle.std.specs.Prelude.{◌≡◌, IfOk, IsTrue, ◌↔◌};
+ghost use Rattle.std.specs.List.{list_any, list_all};
+ghost use Rattle.osm_base.specs.Content.{kind_of_content, tags_of, refers, node, text_fits, tag_fits, role_fits, body_fits, fits};
+ghost use Rattle.osm_base.specs.Rank.{is_key};
+ghost use Rattle.osm_base.specs.Same.{same_content};
+
+use crate::coord::Coord;
+use crate::key::{Key, Kind, same_key};
+use crate::members::{Member, Members};
+use crate::refs::Refs;
+use crate::tags::Tags;
+use crate::text::Text;
+use std::alloc::AllocError;
+
+/// The most Unicode scalar values of a key, a value or a role (API 0.6).
+const MOST_CHARACTERS: usize = 255;
+
+/// The most nodes of a way (API 0.6).
+const MOST_NODES: usize = 2_000;
+
+/// The most members of a relation (API 0.6).
+const MOST_MEMBERS: usize = 32_000;
+
+/// What an object has beside its key and its metadata.
+#[derive(Debug, Drop)]
+pub enum Content {
+    /// A node: a place.
+    Node { tags: Tags, at: Coord },
+
+    /// A way: a line or an area along nodes.
+    Way { tags: Tags, refs: Refs },
+
+    /// A relation: objects, each in a role.
+    Relation { tags: Tags, members: Members },
+}
+
+impl Content {
+    /// The kind of the objects that have such a content.
+    pub fn kind(&self) -> Kind
+        ensures { result ≡ kind_of_content self.now }
+    {
+        match self {
+            Content::Node { .. } => Kind::Node,
+            Content::Way { .. } => Kind::Way,
+            Content::Relation { .. } => Kind::Relation,
+        }
+    }
+
+    /// The tags.
+    pub fn tags(&self) -> &Tags
+        ensures { result.now ≡ tags_of self.now }
+    {
+        match self {
+            Content::Node { tags, .. } => tags,
+            Content::Way { tags, .. } => tags,
+            Content::Relation { tags, .. } => tags,
+        }
+    }
+
+    /// An equal content. It makes one block for the tags, and shares all else.
+    ///
+    /// # Errors
+    /// No memory was left.
+    pub fn copy(&self) -> Result<Content, AllocError>
+        ensures { IfOk result (λ content. content ≡ self.now) }
+    {
+        match self {
+            Content::Node { tags, at } => Ok(Content::Node {
+                tags: tags.copy()?,
+                at: *at,
+            }),
+            Content::Way { tags, refs } => Ok(Content::Way {
+                tags: tags.copy()?,
+                refs: refs.copy()?,
+            }),
+            Content::Relation { tags, members } => Ok(Content::Relation {
+                tags: tags.copy()?,
+                members: members.copy()?,
+            }),
+        }
+    }
+}
+
+/// Whether kind, tags and body are equal. It walks both up to the first difference.
+pub fn same(a: &Content, b: &Content) -> bool
+    ensures value { result ≡ same_content a.now b.now }
+    ensures decides { IsTrue result ↔ (a.now ≡ b.now) }
+{
+    match (a, b) {
+        (
+            Content::Node { tags, at },
+            Content::Node {
+                tags: others,
+                at: there,
+            },
+        ) => { tags.same(others) && at == there }
+        (
+            Content::Way { tags, refs },
+            Content::Way {
+                tags: others,
+                refs: theirs,
+            },
+        ) => { tags.same(others) && refs.same(theirs) }
+        (
+            Content::Relation { tags, members },
+            Content::Relation {
+                tags: others,
+                members: theirs,
+            },
+        ) => { tags.same(others) && members.same(theirs) }
+        _ => false,
+    }
+}
+
+/// Whether the key is a reference of the content. It walks the references up to the first match.
+#[tactic(auto, using(crate::proofs::AnyMap::list_any_map))]
+pub fn refers(content: &Content, key: Key) -> bool
+    ensures { result ≡ refers content.now key }
+{
+    match content {
+        Content::Node { .. } => false,
+        Content::Way { refs, .. } => names_node(refs.as_slice(), key),
+        Content::Relation { members, .. } => names_member(members.as_slice(), key),
+    }
+}
+
+fn names_node(ids: &[i64], key: Key) -> bool
+    ensures { result ≡ list_any (λ id. is_key key (node id)) ids.now }
+{
+    ids.iter().any(|id| {
+        let reference = Key {
+            kind: Kind::Node,
+            id: *id,
+        };
+        same_key(key, reference)
+    })
+}
+
+fn names_member(members: &[Member], key: Key) -> bool
+    ensures { result ≡ list_any (λ member. is_key key member.key) members.now }
+{
+    members.iter().any(|member| same_key(key, member.key))
+}
+
+/// Whether the API takes the content (API 0.6): each key, value and role has at most 255 Unicode
+/// scalar values, a way has 1 to 2,000 references, a relation at most 32,000 members.
+///
+/// It walks all texts of the content.
+pub fn fits(content: &Content) -> bool
+    ensures { result ≡ fits content.now }
+{
+    tags_fit(content.tags().as_slice()) && body_fits(content)
+}
+
+fn body_fits(content: &Content) -> bool
+    ensures { result ≡ body_fits content.now }
+{
+    match content {
+        Content::Node { .. } => true,
+        Content::Way { refs, .. } => {
+            let nodes = refs.as_slice().len();
+            1 <= nodes && nodes <= MOST_NODES
+        }
+        Content::Relation { members, .. } => {
+            let members = members.as_slice();
+            members.len() <= MOST_MEMBERS && roles_fit(members)
+        }
+    }
+}
+
+fn tags_fit(tags: &[(Text, Text)]) -> bool
+    ensures { result ≡ list_all tag_fits tags.now }
+{
+    tags.iter()
+        .all(|tag| text_fits(&tag.0) && text_fits(&tag.1))
+}
+
+fn roles_fit(members: &[Member]) -> bool
+    ensures { result ≡ list_all role_fits members.now }
+{
+    members.iter().all(|member| text_fits(&member.role))
+}
+
+fn text_fits(text: &Text) -> bool
+    ensures { result ≡ text_fits text.now }
+{
+    text.as_str().chars().count() <= MOST_CHARACTERS
+}
+
+#[cfg(test)]
+mod tests {
+    use super::*;
+    use std::alloc::Global;
+    use std::test::Fail;
+
+    // A text of this many scalar values, each of two bytes.
+    fn accents(alloc: Global, count: usize) -> Result<Text, Fail> {
+        let mut bytes = Vec::new(alloc);
+        for _ in 0..count {
+            bytes.extend_from_slice("é".as_bytes())?;
+        }
+        Ok(Text::from_bytes(alloc, &bytes)?)
+    }
+
+    fn way(alloc: Global, nodes: usize) -> Result<Content, Fail> {
+        let mut refs = Refs::new(alloc);
+        for _ in 0..nodes {
+            refs.push(1)?;
+        }
+        Ok(Content::Way {
+            tags: Tags::new(alloc),
+            refs,
+        })
+    }
+
+    fn relation(alloc: Global, count: usize, role: &Text) -> Result<Content, Fail> {
+        let mut members = Members::new(alloc);
+        for _ in 0..count {
+            let key = Key {
+                kind: Kind::Node,
+                id: 1,
+            };
+            members.push(Member {
+                key,
+                role: role.copy()?,
+            })?;
+        }
+        Ok(Content::Relation {
+            tags: Tags::new(alloc),
+            members,
+        })
+    }
+
+    #[test]
+    fn fits_to_its_limits(rt: HostRuntime) -> Result<(), Fail> {
+        for (nodes, want) in [(0, false), (1, true), (2_000, true), (2_001, false)] {
+            assert_eq!(rt; fits(&way(rt.alloc(), nodes)?), want, "{nodes} nodes");
+        }
+        let role = accents(rt.alloc(), 255)?;
+        for (count, want) in [(0, true), (32_000, true), (32_001, false)] {
+            assert_eq!(rt;
+                fits(&relation(rt.alloc(), count, &role)?),
+                want,
+                "{count} members"
+            );
+        }
+        let long = accents(rt.alloc(), 256)?;
+        assert!(rt; !fits(&relation(rt.alloc(), 1, &long)?));
+        Ok(())
+    }
+
+    #[test]
+    fn a_copy_is_the_same(rt: HostRuntime) -> Result<(), Fail> {
+        let one = way(rt.alloc(), 1)?;
+        let copy = one.copy()?;
+        assert!(rt; same(&one, &copy) && one.kind() == Kind::Way && one.tags().is_empty());
+        assert!(rt; !same(&one, &way(rt.alloc(), 2)?));
+        let node = Key {
+            kind: Kind::Node,
+            id: 1,
+        };
+        assert!(rt; refers(&one, node));
+        Ok(())
+    }
+}

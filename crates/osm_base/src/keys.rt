@@ -1,0 +1,92 @@
+//! Lists of keys.
+ghost use Rattle.std.specs.Prelude.{◌≡◌, ◌++◌, ◌∷◌, [], length, OnOk, OnErr, IfOk};
+
+use crate::key::Key;
+use std::alloc::{AllocError, Global};
+use std::marker::Model;
+
+/// A list of keys.
+#[derive(Debug, Drop)]
+pub struct Keys {
+    items: Vec<Key>,
+}
+
+impl Model for Keys {
+    ghost use Rattle.std.specs.Prelude.{List};
+    ghost use Rattle.osm_base.specs.declared.key.Key.{Key};
+
+    ghost Value = { List Key };
+
+    ghost view = { λ k. k.items.items };
+}
+
+impl Keys {
+    /// The list without keys. It takes no memory.
+    pub fn new(alloc: Global) -> Self
+        ensures { result ≡ [] }
+    {
+        Keys {
+            items: Vec::new(alloc),
+        }
+    }
+
+    /// How many keys there are.
+    pub fn len(&self) -> usize
+        ensures { result ≡ length self.now }
+    {
+        self.items.len()
+    }
+
+    /// The keys, in order.
+    pub fn as_slice(&self) -> &[Key]
+        ensures { result.now ≡ self.now }
+    {
+        self.items.as_slice()
+    }
+
+    /// Adds a key at the end.
+    ///
+    /// # Errors
+    /// No memory was left, and nothing has changed.
+    pub fn push(&mut self, key: Key) -> Result<(), AllocError>
+        ensures ok { OnOk result (self.new ≡ self.old ++ key ∷ []) }
+        ensures err { OnErr result (self.new ≡ self.old) }
+    {
+        self.items.push(key)?;
+        Ok(())
+    }
+
+    /// An equal list, in one block of its own.
+    ///
+    /// # Errors
+    /// No memory was left.
+    pub fn copy(&self) -> Result<Keys, AllocError>
+        ensures { IfOk result (λ keys. keys ≡ self.now) }
+    {
+        Ok(Keys {
+            items: Vec::from_slice(*self.items.allocator(), &self.items)?,
+        })
+    }
+}
+
+#[cfg(test)]
+mod tests {
+    use super::*;
+    use crate::key::Kind;
+    use std::test::Fail;
+
+    #[test]
+    fn keeps_what_is_pushed(rt: HostRuntime) -> Result<(), Fail> {
+        let key = Key {
+            kind: Kind::Relation,
+            id: -3,
+        };
+        let mut keys = Keys::new(rt.alloc());
+        keys.push(key)?;
+        let first = keys.copy()?;
+        keys.push(key)?;
+        assert_eq!(rt; keys.len(), 2);
+        assert_eq!(rt; first.as_slice(), [key].as_slice());
+        Ok(())
+    }
+}

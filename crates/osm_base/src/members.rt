@@ -1,0 +1,216 @@
+//! The members of a relation.
+ghost use Rattle.std.specs.Prelude.{◌≡◌, ◌++◌, ◌∷◌, [], OnOk, OnErr, IfOk, IsTrue, ◌↔◌};
+ghost use Rattle.osm_base.specs.Same.{same_member, same_members};
+ghost use Rattle.osm_base.specs.Shared.{items_of};
+
+use crate::key::Key;
+use crate::text::Text;
+use std::alloc::{AllocError, Global};
+use std::marker::Model;
+use std::rc::Rc;
+
+/// One member of a relation.
+#[derive(Debug, Drop)]
+pub struct Member {
+    /// The object that is a member.
+    pub key: Key,
+
+    /// The part that it plays, which may be empty.
+    pub role: Text,
+}
+
+/// The members of a relation, in order.
+///
+/// Copies share one list until one of them is changed. An empty list has no block.
+#[derive(Debug, Drop)]
+pub struct Members {
+    alloc: Global,
+    shared: Option<Rc<Vec<Member>>>,
+}
+
+impl Model for Members {
+    ghost use Rattle.std.specs.Prelude.{List};
+    ghost use Rattle.osm_base.specs.declared.members.Member.{Member};
+    ghost use Rattle.osm_base.specs.Shared.{items_of};
+
+    ghost Value = { List Member };
+
+    ghost view = { λ m. items_of m.shared };
+}
+
+impl Member {
+    /// An equal member. It shares the role, so no block is made.
+    ///
+    /// # Errors
+    /// The count of those who share the role is full.
+    pub fn copy(&self) -> Result<Member, AllocError>
+        ensures { IfOk result (λ member. member ≡ self.now) }
+    {
+        Ok(Member {
+            key: self.key,
+            role: self.role.copy()?,
+        })
+    }
+
+    /// Whether object and role are equal.
+    pub fn same(&self, other: &Member) -> bool
+        ensures value { result ≡ same_member self.now other.now }
+        ensures decides { IsTrue result ↔ (self.now ≡ other.now) }
+    {
+        self.key == other.key && self.role.same(&other.role)
+    }
+}
+
+impl Members {
+    /// The list without members. It takes no memory.
+    pub fn new(alloc: Global) -> Self
+        ensures { result ≡ [] }
+    {
+        Members {
+            alloc,
+            shared: None,
+        }
+    }
+
+    /// These members. The vector is kept as it is, so nothing is copied.
+    ///
+    /// # Errors
+    /// No memory was left.
+    pub fn from_vec(items: Vec<Member>) -> Result<Self, AllocError>
+        ensures { IfOk result (λ members. members ≡ items.items) }
+    {
+        let alloc = *items.allocator();
+        Ok(Members {
+            alloc,
+            shared: Some(Rc::new(alloc, items)?),
+        })
+    }
+
+    /// Adds a member at the end. A list that others share is copied first.
+    ///
+    /// # Errors
+    /// No memory was left, and nothing has changed.
+    pub fn push(&mut self, member: Member) -> Result<(), AllocError>
+        ensures ok { OnOk result (self.new ≡ self.old ++ member ∷ []) }
+        ensures err { OnErr result (self.new ≡ self.old) }
+    {
+        push_shared(self.alloc, &mut self.shared, member)
+    }
+
+    /// The members, in order.
+    pub fn as_slice(&self) -> &[Member]
+        ensures { result.now ≡ self.now }
+    {
+        members_of(&self.shared)
+    }
+
+    /// An equal list. It shares the members, so no block is made.
+    ///
+    /// # Errors
+    /// The count of those who share the list is full.
+    pub fn copy(&self) -> Result<Members, AllocError>
+        ensures { IfOk result (λ members. members ≡ self.now) }
+    {
+        Ok(Members {
+            alloc: self.alloc,
+            shared: self.shared.clone()?,
+        })
+    }
+
+    /// Whether the lists are equal. It walks them up to the first difference.
+    pub fn same(&self, other: &Members) -> bool
+        ensures value { result ≡ same_members self.now other.now }
+        ensures decides { IsTrue result ↔ (self.now ≡ other.now) }
+    {
+        same_items(members_of(&self.shared), members_of(&other.shared))
+    }
+}
+
+fn members_of(shared: &Option<Rc<Vec<Member>>>) -> &[Member]
+    ensures { result.now ≡ items_of shared.now }
+{
+    match shared {
+        Some(items) => items.as_slice(),
+        None => &[],
+    }
+}
+
+// Writes in place where nobody else has the list, and else to a copy.
+fn push_shared(
+    alloc: Global,
+    shared: &mut Option<Rc<Vec<Member>>>,
+    member: Member,
+) -> Result<(), AllocError>
+    ensures ok { OnOk result (items_of shared.new ≡ items_of shared.old ++ member ∷ []) }
+    ensures err { OnErr result (items_of shared.new ≡ items_of shared.old) }
+{
+    if let Some(rc) = shared {
+        if let Some(items) = Rc::get_mut(rc) {
+            items.push(member)?;
+            return Ok(());
+        }
+    }
+    let mut items = copies(alloc, members_of(shared))?;
+    items.push(member)?;
+    *shared = Some(Rc::new(alloc, items)?);
+    Ok(())
+}
+
+fn copies(alloc: Global, items: &[Member]) -> Result<Vec<Member>, AllocError>
+    ensures { IfOk result (λ copies. copies.items ≡ items.now) }
+{
+    let mut copies = Vec::with_capacity(alloc, items.len())?;
+    for item in items {
+        copies.push(item.copy()?)?;
+    }
+    Ok(copies)
+}
+
+fn same_items(a: &[Member], b: &[Member]) -> bool
+    ensures { IsTrue result ↔ (a.now ≡ b.now) }
+{
+    if a.len() != b.len() {
+        return false;
+    }
+    for i in 0..a.len() {
+        if !a[i].same(&b[i]) {
+            return false;
+        }
+    }
+    true
+}
+
+#[cfg(test)]
+mod tests {
+    use super::*;
+    use crate::key::Kind;
+    use std::test::Fail;
+
+    fn member(alloc: Global, id: i64, role: &str) -> Result<Member, Fail> {
+        let key = Key {
+            kind: Kind::Way,
+            id,
+        };
+        let role = Text::from_bytes(alloc, role.as_bytes())?;
+        Ok(Member { key, role })
+    }
+
+    #[test]
+    fn a_change_leaves_the_copy(rt: HostRuntime) -> Result<(), Fail> {
+        let mut members = Members::new(rt.alloc());
+        members.push(member(rt.alloc(), 1, "outer")?)?;
+        let first = members.copy()?;
+        members.push(member(rt.alloc(), -2, "inner")?)?;
+        assert_eq!(rt; first.as_slice().len(), 1);
+        assert_eq!(rt; members.as_slice().len(), 2);
+        let mut items = Vec::new(rt.alloc());
+        for item in members.as_slice() {
+            items.push(item.copy()?)?;
+        }
+        let again = Members::from_vec(items)?;
+        assert!(rt; again.same(&members) && !again.same(&first));
+        let outer = member(rt.alloc(), 1, "outer")?;
+        assert!(rt; !outer.same(&member(rt.alloc(), 1, "")?));
+        Ok(())
+    }
+}

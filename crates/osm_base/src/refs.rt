@@ -1,0 +1,136 @@
+//! The nodes of a way.
+ghost use Rattle.std.specs.Prelude.{◌≡◌, ◌++◌, ◌∷◌, [], OnOk, OnErr, IfOk, IsTrue, ◌↔◌};
+ghost use Rattle.osm_base.specs.Same.{same_refs};
+ghost use Rattle.osm_base.specs.Shared.{items_of};
+
+use std::alloc::{AllocError, Global};
+use std::marker::Model;
+use std::rc::Rc;
+
+/// The ids of a way's nodes, in order.
+///
+/// Copies share one list until one of them is changed. An empty list has no block.
+#[derive(Debug, Drop)]
+pub struct Refs {
+    alloc: Global,
+    shared: Option<Rc<Vec<i64>>>,
+}
+
+impl Model for Refs {
+    ghost use Rattle.std.specs.Prelude.{List, ℤ};
+    ghost use Rattle.osm_base.specs.Shared.{items_of};
+
+    ghost Value = { List ℤ };
+
+    ghost view = { λ r. items_of r.shared };
+}
+
+impl Refs {
+    /// The list without nodes. It takes no memory.
+    pub fn new(alloc: Global) -> Self
+        ensures { result ≡ [] }
+    {
+        Refs {
+            alloc,
+            shared: None,
+        }
+    }
+
+    /// The nodes with these ids. The vector is kept as it is, so nothing is copied.
+    ///
+    /// # Errors
+    /// No memory was left.
+    pub fn from_vec(ids: Vec<i64>) -> Result<Self, AllocError>
+        ensures { IfOk result (λ refs. refs ≡ ids.items) }
+    {
+        let alloc = *ids.allocator();
+        Ok(Refs {
+            alloc,
+            shared: Some(Rc::new(alloc, ids)?),
+        })
+    }
+
+    /// Adds a node at the end. A list that others share is copied first.
+    ///
+    /// # Errors
+    /// No memory was left, and nothing has changed.
+    pub fn push(&mut self, id: i64) -> Result<(), AllocError>
+        ensures ok { OnOk result (self.new ≡ self.old ++ id ∷ []) }
+        ensures err { OnErr result (self.new ≡ self.old) }
+    {
+        push_shared(self.alloc, &mut self.shared, id)
+    }
+
+    /// The ids, in order.
+    pub fn as_slice(&self) -> &[i64]
+        ensures { result.now ≡ self.now }
+    {
+        ids_of(&self.shared)
+    }
+
+    /// An equal list. It shares the ids, so no block is made.
+    ///
+    /// # Errors
+    /// The count of those who share the list is full.
+    pub fn copy(&self) -> Result<Refs, AllocError>
+        ensures { IfOk result (λ refs. refs ≡ self.now) }
+    {
+        Ok(Refs {
+            alloc: self.alloc,
+            shared: self.shared.clone()?,
+        })
+    }
+
+    /// Whether the lists are equal. It walks them up to the first difference.
+    pub fn same(&self, other: &Refs) -> bool
+        ensures value { result ≡ same_refs self.now other.now }
+        ensures decides { IsTrue result ↔ (self.now ≡ other.now) }
+    {
+        ids_of(&self.shared) == ids_of(&other.shared)
+    }
+}
+
+fn ids_of(shared: &Option<Rc<Vec<i64>>>) -> &[i64]
+    ensures { result.now ≡ items_of shared.now }
+{
+    match shared {
+        Some(ids) => ids.as_slice(),
+        None => &[],
+    }
+}
+
+// Writes in place where nobody else has the list, and else to a copy.
+fn push_shared(alloc: Global, shared: &mut Option<Rc<Vec<i64>>>, id: i64) -> Result<(), AllocError>
+    ensures ok { OnOk result (items_of shared.new ≡ items_of shared.old ++ id ∷ []) }
+    ensures err { OnErr result (items_of shared.new ≡ items_of shared.old) }
+{
+    if let Some(rc) = shared {
+        if let Some(ids) = Rc::get_mut(rc) {
+            ids.push(id)?;
+            return Ok(());
+        }
+    }
+    let mut ids = Vec::from_slice(alloc, ids_of(shared))?;
+    ids.push(id)?;
+    *shared = Some(Rc::new(alloc, ids)?);
+    Ok(())
+}
+
+#[cfg(test)]
+mod tests {
+    use super::*;
+    use std::test::Fail;
+
+    #[test]
+    fn a_change_leaves_the_copy(rt: HostRuntime) -> Result<(), Fail> {
+        let mut refs = Refs::new(rt.alloc());
+        refs.push(7)?;
+        let first = refs.copy()?;
+        refs.push(-1)?;
+        assert_eq!(rt; first.as_slice(), [7].as_slice());
+        assert_eq!(rt; refs.as_slice(), [7, -1].as_slice());
+        let again = Refs::from_vec([7, -1].to_vec(rt.alloc())?)?;
+        assert!(rt; again.same(&refs) && !again.same(&first));
+        Ok(())
+    }
+}

@@ -1,0 +1,285 @@
+//! Tags: pairs of a key and a value, in the order of the keys' bytes.
+ghost use Rattle.std.specs.Prelude.{◌≡◌, ◌<◌, ◌==◌, ◌&&◌, ◌↔◌, [], length, Some, IfOk, OnOk, OnErr, IsTrue, T, nat_lt, slice_index_or};
+ghost use Rattle.std.specs.List.{slice_get};
+ghost use Rattle.std.specs.Ordering.{is_lt, eq_by_cmp};
+ghost use Rattle.std.specs.Option.{option_copied, option_map};
+ghost use Rattle.osm_base.specs.Same.{same_tags};
+ghost use Rattle.osm_base.specs.Tags.{bytes_cmp, are_tags, value_of, with_tag, without_tag, has_tag, place_of};
+
+use crate::text::Text;
+use std::alloc::{AllocError, Global};
+use std::marker::Model;
+
+/// The tags of an object: pairs of a key and a value, in the order of the keys' bytes.
+///
+/// No key is empty, and none stands twice. The texts are shared with those of other tags, the list
+/// is not. Tags without a pair have no block. Each call finds its place by a binary search.
+#[derive(Debug, Drop)]
+pub struct Tags {
+    items: Vec<(Text, Text)>,
+}
+
+impl Model for Tags {
+    ghost use Rattle.std.specs.Prelude.{List, T};
+    ghost use Rattle.osm_base.specs.Tags.{Pair, are_tags};
+
+    ghost Value = { List Pair };
+
+    ghost view = { λ t. t.items.items };
+
+    ghost invariant = { λ t. T (are_tags t.items.items) };
+}
+
+impl Tags {
+    /// No tags. It takes no memory.
+    pub fn new(alloc: Global) -> Self
+        ensures { result ≡ [] }
+    {
+        Tags {
+            items: Vec::new(alloc),
+        }
+    }
+
+    /// How many tags there are.
+    pub fn len(&self) -> usize
+        ensures len { result ≡ length self.now }
+        ensures tags { T (are_tags self.now) }
+    {
+        self.items.len()
+    }
+
+    /// Whether there are no tags.
+    pub fn is_empty(&self) -> bool
+        ensures { result ≡ (length self.now == 0) }
+    {
+        self.items.is_empty()
+    }
+
+    /// The key of the tag at a place.
+    pub fn key_at(&self, i: usize) -> &[u8]
+        requires { i < length self.now }
+        ensures { option_map (λ t. t.0) (slice_get self.now i) ≡ Some result.now }
+    {
+        self.items[i].0.as_bytes()
+    }
+
+    /// The value of the tag at a place.
+    pub fn value_at(&self, i: usize) -> &[u8]
+        requires { i < length self.now }
+        ensures { option_map (λ t. t.1) (slice_get self.now i) ≡ Some result.now }
+    {
+        self.items[i].1.as_bytes()
+    }
+
+    /// The tags, in order.
+    pub fn as_slice(&self) -> &[(Text, Text)]
+        ensures value { result.now ≡ self.now }
+        ensures tags { T (are_tags self.now) }
+    {
+        self.items.as_slice()
+    }
+
+    /// The value of a key, None exactly where the key is not there.
+    pub fn get(&self, key: &[u8]) -> Option<&[u8]>
+        ensures { option_copied result ≡ value_of self.now key.now }
+    {
+        value_in(&self.items, key)
+    }
+
+    /// Whether the key is there.
+    pub fn has(&self, key: &[u8]) -> bool
+        ensures { result ≡ has_tag self.now key.now }
+    {
+        is_in(&self.items, key)
+    }
+
+    /// Gives the key this value, in place of the one that it had, if any. The key must not be empty.
+    ///
+    /// # Errors
+    /// No memory was left, and nothing has changed.
+    pub fn put(&mut self, key: Text, value: Text) -> Result<(), AllocError>
+        requires { 0 < length key }
+        ensures ok { OnOk result (self.new ≡ with_tag self.old key value) }
+        ensures err { OnErr result (self.new ≡ self.old) }
+    {
+        put_item(&mut self.items, key, value)?;
+        Ok(())
+    }
+
+    /// Removes the key with its value, and tells whether it was there.
+    pub fn take(&mut self, key: &[u8]) -> bool
+        ensures value { result ≡ has_tag self.old key.now }
+        ensures tags { self.new ≡ without_tag self.old key.now }
+    {
+        take_item(&mut self.items, key)
+    }
+
+    /// Equal tags. It makes one block for the list, and shares the texts.
+    ///
+    /// # Errors
+    /// No memory was left.
+    pub fn copy(&self) -> Result<Tags, AllocError>
+        ensures { IfOk result (λ tags. tags ≡ self.now) }
+    {
+        Ok(Tags {
+            items: copies(*self.items.allocator(), &self.items)?,
+        })
+    }
+
+    /// Whether the tags are equal. It walks them up to the first difference.
+    pub fn same(&self, other: &Tags) -> bool
+        ensures value { result ≡ same_tags self.now other.now }
+        ensures decides { IsTrue result ↔ (self.now ≡ other.now) }
+    {
+        same_items(&self.items, &other.items)
+    }
+}
+
+fn value_in<'a>(items: &'a [(Text, Text)], key: &[u8]) -> Option<&'a [u8]>
+    requires { T (are_tags items.now) }
+    ensures { option_copied result ≡ value_of items.now key.now }
+{
+    let at = place(items, key);
+    if stands_at(items, at, key) {
+        Some(items[at].1.as_bytes())
+    } else {
+        None
+    }
+}
+
+fn is_in(items: &[(Text, Text)], key: &[u8]) -> bool
+    requires { T (are_tags items.now) }
+    ensures { result ≡ has_tag items.now key.now }
+{
+    let at = place(items, key);
+    stands_at(items, at, key)
+}
+
+fn put_item(items: &mut Vec<(Text, Text)>, key: Text, value: Text) -> Result<(), AllocError>
+    requires { T (are_tags items.old.items) }
+    ensures ok { OnOk result (items.new.items ≡ with_tag items.old.items key value) }
+    ensures err { OnErr result (items.new.items ≡ items.old.items) }
+{
+    let at = place(items, key.as_bytes());
+    if stands_at(items, at, key.as_bytes()) {
+        items[at] = (key, value);
+    } else {
+        items.insert(at, (key, value))?;
+    }
+    Ok(())
+}
+
+fn take_item(items: &mut Vec<(Text, Text)>, key: &[u8]) -> bool
+    requires { T (are_tags items.old.items) }
+    ensures value { result ≡ has_tag items.old.items key.now }
+    ensures tags { items.new.items ≡ without_tag items.old.items key.now }
+{
+    let at = place(items, key);
+    if stands_at(items, at, key) {
+        items.remove(at);
+        return true;
+    }
+    false
+}
+
+// How many tags have lesser keys, so where the key stands, or would stand.
+fn place(items: &[(Text, Text)], key: &[u8]) -> usize
+    requires { T (are_tags items.now) }
+    ensures { result ≡ place_of key.now items.now }
+{
+    items.partition_point(|tag| is_before(tag, key))
+}
+
+fn is_before(tag: &(Text, Text), key: &[u8]) -> bool
+    ensures { result ≡ is_lt (bytes_cmp tag.now.0 key.now) }
+{
+    tag.0.as_bytes().cmp(&key).is_lt()
+}
+
+fn stands_at(items: &[(Text, Text)], at: usize, key: &[u8]) -> bool
+    ensures { result
+        ≡ (nat_lt at (length items.now) && eq_by_cmp bytes_cmp key.now (slice_index_or items.now at ([], [])).0) }
+{
+    at < items.len() && is_at(&items[at], key)
+}
+
+fn is_at(tag: &(Text, Text), key: &[u8]) -> bool
+    ensures { result ≡ eq_by_cmp bytes_cmp key.now tag.now.0 }
+{
+    key.cmp(&tag.0.as_bytes()).is_eq()
+}
+
+fn copies(alloc: Global, items: &[(Text, Text)]) -> Result<Vec<(Text, Text)>, AllocError>
+    ensures { IfOk result (λ copies. copies.items ≡ items.now) }
+{
+    let mut copies = Vec::with_capacity(alloc, items.len())?;
+    for item in items {
+        copies.push((item.0.copy()?, item.1.copy()?))?;
+    }
+    Ok(copies)
+}
+
+fn same_items(a: &[(Text, Text)], b: &[(Text, Text)]) -> bool
+    ensures { IsTrue result ↔ (a.now ≡ b.now) }
+{
+    if a.len() != b.len() {
+        return false;
+    }
+    for i in 0..a.len() {
+        if !(a[i].0.same(&b[i].0) && a[i].1.same(&b[i].1)) {
+            return false;
+        }
+    }
+    true
+}
+
+#[cfg(test)]
+mod tests {
+    use super::*;
+    use std::test::Fail;
+
+    fn tag(tags: &mut Tags, alloc: Global, key: &str, value: &str) -> Result<(), Fail> {
+        let key = Text::from_bytes(alloc, key.as_bytes())?;
+        let value = Text::from_bytes(alloc, value.as_bytes())?;
+        if !key.as_bytes().is_empty() {
+            tags.put(key, value)?;
+        }
+        Ok(())
+    }
+
+    #[test]
+    fn puts_gets_and_takes(rt: HostRuntime) -> Result<(), Fail> {
+        let mut tags = Tags::new(rt.alloc());
+        assert!(rt; tags.is_empty());
+        let given = [
+            ("name", "Rue"),
+            ("highway", "path"),
+            ("Name", "A"),
+            ("name", "Voie"),
+            ("surface", ""),
+        ];
+        for (key, value) in given {
+            tag(&mut tags, rt.alloc(), key, value)?;
+        }
+        let kept = [
+            ("Name", "A"),
+            ("highway", "path"),
+            ("name", "Voie"),
+            ("surface", ""),
+        ];
+        assert_eq!(rt; tags.len(), 4);
+        for i in 0..4 {
+            assert_eq!(rt; tags.key_at(i), kept[i].0.as_bytes());
+            assert_eq!(rt; tags.value_at(i), kept[i].1.as_bytes());
+            assert_eq!(rt; tags.get(kept[i].0.as_bytes()), Some(kept[i].1.as_bytes()));
+        }
+        assert_eq!(rt; tags.get(b"nam"), None);
+        let before = tags.copy()?;
+        assert!(rt; before.same(&tags));
+        assert!(rt; tags.take(b"highway"));
+        assert!(rt; !tags.take(b"highway"));
+        assert!(rt; tags.has(b"name") && !tags.has(b"highway") && before.has(b"highway"));
+        assert!(rt; !before.same(&tags));
+        Ok(())
+    }
+}
