@@ -1,0 +1,7 @@
+mod Grammar
+mod Converse
+mod Bytes
+pub mod Read
+pub mod WrittenLaw
+pub mod TimeLaw
+mod Examples

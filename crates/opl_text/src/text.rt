@@ -1,0 +1,166 @@
+//! Texts as fields have them.
+
+ghost use Rattle.std.specs.Prelude.{◌≡◌, ◌++◌, ℕ, List, OnOk, OnErr, Some, true};
+ghost use Rattle.std.specs.List.{list_all};
+ghost use Rattle.opl_text.specs.Escape.{is_raw};
+ghost use Rattle.opl_text.specs.Written.{stays};
+ghost use Rattle.opl_text.specs.Extends.{Extends};
+ghost use Rattle.opl_text.specs.Plain.{is_plain};
+ghost use Rattle.opl_text.specs.Text.{unescaped, escaped, GivesText, SpellsText, HasNoZero};
+
+use crate::escape::{is_raw, unescape};
+use crate::written::{stays, write_characters};
+use osm_base::{Pool, Text, TextFault};
+use std::alloc::AllocError;
+
+/// The text that the bytes of a field spell (OPL, exact grammar this project's own).
+///
+/// The bytes are UTF-8. A character stands for itself, unless it is one up to U+0020, `%`, `,` or
+/// `=`; `%`, 1 to 6 hexadecimal digits of either case and `%` stand for the character with that
+/// code, other than U+0000. One pass over the bytes tests whether the field is its own text, which
+/// is then made by the pool with no copy before it. Else a second pass reads the characters into a
+/// string of the field's length, from which the pool makes the text.
+///
+/// # Errors
+/// `BadText` exactly where the bytes spell no text, `Memory` where no memory was left.
+pub fn read_escaped(pool: &mut Pool, field: &[u8]) -> Result<Text, TextFault>
+    ensures { GivesText result (unescaped field.now) }
+{
+    if all_raw(field) {
+        return pool.text(field);
+    }
+    let Ok(characters) = str::from_utf8(field) else {
+        return Err(TextFault::BadText);
+    };
+    match unescape(pool.allocator(), characters)? {
+        Some(text) => pool.text(text.as_bytes()),
+        None => Err(TextFault::BadText),
+    }
+}
+
+// Whether the field is its own text, if it is UTF-8: the bytes of a longer character are all raw.
+fn all_raw(field: &[u8]) -> bool
+    ensures { result ≡ list_all is_raw field.now }
+{
+    field.iter().all(|byte| is_raw(u32::from(*byte)))
+}
+
+/// Appends the written form of a text (which characters are escaped is this project's own choice).
+///
+/// Escapes stand for the characters up to U+0020, from U+007F to U+00A0, U+00AD, `%`, `,`, `=`, `@`,
+/// and all from U+0600 on, with lower-case digits: two to U+00FF, else at least four and no more than
+/// needed. A text of ASCII without any of these is appended as it is; of another each character is
+/// appended in one pass.
+///
+/// # Errors
+/// No memory was left; what stood in `out` stands at its front then.
+#[tactic(auto, using(crate::proofs::WrittenLaw::text_again, crate::proofs::WrittenLaw::text_plain))]
+pub fn write_escaped(text: &Text, out: &mut Vec<u8>) -> Result<(), AllocError>
+    ensures written { OnOk result (out.new.items ≡ out.old.items ++ escaped text.now) }
+    ensures kept { OnErr result (Extends out.old.items out.new.items) }
+    // What is written spells the text, where it has no U+0000.
+    ensures law { HasNoZero text.now → unescaped (escaped text.now) ≡ Some text.now }
+    // No byte of it ends a field, an item, a key, a value or a member.
+    ensures plain { list_all is_plain (escaped text.now) ≡ true }
+{
+    if all_stay(text.as_bytes()) {
+        out.extend_from_slice(text.as_bytes())?;
+    } else {
+        write_characters(text.as_str(), out)?;
+    }
+    Ok(())
+}
+
+// Whether the text is its own written form.
+fn all_stay(text: &[u8]) -> bool
+    ensures { result ≡ list_all stays text.now }
+{
+    text.iter().all(|byte| stays(*byte))
+}
+
+/// The reading of texts is their grammar: what is read is spelled so, and what is spelled is read.
+///
+/// It does nothing; its contract is the law.
+pub fn read_as_spelled()
+    ensures read { (field text : List ℕ) → unescaped field ≡ Some text → SpellsText field text }
+    ensures spelled { (field text : List ℕ) → SpellsText field text → unescaped field ≡ Some text }
+    // No escape and no raw character is U+0000, so no text has it.
+    ensures no_zero { (field text : List ℕ) → unescaped field ≡ Some text → HasNoZero text }
+{}
+
+#[cfg(test)]
+mod tests {
+    use super::*;
+
+    #[test]
+    fn reads_texts(rt: HostRuntime) {
+        let mut pool = Pool::new(rt.alloc());
+        for (field, text) in [
+            ("", ""),
+            ("highway", "highway"),
+            ("user@home", "user@home"),
+            ("a%20%b", "a b"),
+            ("%25%%2c%%3D%%40%", "%,=@"),
+            ("%1%%7f%", "\u{1}\u{7f}"),
+            ("%00e4%%0000e4%%E4%", "äää"),
+            ("%d7ff%%e000%", "\u{d7ff}\u{e000}"),
+            ("%10fFfF%", "\u{10ffff}"),
+            ("Straße\u{a0}", "Straße\u{a0}"),
+        ] {
+            let read = read_escaped(&mut pool, field.as_bytes());
+            assert!(rt;
+                matches!(&read, Ok(found) if found.as_bytes() == text.as_bytes()),
+                "{field}"
+            );
+        }
+    }
+
+    #[test]
+    fn refuses_what_is_no_text(rt: HostRuntime) {
+        let mut pool = Pool::new(rt.alloc());
+        for field in [
+            &b"a b"[..],
+            &b"a,b"[..],
+            &b"a=b"[..],
+            &b"\0"[..],
+            &b"\x1f"[..],
+            &b"%%"[..],
+            &b"%0%"[..],
+            &b"%000000%"[..],
+            &b"%0000041%"[..],
+            &b"%d800%"[..],
+            &b"%dfff%"[..],
+            &b"%110000%"[..],
+            &b"%ffffff%"[..],
+            &b"%4g%"[..],
+            &b"%20"[..],
+            &b"%"[..],
+            &b"a%20%%"[..],
+            &b"\xff"[..],
+            &b"%20%\xc3"[..],
+            &b"\xed\xa0\x80"[..],
+        ] {
+            assert!(rt; matches!(read_escaped(&mut pool, field), Err(TextFault::BadText)));
+        }
+    }
+
+    #[test]
+    fn writes_texts(rt: HostRuntime) {
+        let mut out = Vec::new(rt.alloc());
+        for (text, field) in [
+            ("", ""),
+            ("highway", "highway"),
+            ("\u{1f} !~\u{7f}\u{9f}\u{a0}¡", "%1f%%20%!~%7f%%9f%%a0%¡"),
+            ("¬\u{ad}®", "¬%ad%®"),
+            ("%,=@", "%25%%2c%%3d%%40%"),
+            ("\u{5ff}\u{600}\u{fff}\u{1000}", "\u{5ff}%0600%%0fff%%1000%"),
+            ("\u{ffff}\u{10000}\u{fffff}", "%ffff%%10000%%fffff%"),
+            ("\u{100000}\u{10ffff}", "%100000%%10ffff%"),
+        ] {
+            let text = Text::from_bytes(rt.alloc(), text.as_bytes()).expect(&rt, "a text");
+            out.clear();
+            write_escaped(&text, &mut out).expect(&rt, "memory");
+            assert!(rt; out.as_slice() == field.as_bytes(), "{field}");
+        }
+    }
+}

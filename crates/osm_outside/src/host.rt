@@ -1,0 +1,220 @@
+// The shelf and the sink of a program. Real files and the real output tell no content, so these
+// few lines are what a reader has to believe; their faults are counted.
+ghost use Rattle.std.specs.Prelude.{◌≡◌, None, is_some, false, IsTrue, not};
+ghost use Rattle.std.specs.Io.KnownBytes.{Appends};
+ghost use Rattle.osm_outside.specs.Outside.{AppendsFront};
+
+use crate::outside::counted_fault;
+use crate::{Failed, Shelf, Sink};
+use std::fs::{self, File};
+use std::io::{ErrorKind, Read, Write};
+
+/// The files of the working folder, by name.
+///
+/// A name that doesn't exist is no file. One that can't be opened for another reason, as a name
+/// that isn't UTF-8, is a fault, and so is a folder at its first read. A call of the system that
+/// was interrupted is a fault too.
+#[derive(Drop)]
+pub struct HostShelf {
+    rt: HostRuntime,
+    file: Option<File>,
+    faults: u64,
+}
+
+impl HostShelf {
+    /// The files that this runtime opens.
+    pub fn new(rt: HostRuntime) -> HostShelf
+        ensures begun { ⟦<HostShelf as Shelf>⟧.begun result ≡ false }
+        ensures faults { ⟦<HostShelf as Shelf>⟧.faults result ≡ 0 }
+    {
+        HostShelf {
+            rt,
+            file: None,
+            faults: 0,
+        }
+    }
+}
+
+impl Shelf for HostShelf {
+    ghost told = { λ shelf. None };
+
+    ghost rest = { λ shelf. None };
+
+    ghost begun = { λ shelf. is_some shelf.file };
+
+    ghost faults = { λ shelf. shelf.faults };
+
+    fn begin(&mut self, name: &[u8]) -> Result<bool, Failed> {
+        self.file = None;
+        let Ok(name) = str::from_utf8(name) else {
+            return Err(counted_fault(&mut self.faults));
+        };
+        match fs::open(&self.rt, name) {
+            Ok(file) => {
+                self.file = Some(file);
+                Ok(true)
+            }
+            Err(error) if error.kind() == ErrorKind::NotFound => Ok(false),
+            Err(_) => Err(counted_fault(&mut self.faults)),
+        }
+    }
+
+    fn next(&mut self, into: &mut [u8]) -> Result<usize, Failed> {
+        let Some(file) = &mut self.file else {
+            unreachable!();
+        };
+        match file.read(into) {
+            Ok(count) => Ok(count),
+            Err(_) => Err(counted_fault(&mut self.faults)),
+        }
+    }
+}
+
+/// A sink over any writer, flushed after each piece.
+///
+/// A write that takes nothing of what is left of a piece is a fault, and so is one that was
+/// interrupted. The bytes taken are those that the writer holds, where it tells them; standard
+/// output tells none.
+#[derive(Drop)]
+pub struct HostSink<W> {
+    inner: W,
+    faults: u64,
+}
+
+impl<W: Write> HostSink<W> {
+    /// A sink that writes to this writer.
+    pub fn new(inner: W) -> HostSink<W>
+        ensures taken { ⟦<HostSink<W> as Sink>⟧.taken result ≡ W.contents inner }
+        ensures faults { ⟦<HostSink<W> as Sink>⟧.faults result ≡ 0 }
+    {
+        HostSink { inner, faults: 0 }
+    }
+}
+
+impl<W: Write> Sink for HostSink<W> {
+    ghost taken = { λ sink. W.contents sink.inner };
+
+    ghost faults = { λ sink. sink.faults };
+
+    fn put(&mut self, piece: &[u8]) -> Result<(), Failed> {
+        if write_whole(&mut self.inner, piece) {
+            return Ok(());
+        }
+        Err(counted_fault(&mut self.faults))
+    }
+}
+
+// Writes all of the piece and flushes, and tells whether that went well.
+fn write_whole<W: Write>(to: &mut W, piece: &[u8]) -> bool
+    ensures ok { IsTrue result → Appends (W.contents to.old) (W.contents to.new) piece.now }
+    ensures err { IsTrue (not result) → AppendsFront (W.contents to.old) (W.contents to.new) piece.now }
+{
+    let mut rest = piece;
+    while !rest.is_empty() {
+        match to.write(rest) {
+            Ok(0) | Err(_) => return false,
+            Ok(count) => rest = &rest[count..],
+        }
+    }
+    to.flush().is_ok()
+}
+
+#[cfg(test)]
+mod tests {
+    use super::*;
+    use std::io;
+    use std::test::Fail;
+
+    // What the next write of a fake writer does.
+    #[derive(Clone, Copy, Debug, PartialEq, Eq)]
+    enum Writing {
+        OneByte,
+        Nothing,
+        Failure,
+    }
+
+    // Counts the bytes that it took, and the flushes.
+    #[derive(Drop)]
+    struct FakeWriter {
+        first: Writing,
+        later: Writing,
+        count: u64,
+        flushed: u64,
+    }
+
+    impl Write for FakeWriter {
+        fn write(&mut self, bytes: &[u8]) -> io::Result<usize> {
+            let now = self.first;
+            self.first = self.later;
+            match now {
+                Writing::Nothing => Ok(0),
+                Writing::Failure => Err(io::Error::from(ErrorKind::Interrupted)),
+                Writing::OneByte => match bytes.first() {
+                    None => Ok(0),
+                    Some(_) => {
+                        self.count = self.count.saturating_add(1);
+                        Ok(1)
+                    }
+                },
+            }
+        }
+
+        fn flush(&mut self) -> io::Result<()> {
+            self.flushed = self.flushed.saturating_add(1);
+            Ok(())
+        }
+    }
+
+    #[test]
+    fn sink_writes_until_a_write_takes_nothing(rt: HostRuntime) -> Result<(), Fail> {
+        use Writing::{Failure, Nothing, OneByte};
+        for (first, later, piece, want, count, flushed) in [
+            (OneByte, OneByte, "abc", Ok(()), 3, 1),
+            (OneByte, Nothing, "abc", Err(Failed), 1, 0),
+            (OneByte, Failure, "abc", Err(Failed), 1, 0),
+            (Failure, OneByte, "abc", Err(Failed), 0, 0),
+            (Nothing, Nothing, "", Ok(()), 0, 1),
+        ] {
+            let writer = FakeWriter {
+                first,
+                later,
+                count: 0,
+                flushed: 0,
+            };
+            let mut sink = HostSink::new(writer);
+            assert_eq!(rt;
+                sink.put(piece.as_bytes()),
+                want,
+                "{first:?}, then {later:?}"
+            );
+            assert_eq!(rt; sink.inner.count, count, "{first:?}, then {later:?}");
+            assert_eq!(rt; sink.inner.flushed, flushed, "{first:?}, then {later:?}");
+            assert_eq!(rt;
+                sink.faults,
+                want.is_err() as u64,
+                "{first:?}, then {later:?}"
+            );
+        }
+        Ok(())
+    }
+
+    #[test]
+    fn shelf_has_faults_and_missing_files(rt: HostRuntime) -> Result<(), Fail> {
+        let mut shelf = HostShelf::new(rt.clone()?);
+        assert_eq!(rt; shelf.begin(b"no such file"), Ok(false));
+        assert_eq!(rt; shelf.begin(b""), Ok(false));
+        assert_eq!(rt; shelf.faults, 0);
+        assert_eq!(rt; shelf.begin(&[255]), Err(Failed), "not UTF-8");
+        assert_eq!(rt; shelf.faults, 1);
+        let mut buffer = [0u8; 4];
+        let folder = shelf.begin(b".");
+        let read = if folder == Ok(true) {
+            shelf.next(&mut buffer).is_ok()
+        } else {
+            folder.is_ok()
+        };
+        assert!(rt; !read, "a folder is no file");
+        assert_eq!(rt; shelf.faults, 2);
+        Ok(())
+    }
+}

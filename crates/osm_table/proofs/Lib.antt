@@ -1,0 +1,4 @@
+pub mod Each
+pub mod SameLaws
+pub mod ToldLaws
+mod Examples

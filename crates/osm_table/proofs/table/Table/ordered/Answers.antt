@@ -1,0 +1,15 @@
+use Rattle.std.proofs.Common.{ap, ◌∙◌, subst, List}
+use Rattle.std.specs.List.Sorted.{IsPermutation}
+use Rattle.osm_base.specs.declared.key.Key.{Key}
+use Rattle.osm_base.proofs.ByRank.{by_rank}
+use Rattle.osm_table.specs.Table.{keys_by_rank}
+use Rattle.osm_table.proofs.table.Table.ordered.Goals as goal
+
+pub returns : goal.returns
+returns c =
+    let listed = c.in_ok-keys.ensures.listed in
+    c.in_ok-listed.ensures
+    ∙ by_rank c.self.inside.entries.entries c.sort.new.self.items c.in_ok-sort.ensures.sorted
+    (subst (λ (ks : List Key). IsPermutation ks c.sort.new.self.items) listed c.in_ok-sort.ensures.permutation)
+    c.in_ok-keys.ensures.unique
+    ∙ ap keys_by_rank c.self.view_is

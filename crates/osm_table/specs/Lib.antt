@@ -1,0 +1,5 @@
+pub mod Same
+pub mod Table
+pub mod TableCode
+pub mod Told
+pub mod ToldCode

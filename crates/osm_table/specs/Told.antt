@@ -1,0 +1,46 @@
+-- What a download tells of the objects.
+use Rattle.std.specs.Prelude.{◌≡◌, ◌≤◌, ◌++◌, ℕ, if◌then◌else◌, is_some, List, [], ◌∷◌, Option, Some, None}
+use Rattle.std.specs.List.{AllByRecursion}
+use Rattle.std.specs.FinMap as fin
+use Rattle.osm_base.specs.Rank.{rank_cmp}
+use Rattle.osm_base.specs.Content.{refs_of, kind_of_content}
+use Rattle.osm_base.specs.declared.key.Key.{Key}
+use Rattle.osm_base.specs.declared.content.Content.{Content}
+use Rattle.osm_table.specs.Table.{IsPositive}
+use Rattle.osm_table.specs.declared.told.Told.{Told}
+use Rattle.osm_table.specs.declared.told.Told.TheVariants.{Nothing, Mentioned, Live, Gone}
+
+abbrev pub ToldEntries : Type 0
+ToldEntries = fin.FinMap rank_cmp Told
+
+-- What is told of each object, and the objects in the order in which they were first told of.
+pub record ToldValue : Type 0 where
+  pub told : ToldEntries
+  pub order : List Key
+
+-- what is told of a key, none where it isn't there
+abbrev pub told_at : ToldValue → Key → Option Told
+told_at m key = fin.get m.told key
+
+-- the map with one key set: a new key comes last, and another keeps its place
+abbrev pub with_told : ToldValue → Key → Told → ToldValue
+with_told m key told = record { told = fin.insert m.told key told; order = if is_some (told_at m key) then m.order else (m.order ++ key ∷ []) }
+
+-- a version that a server gave
+abbrev pub IsVersion : ℕ → Type 0
+IsVersion version = (1 ≤ version) × (version ≤ 2000000000)
+
+-- a content of the key's kind whose references are positive ids
+abbrev pub IsServerContent : Key → Content → Type 0
+IsServerContent key content = (kind_of_content content ≡ key.kind) × AllByRecursion (λ r. IsPositive r.id) (refs_of content)
+
+-- What may be told of a key: something, of a positive id, with a version and a content of a server.
+abbrev pub IsTold : Key → Told → Type 0
+IsTold key Nothing = ⊥
+IsTold key Mentioned = IsPositive key.id
+IsTold key (Live version content meta) = IsPositive key.id × IsVersion version × IsServerContent key content
+IsTold key (Gone version meta) = IsPositive key.id × IsVersion version
+
+-- All that is told may be told of its key.
+abbrev pub IsToldMap : ToldEntries → Type 0
+IsToldMap told = (key : Key) (t : Told) → fin.get told key ≡ Some t → IsTold key t

@@ -1,0 +1,172 @@
+//! The entries of all objects.
+ghost use Rattle.std.specs.Prelude.{◌≡◌, OnOk, OnErr, None, IfOk, IsSome, IsOk};
+ghost use Rattle.std.specs.Option.{option_copied};
+ghost use Rattle.std.specs.FinMap as map;
+ghost use Rattle.std.specs.Map.{keys_of};
+ghost use Rattle.std.specs.List.{IsDistinct};
+ghost use Rattle.osm_base.specs.KeyEq.{eq};
+ghost use Rattle.osm_table.specs.Table.{entry_of, with_entry, without_entry, keys_by_rank};
+
+use crate::entry::Entry;
+use indexmap::IndexMap;
+use osm_base::{Key, Keys};
+use std::alloc::{AllocError, Global};
+use std::marker::Model;
+
+/// The entries of all objects, and the number of the next new one: its id is minus that number.
+#[derive(Drop)]
+pub struct Table {
+    entries: IndexMap<Key, Entry>,
+    next: u64,
+}
+
+impl Model for Table {
+    ghost use Rattle.std.specs.FinMap as map;
+    ghost use Rattle.osm_table.specs.Table.{TableValue};
+    ghost use Rattle.osm_table.specs.TableCode.{table_code};
+
+    ghost Value = { TableValue };
+
+    ghost coded = { table_code };
+
+    ghost view = { λ t. record { entries = map.from_entries t.entries.entries; next = t.next } };
+}
+
+impl Table {
+    /// A table without entries, whose first new object has the number 1.
+    pub fn new(alloc: Global) -> Self
+        ensures { result ≡ record { entries = map.empty; next = 1 } }
+    {
+        Table {
+            entries: IndexMap::new(alloc),
+            next: 1,
+        }
+    }
+
+    /// The number of the next new object.
+    pub fn next(&self) -> u64
+        ensures { result ≡ self.now.next }
+    {
+        self.next
+    }
+
+    /// Sets the number of the next new object.
+    pub fn set_next(&mut self, next: u64)
+        ensures { self.new ≡ record self.old { next = next } }
+    {
+        self.next = next;
+    }
+
+    /// The allocator that it takes its memory from.
+    pub fn alloc(&self) -> Global {
+        *self.entries.allocator()
+    }
+
+    /// The entry of a key.
+    pub fn get(&self, key: Key) -> Option<&Entry>
+        ensures { option_copied result ≡ entry_of self.now key }
+    {
+        self.entries.get(&key)
+    }
+
+    /// Sets the entry of a key, and drops the one that it had.
+    ///
+    /// # Errors
+    /// Answers want of memory, and then nothing has changed. It takes none where the key is there.
+    pub fn set(&mut self, key: Key, entry: Entry) -> Result<(), AllocError>
+        ensures ok { OnOk result (self.new ≡ with_entry self.old key entry) }
+        ensures err { OnErr result (self.new ≡ self.old) }
+        ensures present { IsSome (entry_of self.old key) → IsOk result }
+    {
+        self.entries.insert(key, entry)?;
+        Ok(())
+    }
+
+    /// Takes out the entry of a key.
+    pub fn remove(&mut self, key: Key) -> Option<Entry>
+        ensures value { result ≡ entry_of self.old key }
+        ensures removed { self.new ≡ without_entry self.old key }
+    {
+        self.entries.swap_remove(&key)
+    }
+
+    /// The number of entries.
+    pub fn len(&self) -> usize
+        ensures { result ≡ map.len self.now.entries }
+    {
+        self.entries.len()
+    }
+
+    /// Its keys by rank. It sorts them once, so n keys cost n log n steps.
+    ///
+    /// # Errors
+    /// Answers want of memory.
+    pub fn ordered(&self) -> Result<Keys, AllocError>
+        ensures { IfOk result (λ keys. keys ≡ keys_by_rank self.now) }
+    {
+        let mut keys = keys(&self.entries)?;
+        keys.sort()?;
+        Ok(listed(&keys)?)
+    }
+}
+
+fn keys(entries: &IndexMap<Key, Entry>) -> Result<Vec<Key>, AllocError>
+    ensures listed { IfOk result (λ keys. keys.items ≡ keys_of entries.now.entries) }
+    ensures unique { IfOk result (λ _. IsDistinct eq (keys_of entries.now.entries)) }
+{
+    entries.keys().copied().collect(*entries.allocator())
+}
+
+fn listed(keys: &Vec<Key>) -> Result<Keys, AllocError>
+    ensures { IfOk result (λ list. list ≡ keys.now.items) }
+{
+    let mut list = Keys::new(*keys.allocator());
+    for key in keys {
+        list.push(*key)?;
+    }
+    Ok(list)
+}
+
+#[cfg(test)]
+mod tests {
+    use super::*;
+    use osm_base::Kind;
+    use std::test::Fail;
+
+    #[test]
+    fn keeps_entries_by_rank(rt: HostRuntime) -> Result<(), Fail> {
+        let way = Key {
+            kind: Kind::Way,
+            id: 1,
+        };
+        let new = Key {
+            kind: Kind::Node,
+            id: -1,
+        };
+        let far = Key {
+            kind: Kind::Node,
+            id: 70,
+        };
+        let near = Key {
+            kind: Kind::Node,
+            id: 8,
+        };
+        let mut table = Table::new(rt.alloc());
+        for key in [way, new, far, near, far] {
+            table.set(key, Entry::Incomplete)?;
+        }
+        assert_eq!(rt; table.len(), 4);
+        assert_eq!(rt;
+            table.ordered()?.as_slice(),
+            [near, far, new, way].as_slice()
+        );
+        assert!(rt; table.remove(far).is_some());
+        assert!(rt; table.remove(far).is_none());
+        assert!(rt; table.get(far).is_none());
+        assert!(rt; table.get(near).is_some());
+        assert_eq!(rt; table.ordered()?.as_slice(), [near, new, way].as_slice());
+        table.set_next(9);
+        assert_eq!(rt; table.next(), 9);
+        Ok(())
+    }
+}

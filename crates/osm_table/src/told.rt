@@ -1,0 +1,22 @@
+//! What a download tells of one object.
+use osm_base::{Content, Meta};
+
+/// What a download tells of one object.
+#[derive(Debug, Drop)]
+pub enum Told {
+    /// The download doesn't speak of it.
+    Nothing,
+    /// Another object of the download refers to it.
+    Mentioned,
+    /// The server has it in this version.
+    Live {
+        version: u32,
+        content: Content,
+        meta: Meta,
+    },
+    /// The server deleted it in this version.
+    Gone {
+        version: u32,
+        meta: Meta,
+    },
+}

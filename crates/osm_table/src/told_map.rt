@@ -1,0 +1,132 @@
+//! What a download tells of the objects.
+ghost use Rattle.std.specs.Prelude.{◌≡◌, ◌<◌, [], Some, OnOk, OnErr, length, slice_get, is_some};
+ghost use Rattle.std.specs.Option.{option_copied};
+ghost use Rattle.std.specs.List.{list_any, IsDistinct};
+ghost use Rattle.std.specs.FinMap as map;
+ghost use Rattle.osm_base.specs.KeyEq.{eq};
+ghost use Rattle.osm_base.specs.Rank.{is_key};
+ghost use Rattle.osm_table.specs.Told.{told_at, with_told, IsTold, IsToldMap};
+
+use crate::told::Told;
+use indexmap::IndexMap;
+use osm_base::Key;
+use std::alloc::{AllocError, Global};
+use std::marker::Model;
+
+/// What a download tells of the objects: a map from keys of a server to what it tells of them.
+/// A key that isn't in it is told `Nothing`. The keys keep the order in which they were first
+/// put.
+#[derive(Drop)]
+pub struct ToldMap {
+    entries: IndexMap<Key, Told>,
+}
+
+impl Model for ToldMap {
+    ghost use Rattle.std.specs.FinMap as map;
+    ghost use Rattle.std.specs.Map.{keys_of};
+    ghost use Rattle.std.specs.List.{IsDistinct};
+    ghost use Rattle.osm_base.specs.KeyEq.{eq};
+    ghost use Rattle.osm_table.specs.Told.{ToldValue, IsToldMap};
+    ghost use Rattle.osm_table.specs.ToldCode.{told_code};
+
+    ghost Value = { ToldValue };
+
+    ghost coded = { told_code };
+
+    ghost view = { λ m. record { told = map.from_entries m.entries.entries; order = keys_of m.entries.entries } };
+
+    ghost invariant = { λ m. IsToldMap (map.from_entries m.entries.entries) × IsDistinct eq (keys_of m.entries.entries) };
+}
+
+impl ToldMap {
+    /// A map that tells nothing.
+    pub fn new(alloc: Global) -> Self
+        ensures { result ≡ record { told = map.empty; order = [] } }
+    {
+        ToldMap {
+            entries: IndexMap::new(alloc),
+        }
+    }
+
+    /// Sets what is told of a key.
+    ///
+    /// # Errors
+    /// Answers want of memory, and then nothing has changed.
+    pub fn put(&mut self, key: Key, told: Told) -> Result<(), AllocError>
+        requires { IsTold key told }
+        ensures ok { OnOk result (self.new ≡ with_told self.old key told) }
+        ensures err { OnErr result (self.new ≡ self.old) }
+    {
+        self.entries.insert(key, told)?;
+        Ok(())
+    }
+
+    /// What is told of a key.
+    pub fn get(&self, key: Key) -> Option<&Told>
+        ensures value { option_copied result ≡ told_at self.now key }
+        ensures told_map { IsToldMap self.now.told }
+    {
+        self.entries.get(&key)
+    }
+
+    /// The number of its keys.
+    pub fn len(&self) -> usize
+        ensures value { result ≡ map.len self.now.told }
+        ensures order { result ≡ length self.now.order }
+    {
+        self.entries.len()
+    }
+
+    /// The `i`th key that was put: each key of the map stands at one place.
+    pub fn key_at(&self, i: usize) -> Key
+        requires { i < length self.now.order }
+        ensures key { slice_get self.now.order i ≡ Some result }
+        ensures each { (key : Key) → list_any (is_key key) self.now.order ≡ is_some (told_at self.now key) }
+        ensures once { IsDistinct eq self.now.order }
+    {
+        let (key, _) = self.entries.get_index(i).unwrap();
+        *key
+    }
+}
+
+#[cfg(test)]
+mod tests {
+    use super::*;
+    use osm_base::{Kind, Meta};
+    use std::test::Fail;
+
+    #[test]
+    fn tells_the_last_of_each_key(rt: HostRuntime) -> Result<(), Fail> {
+        let way = Key {
+            kind: Kind::Way,
+            id: 7,
+        };
+        let node = Key {
+            kind: Kind::Node,
+            id: 5,
+        };
+        let mut map = ToldMap::new(rt.alloc());
+        map.put(way, Told::Mentioned)?;
+        map.put(node, Told::Mentioned)?;
+        let meta = Meta::empty(rt.alloc())?;
+        map.put(way, Told::Gone { version: 3, meta })?;
+        assert_eq!(rt; map.len(), 2);
+        assert_eq!(rt; map.key_at(0), way);
+        assert_eq!(rt; map.key_at(1), node);
+        let other = Key {
+            kind: Kind::Node,
+            id: 7,
+        };
+        for (key, version) in [(way, Some(3)), (node, Some(0)), (other, None)] {
+            assert_eq!(rt; map.get(key).map(version_of), version);
+        }
+        Ok(())
+    }
+
+    fn version_of(told: &Told) -> u32 {
+        match told {
+            Told::Gone { version, .. } => *version,
+            _ => 0,
+        }
+    }
+}

@@ -1,0 +1,4 @@
+pub mod Agreement
+pub mod ListViews
+pub mod Halving
+pub mod Examples

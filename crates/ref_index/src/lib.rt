@@ -1,0 +1,19 @@
+//! Who refers to what.
+//!
+//! An index holds a bag of pairs: each reference of each object as often as it stands. It lends the
+//! distinct users of a key by rank, without memory and without a search. A change takes pairs out
+//! and puts others in, all or nothing. It stands on the keys of `osm_base` and knows no objects:
+//! that its pairs are those of a table is the business of who holds it.
+//!
+//! A user leaves the list of a key with the last of its pairs, so a pair is counted and not only
+//! noted: a relation may name an object twice.
+#![tactic(auto)]
+
+mod counts;
+mod index;
+mod lists;
+mod pair;
+mod users;
+
+pub use index::RefIndex;
+pub use pair::Pair;
