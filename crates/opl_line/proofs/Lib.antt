@@ -1,0 +1,8 @@
+pub mod Cutting
+pub mod Unbroken
+pub mod ListsAgain
+pub mod Again
+pub mod Readable
+pub mod Forward
+pub mod Back
+mod Examples

@@ -1,0 +1,194 @@
+-- What is written of tags, references and members is read again.
+use Rattle.std.proofs.Common.{◌≡◌, ℕ, ℤ, suc, ◌<◌, ◌&&◌, Bool, true, false, T, List, [], ◌∷◌, ◌++◌, length, Some, Result, Ok, refl, ap, ◌∙◌, arith, append_assoc}
+use Rattle.std.specs.Prelude.{map, ◌==◌, nat_lt}
+use Rattle.std.specs.List.{All, list_all}
+use Rattle.std.specs.Fmt.{signed_decimal}
+use Rattle.std.specs.Ordering.{is_lt, ordering_reverse}
+use Rattle.std.specs.declared.cmp.Ordering.{Ordering}
+use Rattle.std.specs.declared.cmp.Ordering.TheVariants.{Less, Equal, Greater}
+use Rattle.std.specs.FinMap.{is_sorted}
+use Rattle.std.specs.FinMap.Entries.{below_all}
+use Rattle.std.proofs.lemmas.Bool.Decides.{nat_tests}
+use Rattle.std.proofs.lemmas.Cmp.{nat_list_cmp_total}
+use Rattle.std.proofs.lemmas.Grind.{common_steps}
+use Rattle.osm_base.specs.Tags.{Pair, bytes_cmp, has_tag, with_tag}
+use Rattle.osm_base.specs.Number.{IsId, kind_letter, letter_of, key_written}
+use Rattle.osm_base.proofs.KeyLaw.{id_again}
+use Rattle.osm_base.specs.declared.key.Kind.{Kind}
+use Rattle.osm_base.specs.declared.key.Kind.TheVariants.{Node, Way, Relation}
+use Rattle.osm_base.specs.declared.members.Member.{Member}
+use Rattle.opl_text.specs.Plain.{is_plain}
+use Rattle.opl_text.specs.Text.{escaped}
+use Rattle.opl_line.specs.declared.fault.LineFault.{LineFault}
+use Rattle.opl_line.specs.Reads.{folded}
+use Rattle.opl_line.specs.Cut.{split}
+use Rattle.opl_line.specs.Field.{is, tag_into, tags_text, ref_text, ref_into, refs_text, member_at, member_into, members_text}
+use Rattle.opl_line.specs.Written.{listed, tag_written, ref_written, member_written}
+use Rattle.opl_line.specs.Writable.{IsText, AreTags, IsMember}
+use Rattle.opl_line.proofs.Unbroken.{Unbroken, unbroken_append, unbroken_from, unbroken_items, cut_listed, before_mark, after_mark, before_all, after_none, signed_unbroken, key_unbroken}
+use Rattle.opl_text.proofs.WrittenLaw.{text_again, text_plain}
+
+-- the first and the others of what holds of all
+pub first_of : {A : Type 0} (P : A → Type 0) (x : A) (xs : List A) → All P (x ∷ xs) → P x
+first_of P x xs h = h 0 x (omega arith)
+
+pub others_of : {A : Type 0} (P : A → Type 0) (x : A) (xs : List A) → All P (x ∷ xs) → All P xs
+others_of P x xs h k d below = h (suc k) d (omega arith)
+
+-- a text has none of these marks
+pub text_unbroken : (ends : ℕ → Bool) (text : List ℕ) → ((b : ℕ) → is_plain b ≡ true → ends b ≡ false) → Unbroken ends (escaped text)
+text_unbroken ends text apart = unbroken_from is_plain ends (escaped text) apart (text_plain text)
+
+no_comma : (b : ℕ) → is_plain b ≡ true → is 44 b ≡ false
+no_comma b h = grind (arith, nat_tests)
+
+no_equals : (b : ℕ) → is_plain b ≡ true → is 61 b ≡ false
+no_equals b h = grind (arith, nat_tests)
+
+-- ---- tags
+
+tag_again : (seen : List Pair) (key value : List ℕ) → IsText key → IsText value → (length key == 0) ≡ false → has_tag seen key ≡ false → tag_into seen (tag_written (key, value)) ≡ Ok (with_tag seen key value)
+unfolding tag_into
+tag_again seen key value k v some new =
+    let left = text_unbroken (is 61) key no_equals in
+    let right = text_unbroken (is 61) value no_equals in
+    rw (
+      before_mark (is 61) (escaped key) 61 (escaped value) refl left,
+      after_mark (is 61) (escaped key) 61 (escaped value) refl left,
+      text_again key k.0 k.1,
+      some,
+      new,
+      before_all (is 61) (escaped value) right,
+      after_none (is 61) (escaped value) right,
+      text_again value v.0 v.1,
+    ) refl
+
+-- the key is above all keys
+abbrev IsAbove : List ℕ → List Pair → Type 0
+IsAbove key [] = Unit {0}
+IsAbove key (tag ∷ tags) = (bytes_cmp key tag.0 ≡ Greater) × IsAbove key tags
+
+above_new : (key : List ℕ) (tags : List Pair) → IsAbove key tags → has_tag tags key ≡ false
+above_new key [] h = refl
+above_new key (tag ∷ tags) h = rw (h.0, above_new key tags h.1) refl
+
+above_last : (key value : List ℕ) (tags : List Pair) → IsAbove key tags → with_tag tags key value ≡ tags ++ (key, value) ∷ []
+above_last key value [] h = refl
+above_last key value (tag ∷ tags) h = rw (h.0, above_last key value tags h.1) refl
+
+above_append : (key : List ℕ) (tags : List Pair) (tag : Pair) → IsAbove key tags → bytes_cmp key tag.0 ≡ Greater → IsAbove key (tags ++ tag ∷ [])
+above_append key [] tag h last = (last, tt)
+above_append key (t ∷ tags) tag h last = (h.0, above_append key tags tag h.1 last)
+
+-- each key of the second tags is above all of the first
+abbrev AreAbove : List Pair → List Pair → Type 0
+AreAbove seen [] = Unit {0}
+AreAbove seen (tag ∷ tags) = IsAbove tag.0 seen × AreAbove seen tags
+
+less_greater : (a b : List ℕ) (o : Ordering) → bytes_cmp a b ≡ o → T (is_lt o) → bytes_cmp b a ≡ Greater
+less_greater a b Less e h = nat_list_cmp_total.antisymm b a ∙ ap ordering_reverse e
+less_greater a b Equal e h = absurd h
+less_greater a b Greater e h = absurd h
+
+fore : (a b : Bool) → T (a && b) → T a
+fore true b h = tt
+fore false b h = h
+
+aft : (a b : Bool) → T (a && b) → T b
+aft true b h = h
+aft false b h = absurd h
+
+above_more : (seen : List Pair) (tag : Pair) (tags : List Pair) → AreAbove seen tags → T (below_all bytes_cmp tag.0 tags) → AreAbove (seen ++ tag ∷ []) tags
+above_more seen tag [] h below = tt
+above_more seen tag (t ∷ tags) h below =
+    (above_append t.0 seen tag h.0 (less_greater tag.0 t.0 (bytes_cmp tag.0 t.0) refl (fore _ _ below)), above_more seen tag tags h.1 (aft (is_lt (bytes_cmp tag.0 t.0)) _ below))
+
+none_above : (tags : List Pair) → AreAbove [] tags
+none_above [] = tt
+none_above (tag ∷ tags) = (tt, none_above tags)
+
+named : (key : List ℕ) → T (nat_lt 0 (length key)) → (length key == 0) ≡ false
+named [] h = absurd h
+named (b ∷ key) h = grind (arith, nat_tests)
+
+all_tags_again : (seen tags : List Pair) → T (is_sorted bytes_cmp tags) → T (list_all (λ t. nat_lt 0 (length t.0)) tags) → All (λ tag. IsText tag.0 × IsText tag.1) tags → AreAbove seen tags → folded tag_into seen (map tag_written tags) ≡ Ok (seen ++ tags)
+all_tags_again seen [] rise some texts above = ap Ok (grind (arith, common_steps))
+all_tags_again seen ((key, value) ∷ tags) rise some texts above =
+    let first = first_of (λ (tag : Pair). IsText tag.0 × IsText tag.1) (key, value) tags texts in
+    let more = above_more seen (key, value) tags above.1 (fore _ _ rise) in
+    rw (tag_again seen key value first.0 first.1 (named key (fore _ _ some)) (above_new key seen above.0), above_last key value seen above.0)
+    (all_tags_again (seen ++ (key, value) ∷ []) tags (aft (below_all bytes_cmp key tags) _ rise) (aft (nat_lt 0 (length key)) _ some) (others_of (λ (tag : Pair). IsText tag.0 × IsText tag.1) (key, value) tags texts) more
+    ∙ ap Ok (append_assoc seen ((key, value) ∷ []) tags))
+
+tags_case : (text : List ℕ) (r : Result (List Pair) LineFault) → 0 < length text → folded tag_into [] (split (is 44) text) ≡ r → tags_text text ≡ r
+unfolding tags_text
+tags_case [] r some e = absurd (omega arith)
+tags_case (b ∷ text) r some e = e
+
+tag_unbroken : (tag : Pair) → Unbroken (is 44) (tag_written tag)
+tag_unbroken tag = unbroken_append (is 44) (escaped tag.0) (61 ∷ escaped tag.1) (text_unbroken (is 44) tag.0 no_comma) (refl, text_unbroken (is 44) tag.1 no_comma)
+
+pub tags_again : (tags : List Pair) → AreTags tags → tags_text (listed tag_written tags) ≡ Ok tags
+unfolding tags_text
+tags_again [] h = refl
+tags_again (tag ∷ tags) h =
+    tags_case (listed tag_written (tag ∷ tags)) (Ok (tag ∷ tags)) (grind (arith, common_steps))
+    (ap (folded tag_into []) (cut_listed tag_written tag tags (unbroken_items (is 44) tag_written (tag ∷ tags) tag_unbroken))
+    ∙ all_tags_again [] (tag ∷ tags) (fore _ _ h.0) (aft (is_sorted bytes_cmp (tag ∷ tags)) _ h.0) h.1 (none_above (tag ∷ tags)))
+
+-- ---- references
+
+ref_again : (seen : List ℤ) (id : ℤ) → IsId id → ref_into seen (ref_written id) ≡ Ok (seen ++ id ∷ [])
+unfolding ref_into ref_text
+ref_again seen id h =
+    let clear = signed_unbroken (is 120) id refl (λ b least most. grind (arith, nat_tests)) in
+    rw (before_all (is 120) (signed_decimal id) clear, after_none (is 120) (signed_decimal id) clear, id_again id h) refl
+
+all_refs_again : (seen ids : List ℤ) → All IsId ids → folded ref_into seen (map ref_written ids) ≡ Ok (seen ++ ids)
+all_refs_again seen [] h = ap Ok (grind (arith, common_steps))
+all_refs_again seen (id ∷ ids) h =
+    rw (ref_again seen id (first_of IsId id ids h)) (all_refs_again (seen ++ id ∷ []) ids (others_of IsId id ids h) ∙ ap Ok (append_assoc seen (id ∷ []) ids))
+
+ref_unbroken : (id : ℤ) → Unbroken (is 44) (ref_written id)
+ref_unbroken id = (refl, signed_unbroken (is 44) id refl (λ b least most. grind (arith, nat_tests)))
+
+pub refs_again : (ids : List ℤ) → All IsId ids → refs_text (listed ref_written ids) ≡ Ok ids
+unfolding refs_text
+refs_again [] h = refl
+refs_again (id ∷ ids) h =
+    ap (folded ref_into []) (cut_listed ref_written id ids (unbroken_items (is 44) ref_written (id ∷ ids) ref_unbroken)) ∙ all_refs_again [] (id ∷ ids) h
+
+-- ---- members
+
+pub kind_again : (kind : Kind) → kind_letter (letter_of kind) ≡ Some kind
+unfolding kind_letter
+kind_again Node = refl
+kind_again Way = refl
+kind_again Relation = refl
+
+member_again : (seen : List Member) (m : Member) → IsMember m → member_into seen (member_written m) ≡ Ok (seen ++ m ∷ [])
+unfolding member_into member_at
+member_again seen m h =
+    let clear = signed_unbroken (is 64) m.key.id refl (λ b least most. grind (arith, nat_tests)) in
+    rw (
+      kind_again m.key.kind,
+      before_mark (is 64) (signed_decimal m.key.id) 64 (escaped m.role) refl clear,
+      after_mark (is 64) (signed_decimal m.key.id) 64 (escaped m.role) refl clear,
+      id_again m.key.id h.0,
+      text_again m.role h.1.0 h.1.1,
+    ) refl
+
+all_members_again : (seen ms : List Member) → All IsMember ms → folded member_into seen (map member_written ms) ≡ Ok (seen ++ ms)
+all_members_again seen [] h = ap Ok (grind (arith, common_steps))
+all_members_again seen (m ∷ ms) h =
+    rw (member_again seen m (first_of IsMember m ms h)) (all_members_again (seen ++ m ∷ []) ms (others_of IsMember m ms h) ∙ ap Ok (append_assoc seen (m ∷ []) ms))
+
+member_unbroken : (m : Member) → Unbroken (is 44) (member_written m)
+member_unbroken m =
+    unbroken_append (is 44) (key_written m.key) (64 ∷ escaped m.role) (key_unbroken (is 44) m.key refl (λ b least. grind (arith, nat_tests))) (refl, text_unbroken (is 44) m.role no_comma)
+
+pub members_again : (ms : List Member) → All IsMember ms → members_text (listed member_written ms) ≡ Ok ms
+unfolding members_text
+members_again [] h = refl
+members_again (m ∷ ms) h =
+    ap (folded member_into []) (cut_listed member_written m ms (unbroken_items (is 44) member_written (m ∷ ms) member_unbroken)) ∙ all_members_again [] (m ∷ ms) h

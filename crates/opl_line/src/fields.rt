@@ -1,0 +1,230 @@
+//! Fields of a line, taken in one by one.
+//!
+//! Each function refuses a field that came before, then a value that isn't one, and then, where
+//! the field names other objects, a negative id in a download.
+
+ghost use Rattle.std.specs.Prelude.{◌≡◌};
+ghost use Rattle.opl_line.specs.Reads.{Gives};
+ghost use Rattle.opl_line.specs.Field.{version_into, visible_into, changeset_into, uid_into, time_into, user_into, x_into, y_into, tags_into, refs_into, members_into, named_into, field_into};
+
+use crate::fault::{LineAnswer, LineFault};
+use crate::letter::{Letter, has_field, letter_of};
+use crate::lists::{members_allowed, read_members, read_refs, read_tags, refs_allowed, text_at};
+use crate::mode::Mode;
+use crate::number::{number_to, read_place, read_visible};
+use crate::object::Fields;
+use opl_text::{TimeFault, read_time};
+use osm_base::{Kind, Pool};
+
+#[tactic(auto, unfolding(crate::specs::Field::version_into))]
+fn version_into(fields: &mut Fields, text: &[u8]) -> Result<(), LineAnswer>
+    ensures { Gives (λ _. fields.new) result (version_into fields.old text.now) }
+{
+    if fields.version.is_some() {
+        return Err(LineAnswer::Bad(LineFault::FieldTwice));
+    }
+    let Some(value) = number_to(text, 2_000_000_000) else {
+        return Err(LineAnswer::Bad(LineFault::BadNumber));
+    };
+    fields.version = Some(value);
+    Ok(())
+}
+
+#[tactic(auto, unfolding(crate::specs::Field::visible_into))]
+fn visible_into(fields: &mut Fields, text: &[u8]) -> Result<(), LineAnswer>
+    ensures { Gives (λ _. fields.new) result (visible_into fields.old text.now) }
+{
+    if fields.visible.is_some() {
+        return Err(LineAnswer::Bad(LineFault::FieldTwice));
+    }
+    let Some(value) = read_visible(text) else {
+        return Err(LineAnswer::Bad(LineFault::UnknownField));
+    };
+    fields.visible = Some(value);
+    Ok(())
+}
+
+#[tactic(auto, unfolding(crate::specs::Field::changeset_into))]
+fn changeset_into(fields: &mut Fields, text: &[u8]) -> Result<(), LineAnswer>
+    ensures { Gives (λ _. fields.new) result (changeset_into fields.old text.now) }
+{
+    if fields.changeset.is_some() {
+        return Err(LineAnswer::Bad(LineFault::FieldTwice));
+    }
+    let Some(value) = number_to(text, 4_294_967_295) else {
+        return Err(LineAnswer::Bad(LineFault::BadNumber));
+    };
+    fields.changeset = Some(value);
+    Ok(())
+}
+
+#[tactic(auto, unfolding(crate::specs::Field::uid_into))]
+fn uid_into(fields: &mut Fields, text: &[u8]) -> Result<(), LineAnswer>
+    ensures { Gives (λ _. fields.new) result (uid_into fields.old text.now) }
+{
+    if fields.uid.is_some() {
+        return Err(LineAnswer::Bad(LineFault::FieldTwice));
+    }
+    let Some(value) = number_to(text, 4_294_967_295) else {
+        return Err(LineAnswer::Bad(LineFault::BadNumber));
+    };
+    fields.uid = Some(value);
+    Ok(())
+}
+
+#[tactic(auto, unfolding(crate::specs::Field::x_into))]
+fn x_into(fields: &mut Fields, text: &[u8]) -> Result<(), LineAnswer>
+    ensures { Gives (λ _. fields.new) result (x_into fields.old text.now) }
+{
+    if fields.x.is_some() {
+        return Err(LineAnswer::Bad(LineFault::FieldTwice));
+    }
+    let Some(value) = read_place(text, 1_800_000_000) else {
+        return Err(LineAnswer::Bad(LineFault::BadCoordinate));
+    };
+    fields.x = Some(value);
+    Ok(())
+}
+
+#[tactic(auto, unfolding(crate::specs::Field::y_into))]
+fn y_into(fields: &mut Fields, text: &[u8]) -> Result<(), LineAnswer>
+    ensures { Gives (λ _. fields.new) result (y_into fields.old text.now) }
+{
+    if fields.y.is_some() {
+        return Err(LineAnswer::Bad(LineFault::FieldTwice));
+    }
+    let Some(value) = read_place(text, 900_000_000) else {
+        return Err(LineAnswer::Bad(LineFault::BadCoordinate));
+    };
+    fields.y = Some(value);
+    Ok(())
+}
+
+#[tactic(auto, unfolding(crate::specs::Field::time_into))]
+fn time_into(fields: &mut Fields, text: &[u8]) -> Result<(), LineAnswer>
+    ensures { Gives (λ _. fields.new) result (time_into fields.old text.now) }
+{
+    if fields.time.is_some() {
+        return Err(LineAnswer::Bad(LineFault::FieldTwice));
+    }
+    let time = match read_time(text) {
+        Ok(time) => time,
+        Err(TimeFault::BadTime) => return Err(LineAnswer::Bad(LineFault::BadTime)),
+        Err(TimeFault::Memory) => return Err(LineAnswer::Memory),
+    };
+    fields.time = Some(time);
+    Ok(())
+}
+
+#[tactic(auto, unfolding(crate::specs::Field::user_into))]
+fn user_into(pool: &mut Pool, fields: &mut Fields, text: &[u8]) -> Result<(), LineAnswer>
+    ensures { Gives (λ _. fields.new) result (user_into fields.old text.now) }
+{
+    if fields.user.is_some() {
+        return Err(LineAnswer::Bad(LineFault::FieldTwice));
+    }
+    let user = text_at(pool, text)?;
+    fields.user = Some(user);
+    Ok(())
+}
+
+#[tactic(auto, unfolding(crate::specs::Field::tags_into))]
+fn tags_into(pool: &mut Pool, fields: &mut Fields, text: &[u8]) -> Result<(), LineAnswer>
+    ensures { Gives (λ _. fields.new) result (tags_into fields.old text.now) }
+{
+    if fields.tags.is_some() {
+        return Err(LineAnswer::Bad(LineFault::FieldTwice));
+    }
+    let tags = read_tags(pool, text)?;
+    fields.tags = Some(tags);
+    Ok(())
+}
+
+#[tactic(auto, unfolding(crate::specs::Field::refs_into))]
+fn refs_into(
+    pool: &mut Pool,
+    mode: Mode,
+    fields: &mut Fields,
+    text: &[u8],
+) -> Result<(), LineAnswer>
+    ensures { Gives (λ _. fields.new) result (refs_into mode fields.old text.now) }
+{
+    if fields.refs.is_some() {
+        return Err(LineAnswer::Bad(LineFault::FieldTwice));
+    }
+    let refs = read_refs(pool, text)?;
+    if !refs_allowed(mode, refs.as_slice()) {
+        return Err(LineAnswer::Bad(LineFault::NegativeId));
+    }
+    fields.refs = Some(refs);
+    Ok(())
+}
+
+#[tactic(auto, unfolding(crate::specs::Field::members_into))]
+fn members_into(
+    pool: &mut Pool,
+    mode: Mode,
+    fields: &mut Fields,
+    text: &[u8],
+) -> Result<(), LineAnswer>
+    ensures { Gives (λ _. fields.new) result (members_into mode fields.old text.now) }
+{
+    if fields.members.is_some() {
+        return Err(LineAnswer::Bad(LineFault::FieldTwice));
+    }
+    let members = read_members(pool, text)?;
+    if !members_allowed(mode, members.as_slice()) {
+        return Err(LineAnswer::Bad(LineFault::NegativeId));
+    }
+    fields.members = Some(members);
+    Ok(())
+}
+
+#[tactic(auto, unfolding(crate::specs::Field::named_into))]
+fn named_into(
+    pool: &mut Pool,
+    mode: Mode,
+    letter: Letter,
+    fields: &mut Fields,
+    text: &[u8],
+) -> Result<(), LineAnswer>
+    ensures { Gives (λ _. fields.new) result (named_into mode letter fields.old text.now) }
+{
+    match letter {
+        Letter::Version => version_into(fields, text),
+        Letter::Visible => visible_into(fields, text),
+        Letter::Changeset => changeset_into(fields, text),
+        Letter::Uid => uid_into(fields, text),
+        Letter::Time => time_into(fields, text),
+        Letter::User => user_into(pool, fields, text),
+        Letter::X => x_into(fields, text),
+        Letter::Y => y_into(fields, text),
+        Letter::Tags => tags_into(pool, fields, text),
+        Letter::Refs => refs_into(pool, mode, fields, text),
+        Letter::Members => members_into(pool, mode, fields, text),
+    }
+}
+
+/// Takes a field in.
+#[tactic(auto, unfolding(crate::specs::Field::field_into))]
+pub fn field_into(
+    pool: &mut Pool,
+    mode: Mode,
+    kind: Kind,
+    fields: &mut Fields,
+    piece: &[u8],
+) -> Result<(), LineAnswer>
+    ensures { Gives (λ _. fields.new) result (field_into mode kind fields.old piece.now) }
+{
+    let [first, text @ ..] = piece else {
+        return Ok(());
+    };
+    let Some(letter) = letter_of(*first) else {
+        return Err(LineAnswer::Bad(LineFault::UnknownField));
+    };
+    if has_field(letter, kind) {
+        named_into(pool, mode, letter, fields, text)
+    } else {
+        Err(LineAnswer::Bad(LineFault::WrongField))
+    }
+}

@@ -1,0 +1,18 @@
+//! Reading is the format.
+
+ghost use Rattle.std.specs.Prelude.{◌≡◌, List, ℕ, Result, Ok};
+ghost use Rattle.opl_line.specs.declared.mode.Mode.{Mode};
+ghost use Rattle.opl_line.specs.declared.fault.LineFault.{LineFault};
+ghost use Rattle.opl_line.specs.declared.object.LineKind.{LineKind};
+ghost use Rattle.opl_line.specs.Line.{line_of};
+ghost use Rattle.opl_line.specs.Spelling.{Means};
+ghost use Rattle.opl_line.specs.Writable.{IsReadObject};
+
+/// Each line means one thing, which is what is read: it is skipped, or it spells one object and
+/// no other, or it has its one fault. No two of these hold of a line.
+pub fn read_as_spelled()
+    ensures some { (mode : Mode) (line : List ℕ) → Means mode line (line_of mode line) }
+    ensures no_other { (mode : Mode) (line : List ℕ) (meaning : Result LineKind LineFault) → Means mode line meaning → line_of mode line ≡ meaning }
+    // What was read has all that its written form asks for.
+    ensures writable { (mode : Mode) (line : List ℕ) (kind : LineKind) → line_of mode line ≡ Ok kind → IsReadObject mode kind }
+{}

@@ -1,0 +1,288 @@
+//! Lines, read.
+
+ghost use Rattle.std.specs.Prelude.{◌≡◌, ◌≤◌, ◌<◌, [], Some, None, Ok, IfOk};
+ghost use Rattle.std.specs.Option.{unwrap_or};
+ghost use Rattle.std.specs.List.{list_all};
+ghost use Rattle.opl_line.specs.Reads.{Gives, folded};
+ghost use Rattle.opl_line.specs.Cut.{split};
+ghost use Rattle.opl_line.specs.Field.{is_allowed, field_into};
+ghost use Rattle.opl_line.specs.Line.{is_blank, id_at, key_at, no_fields, version_of, location_of, content_of, side_of, completed, meta_of, object_of, freed, is_skipped, kind_of_line, line_of};
+ghost use Rattle.opl_line.specs.Writable.{IsReadObject};
+
+use crate::cut::cut;
+use crate::fault::{LineAnswer, LineFault};
+use crate::fields::field_into;
+use crate::mode::{Mode, is_allowed};
+use crate::object::{Fields, LineKind, OplObject};
+use osm_base::{
+    Content, Coord, Key, Kind, Members, Meta, Pool, Refs, Tags, Text, kind_of, read_id,
+};
+
+#[tactic(auto, unfolding(crate::specs::Line::id_at))]
+fn id_at(mode: Mode, text: &[u8]) -> Result<i64, LineAnswer>
+    ensures { Gives (λ id. id) result (id_at mode text.now) }
+{
+    let Some(id) = read_id(text) else {
+        return Err(LineAnswer::Bad(LineFault::BadId));
+    };
+    if is_allowed(mode, id) {
+        Ok(id)
+    } else {
+        Err(LineAnswer::Bad(LineFault::NegativeId))
+    }
+}
+
+/// The first field.
+#[tactic(auto, unfolding(crate::specs::Line::key_at))]
+fn key_at(mode: Mode, piece: &[u8]) -> Result<Key, LineAnswer>
+    ensures { Gives (λ key. key) result (key_at mode piece.now) }
+{
+    let [first, text @ ..] = piece else {
+        return Err(LineAnswer::Bad(LineFault::BadStart));
+    };
+    let Some(kind) = kind_of(*first) else {
+        return Err(LineAnswer::Bad(LineFault::BadStart));
+    };
+    let id = id_at(mode, text)?;
+    Ok(Key { kind, id })
+}
+
+fn no_fields() -> Fields
+    ensures { result ≡ no_fields }
+{
+    Fields {
+        version: None,
+        visible: None,
+        changeset: None,
+        time: None,
+        uid: None,
+        user: None,
+        tags: None,
+        x: None,
+        y: None,
+        refs: None,
+        members: None,
+    }
+}
+
+/// Takes the fields between blanks in, one after the other.
+fn fields_of(
+    pool: &mut Pool,
+    mode: Mode,
+    kind: Kind,
+    fields: &mut Fields,
+    bytes: &[u8],
+) -> Result<(), LineAnswer>
+    ensures { Gives (λ _. fields.new) result (folded (field_into mode kind) fields.old (split is_blank bytes.now)) }
+{
+    let mut rest = bytes;
+    loop {
+        let (piece, after) = cut(rest, b' ', b'\t');
+        field_into(pool, mode, kind, fields, piece)?;
+        match after {
+            None => return Ok(()),
+            Some(next) => rest = next,
+        }
+    }
+}
+
+/// A positive id has a version; that of a negative one is dropped.
+#[tactic(auto, unfolding(crate::specs::Line::version_of))]
+fn version_of(id: i64, version: Option<u32>) -> Result<u32, LineAnswer>
+    ensures { Gives (λ n. n) result (version_of id version) }
+{
+    if id < 0 {
+        return Ok(0);
+    }
+    let version = version.unwrap_or(0);
+    if version == 0 {
+        return Err(LineAnswer::Bad(LineFault::NoVersion));
+    }
+    Ok(version)
+}
+
+#[tactic(auto, unfolding(crate::specs::Line::location_of))]
+fn location_of(x: Option<Option<i32>>, y: Option<Option<i32>>) -> Result<Coord, LineAnswer>
+    ensures { Gives (λ at. at) result (location_of x y) }
+{
+    match (x, y) {
+        (Some(Some(lon)), Some(Some(lat))) => Ok(Coord { lon, lat }),
+        _ => Err(LineAnswer::Bad(LineFault::NoLocation)),
+    }
+}
+
+fn tags_or_none(pool: &Pool, tags: Option<Tags>) -> Tags
+    ensures { result ≡ unwrap_or tags [] }
+{
+    match tags {
+        None => Tags::new(pool.allocator()),
+        Some(tags) => tags,
+    }
+}
+
+fn refs_or_none(pool: &Pool, refs: Option<Refs>) -> Refs
+    ensures { result ≡ unwrap_or refs [] }
+{
+    match refs {
+        None => Refs::new(pool.allocator()),
+        Some(refs) => refs,
+    }
+}
+
+fn members_or_none(pool: &Pool, members: Option<Members>) -> Members
+    ensures { result ≡ unwrap_or members [] }
+{
+    match members {
+        None => Members::new(pool.allocator()),
+        Some(members) => members,
+    }
+}
+
+fn text_or_none(pool: &mut Pool, text: Option<Text>) -> Result<Text, LineAnswer>
+    ensures { Gives (λ text. text) result (Ok (unwrap_or text [])) }
+{
+    match text {
+        None => Ok(pool.empty()?),
+        Some(text) => Ok(text),
+    }
+}
+
+#[tactic(auto, unfolding(crate::specs::Line::content_of))]
+fn content_of(pool: &Pool, kind: Kind, fields: Fields) -> Result<Content, LineAnswer>
+    ensures { Gives (λ content. content) result (content_of kind fields) }
+{
+    let Fields {
+        tags,
+        x,
+        y,
+        refs,
+        members,
+        ..
+    } = fields;
+    let tags = tags_or_none(pool, tags);
+    match kind {
+        Kind::Node => {
+            let at = location_of(x, y)?;
+            Ok(Content::Node { tags, at })
+        }
+        Kind::Way => Ok(Content::Way {
+            tags,
+            refs: refs_or_none(pool, refs),
+        }),
+        Kind::Relation => Ok(Content::Relation {
+            tags,
+            members: members_or_none(pool, members),
+        }),
+    }
+}
+
+/// What a visible object has.
+#[tactic(auto, unfolding(crate::specs::Line::side_of))]
+fn side_of(pool: &Pool, kind: Kind, fields: Fields) -> Result<Option<Content>, LineAnswer>
+    ensures { Gives (λ side. side) result (side_of kind fields) }
+{
+    if fields.visible.unwrap_or(true) {
+        let side = content_of(pool, kind, fields)?;
+        Ok(Some(side))
+    } else {
+        Ok(None)
+    }
+}
+
+/// Takes what is known of the last change.
+fn meta_of(pool: &mut Pool, fields: &mut Fields) -> Result<Meta, LineAnswer>
+    ensures meta { Gives (λ meta. meta) result (Ok (meta_of fields.old)) }
+    ensures others { fields.new ≡ (record fields.old { user = None }) }
+{
+    let user = text_or_none(pool, fields.user.take())?;
+    Ok(Meta {
+        changeset: fields.changeset.unwrap_or(0),
+        time: fields.time.unwrap_or(None),
+        uid: fields.uid.unwrap_or(0),
+        user,
+    })
+}
+
+/// The object, once all fields are there.
+#[tactic(auto, unfolding(crate::specs::Line::completed, crate::specs::Line::side_of, crate::specs::Line::content_of))]
+fn completed(pool: &mut Pool, key: Key, mut fields: Fields) -> Result<OplObject, LineAnswer>
+    ensures { Gives (λ object. object) result (completed key fields) }
+{
+    let version = version_of(key.id, fields.version)?;
+    let meta = meta_of(pool, &mut fields)?;
+    let side = side_of(pool, key.kind, fields)?;
+    Ok(OplObject {
+        key,
+        version,
+        side,
+        meta,
+    })
+}
+
+#[tactic(auto, unfolding(crate::specs::Line::object_of))]
+fn object_of(pool: &mut Pool, mode: Mode, line: &[u8]) -> Result<OplObject, LineAnswer>
+    ensures { Gives (λ object. object) result (object_of mode (split is_blank line.now)) }
+{
+    let (first, after) = cut(line, b' ', b'\t');
+    let key = key_at(mode, first)?;
+    let mut fields = no_fields();
+    if let Some(rest) = after {
+        fields_of(pool, mode, key.kind, &mut fields, rest)?;
+    }
+    completed(pool, key, fields)
+}
+
+/// The line without one CR at its end.
+fn freed(line: &[u8]) -> &[u8]
+    ensures { result.now ≡ freed line.now }
+{
+    if !line.is_empty() && line[line.len() - 1] == b'\r' {
+        line.split_at(line.len() - 1).0
+    } else {
+        line
+    }
+}
+
+fn is_blank(byte: u8) -> bool
+    ensures { result ≡ is_blank byte }
+{
+    byte == b' ' || byte == b'\t'
+}
+
+fn all_blank(line: &[u8]) -> bool
+    ensures { result ≡ list_all is_blank line.now }
+{
+    line.iter().all(|byte| is_blank(*byte))
+}
+
+fn is_skipped(line: &[u8]) -> bool
+    ensures { result ≡ is_skipped line.now }
+{
+    all_blank(line) || line[0] == b'#' || line[0] == b'c'
+}
+
+#[tactic(auto, unfolding(crate::specs::Line::kind_of_line))]
+fn kind_of_line(pool: &mut Pool, mode: Mode, line: &[u8]) -> Result<LineKind, LineAnswer>
+    ensures { Gives (λ kind. kind) result (kind_of_line mode line.now) }
+{
+    if is_skipped(line) {
+        return Ok(LineKind::Skipped);
+    }
+    let object = object_of(pool, mode, line)?;
+    Ok(LineKind::Object(object))
+}
+
+/// What a line (without its LF) is: skipped, an object, or its first fault from the left.
+///
+/// Texts come from the pool, so that one that comes again is shared. The line is walked once by
+/// fields, and each field once.
+///
+/// # Errors
+/// `Bad` with the line's fault; `Memory` where memory ran out.
+#[tactic(auto, unfolding(crate::specs::Line::line_of))]
+pub fn read_line(pool: &mut Pool, line: &[u8], mode: Mode) -> Result<LineKind, LineAnswer>
+    ensures meaning { Gives (λ kind. kind) result (line_of mode line.now) }
+    ensures writable { IfOk result (IsReadObject mode) }
+{
+    kind_of_line(pool, mode, freed(line))
+}

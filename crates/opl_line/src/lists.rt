@@ -1,0 +1,236 @@
+//! Texts, tags, references and members of a line.
+//!
+//! A list is cut at its commas, and each item is read to its end before the next, so that the
+//! first broken thing decides.
+
+ghost use Rattle.std.specs.Prelude.{◌≡◌, [], is_some};
+ghost use Rattle.std.specs.List.{list_all};
+ghost use Rattle.std.specs.Option.{option_map};
+ghost use Rattle.opl_text.specs.Text.{unescaped};
+ghost use Rattle.opl_line.specs.declared.fault.LineFault.TheVariants as faults;
+ghost use Rattle.opl_line.specs.Reads.{Gives, or_fault, folded};
+ghost use Rattle.opl_line.specs.Cut.{is_one_of, split};
+ghost use Rattle.opl_line.specs.Field.{is_allowed, tag_into, tags_text, is_place, is_place_or_none, ref_text, ref_into, refs_text, member_at, member_into, members_text};
+
+use crate::cut::cut;
+use crate::fault::{LineAnswer, LineFault};
+use crate::mode::{Mode, is_allowed};
+use crate::number::read_place;
+use opl_text::read_escaped;
+use osm_base::{Key, Member, Members, Pool, Refs, Tags, Text, TextFault, kind_of, read_id};
+
+/// The text of a field.
+pub fn text_at(pool: &mut Pool, text: &[u8]) -> Result<Text, LineAnswer>
+    ensures { Gives (λ text. text) result (or_fault faults.BadText (unescaped text.now)) }
+{
+    match read_escaped(pool, text) {
+        Ok(text) => Ok(text),
+        Err(TextFault::BadText) => Err(LineAnswer::Bad(LineFault::BadText)),
+        Err(TextFault::Memory) => Err(LineAnswer::Memory),
+    }
+}
+
+/// One tag more: a key, `=` and a value.
+#[tactic(auto, unfolding(crate::specs::Field::tag_into))]
+fn tag_into(pool: &mut Pool, tags: &mut Tags, item: &[u8]) -> Result<(), LineAnswer>
+    ensures { Gives (λ _. tags.new) result (tag_into tags.old item.now) }
+{
+    let (key, after) = cut(item, b'=', b'=');
+    let key = text_at(pool, key)?;
+    if key.as_bytes().is_empty() {
+        return Err(LineAnswer::Bad(LineFault::BadTags));
+    }
+    let Some(rest) = after else {
+        return Err(LineAnswer::Bad(LineFault::BadTags));
+    };
+    if tags.has(key.as_bytes()) {
+        return Err(LineAnswer::Bad(LineFault::BadTags));
+    }
+    let (value, after) = cut(rest, b'=', b'=');
+    let value = text_at(pool, value)?;
+    if after.is_some() {
+        return Err(LineAnswer::Bad(LineFault::BadTags));
+    }
+    tags.put(key, value)?;
+    Ok(())
+}
+
+/// The tags between commas.
+fn all_tags(pool: &mut Pool, text: &[u8]) -> Result<Tags, LineAnswer>
+    ensures { Gives (λ tags. tags) result (folded tag_into [] (split (is_one_of 44 44) text.now)) }
+{
+    let mut tags = Tags::new(pool.allocator());
+    let mut rest = text;
+    loop {
+        let (item, after) = cut(rest, b',', b',');
+        tag_into(pool, &mut tags, item)?;
+        match after {
+            None => return Ok(tags),
+            Some(next) => rest = next,
+        }
+    }
+}
+
+/// The value of `T`.
+#[tactic(auto, unfolding(crate::specs::Field::tags_text))]
+pub fn read_tags(pool: &mut Pool, text: &[u8]) -> Result<Tags, LineAnswer>
+    ensures { Gives (λ tags. tags) result (tags_text text.now) }
+{
+    if text.is_empty() {
+        return Ok(Tags::new(pool.allocator()));
+    }
+    all_tags(pool, text)
+}
+
+/// Whether the bytes are a longitude, `y` and a latitude, each of which may be nothing.
+#[tactic(auto, unfolding(crate::specs::Field::is_place))]
+fn is_place(text: &[u8]) -> bool
+    ensures { result ≡ is_place text.now }
+{
+    let (lon, after) = cut(text, b'y', b'y');
+    match after {
+        None => false,
+        Some(lat) => {
+            read_place(lon, 1_800_000_000).is_some() && read_place(lat, 900_000_000).is_some()
+        }
+    }
+}
+
+fn is_place_or_none(text: Option<&[u8]>) -> bool
+    ensures { result ≡ is_place_or_none (option_map (λ t. t.now) text.entry) }
+{
+    match text {
+        None => true,
+        Some(text) => is_place(text),
+    }
+}
+
+/// `n`, an id, and perhaps a location, which is dropped.
+#[tactic(auto, unfolding(crate::specs::Field::ref_text))]
+fn read_ref(item: &[u8]) -> Option<i64>
+    ensures { result ≡ ref_text item.now }
+{
+    let [b'n', text @ ..] = item else {
+        return None;
+    };
+    let (id, place) = cut(text, b'x', b'x');
+    let id = read_id(id)?;
+    if is_place_or_none(place) {
+        Some(id)
+    } else {
+        None
+    }
+}
+
+#[tactic(auto, unfolding(crate::specs::Field::ref_into))]
+fn ref_into(refs: &mut Refs, item: &[u8]) -> Result<(), LineAnswer>
+    ensures { Gives (λ _. refs.new) result (ref_into refs.old item.now) }
+{
+    let Some(id) = read_ref(item) else {
+        return Err(LineAnswer::Bad(LineFault::BadRefs));
+    };
+    refs.push(id)?;
+    Ok(())
+}
+
+/// The references between commas.
+fn all_refs(pool: &mut Pool, text: &[u8]) -> Result<Refs, LineAnswer>
+    ensures { Gives (λ refs. refs) result (folded ref_into [] (split (is_one_of 44 44) text.now)) }
+{
+    let mut refs = Refs::new(pool.allocator());
+    let mut rest = text;
+    loop {
+        let (item, after) = cut(rest, b',', b',');
+        ref_into(&mut refs, item)?;
+        match after {
+            None => return Ok(refs),
+            Some(next) => rest = next,
+        }
+    }
+}
+
+/// The value of `N`.
+#[tactic(auto, unfolding(crate::specs::Field::refs_text))]
+pub fn read_refs(pool: &mut Pool, text: &[u8]) -> Result<Refs, LineAnswer>
+    ensures { Gives (λ refs. refs) result (refs_text text.now) }
+{
+    if text.is_empty() {
+        return Ok(Refs::new(pool.allocator()));
+    }
+    all_refs(pool, text)
+}
+
+/// Whether all ids may stand in a file of the mode.
+pub fn refs_allowed(mode: Mode, ids: &[i64]) -> bool
+    ensures { result ≡ list_all (is_allowed mode) ids.now }
+{
+    ids.iter().all(|id| is_allowed(mode, *id))
+}
+
+/// A kind, an id, `@` and a role.
+#[tactic(auto, unfolding(crate::specs::Field::member_at))]
+fn member_at(pool: &mut Pool, item: &[u8]) -> Result<Member, LineAnswer>
+    ensures { Gives (λ member. member) result (member_at item.now) }
+{
+    let [first, text @ ..] = item else {
+        return Err(LineAnswer::Bad(LineFault::BadMembers));
+    };
+    let Some(kind) = kind_of(*first) else {
+        return Err(LineAnswer::Bad(LineFault::BadMembers));
+    };
+    let (id, after) = cut(text, b'@', b'@');
+    let Some(id) = read_id(id) else {
+        return Err(LineAnswer::Bad(LineFault::BadMembers));
+    };
+    let Some(role) = after else {
+        return Err(LineAnswer::Bad(LineFault::BadMembers));
+    };
+    let role = text_at(pool, role)?;
+    Ok(Member {
+        key: Key { kind, id },
+        role,
+    })
+}
+
+#[tactic(auto, unfolding(crate::specs::Field::member_into))]
+fn member_into(pool: &mut Pool, members: &mut Members, item: &[u8]) -> Result<(), LineAnswer>
+    ensures { Gives (λ _. members.new) result (member_into members.old item.now) }
+{
+    let member = member_at(pool, item)?;
+    members.push(member)?;
+    Ok(())
+}
+
+/// The members between commas.
+fn all_members(pool: &mut Pool, text: &[u8]) -> Result<Members, LineAnswer>
+    ensures { Gives (λ members. members) result (folded member_into [] (split (is_one_of 44 44) text.now)) }
+{
+    let mut members = Members::new(pool.allocator());
+    let mut rest = text;
+    loop {
+        let (item, after) = cut(rest, b',', b',');
+        member_into(pool, &mut members, item)?;
+        match after {
+            None => return Ok(members),
+            Some(next) => rest = next,
+        }
+    }
+}
+
+/// The value of `M`.
+#[tactic(auto, unfolding(crate::specs::Field::members_text))]
+pub fn read_members(pool: &mut Pool, text: &[u8]) -> Result<Members, LineAnswer>
+    ensures { Gives (λ members. members) result (members_text text.now) }
+{
+    if text.is_empty() {
+        return Ok(Members::new(pool.allocator()));
+    }
+    all_members(pool, text)
+}
+
+/// Whether the ids of all members may stand in a file of the mode.
+pub fn members_allowed(mode: Mode, members: &[Member]) -> bool
+    ensures { result ≡ list_all (λ m. is_allowed mode m.key.id) members.now }
+{
+    members.iter().all(|member| is_allowed(mode, member.key.id))
+}

@@ -1,0 +1,217 @@
+//! Lines, written.
+
+ghost use Rattle.std.specs.Prelude.{◌≡◌, ◌∷◌, ◌++◌, [], OnOk, Some, None, ◌^◌, ◌<◌, is_some};
+ghost use Rattle.std.specs.Option.{option_copied};
+ghost use Rattle.std.specs.List.{flat_map};
+ghost use Rattle.std.specs.Fmt.{decimal};
+ghost use Rattle.osm_base.specs.Coord.{coord_written};
+ghost use Rattle.opl_line.specs.Written.{spaced, listed, tag_written, ref_written, member_written, sight, front_pieces, back_pieces, content_pieces, side_pieces, written, object_with, IsOneLine};
+ghost use Rattle.opl_line.specs.Writable.{IsWritable, MayStand};
+ghost use Rattle.opl_line.specs.Spelling.{Spells};
+ghost use Rattle.opl_line.specs.declared.mode.Mode.{Mode};
+
+use opl_text::{write_escaped, write_time};
+use osm_base::{Content, Key, Kind, Member, Meta, Text, write_coord, write_digits, write_key};
+use std::alloc::AllocError;
+
+fn write_number(letter: u8, number: u32, out: &mut Vec<u8>) -> Result<(), AllocError>
+    ensures { OnOk result (out.new.items ≡ out.old.items ++ (32 ∷ letter ∷ decimal number)) }
+{
+    out.push(b' ')?;
+    out.push(letter)?;
+    write_digits(u64::from(number), out)?;
+    Ok(())
+}
+
+fn write_place(letter: u8, degrees: i32, out: &mut Vec<u8>) -> Result<(), AllocError>
+    ensures { OnOk result (out.new.items ≡ out.old.items ++ (32 ∷ letter ∷ coord_written degrees)) }
+{
+    out.push(b' ')?;
+    out.push(letter)?;
+    write_coord(i64::from(degrees), out)?;
+    Ok(())
+}
+
+fn sight(visible: bool) -> u8
+    ensures { result ≡ sight visible }
+{
+    if visible { b'V' } else { b'D' }
+}
+
+fn write_front(
+    version: u32,
+    visible: bool,
+    changeset: u32,
+    out: &mut Vec<u8>,
+) -> Result<(), AllocError>
+    ensures { OnOk result (out.new.items ≡ out.old.items ++ spaced (front_pieces version visible changeset)) }
+{
+    write_number(b'v', version, out)?;
+    out.extend_from_slice(b" d")?;
+    out.push(sight(visible))?;
+    write_number(b'c', changeset, out)?;
+    Ok(())
+}
+
+fn write_back(meta: &Meta, out: &mut Vec<u8>) -> Result<(), AllocError>
+    ensures { OnOk result (out.new.items ≡ out.old.items ++ spaced (back_pieces meta.now)) }
+{
+    out.extend_from_slice(b" t")?;
+    write_time(meta.time, out)?;
+    write_number(b'i', meta.uid, out)?;
+    out.extend_from_slice(b" u")?;
+    write_escaped(&meta.user, out)?;
+    Ok(())
+}
+
+fn write_tag(tag: &(Text, Text), out: &mut Vec<u8>) -> Result<(), AllocError>
+    ensures { OnOk result (out.new.items ≡ out.old.items ++ tag_written tag.now) }
+{
+    write_escaped(&tag.0, out)?;
+    out.push(b'=')?;
+    write_escaped(&tag.1, out)?;
+    Ok(())
+}
+
+fn write_more_tags(tags: &[(Text, Text)], out: &mut Vec<u8>) -> Result<(), AllocError>
+    ensures { OnOk result (out.new.items ≡ out.old.items ++ flat_map (λ item. 44 ∷ tag_written item) tags.now) }
+{
+    for item in tags {
+        out.push(b',')?;
+        write_tag(item, out)?;
+    }
+    Ok(())
+}
+
+fn write_tags(tags: &[(Text, Text)], out: &mut Vec<u8>) -> Result<(), AllocError>
+    ensures { OnOk result (out.new.items ≡ out.old.items ++ listed tag_written tags.now) }
+{
+    let [first, rest @ ..] = tags else {
+        return Ok(());
+    };
+    write_tag(first, out)?;
+    write_more_tags(rest, out)?;
+    Ok(())
+}
+
+fn write_ref(id: i64, out: &mut Vec<u8>) -> Result<(), AllocError>
+    ensures { OnOk result (out.new.items ≡ out.old.items ++ ref_written id) }
+{
+    let key = Key {
+        kind: Kind::Node,
+        id,
+    };
+    write_key(key, out)?;
+    Ok(())
+}
+
+fn write_more_refs(refs: &[i64], out: &mut Vec<u8>) -> Result<(), AllocError>
+    ensures { OnOk result (out.new.items ≡ out.old.items ++ flat_map (λ item. 44 ∷ ref_written item) refs.now) }
+{
+    for item in refs {
+        out.push(b',')?;
+        write_ref(*item, out)?;
+    }
+    Ok(())
+}
+
+fn write_refs(refs: &[i64], out: &mut Vec<u8>) -> Result<(), AllocError>
+    ensures { OnOk result (out.new.items ≡ out.old.items ++ listed ref_written refs.now) }
+{
+    let [first, rest @ ..] = refs else {
+        return Ok(());
+    };
+    write_ref(*first, out)?;
+    write_more_refs(rest, out)?;
+    Ok(())
+}
+
+fn write_member(member: &Member, out: &mut Vec<u8>) -> Result<(), AllocError>
+    ensures { OnOk result (out.new.items ≡ out.old.items ++ member_written member.now) }
+{
+    write_key(member.key, out)?;
+    out.push(b'@')?;
+    write_escaped(&member.role, out)?;
+    Ok(())
+}
+
+fn write_more_members(members: &[Member], out: &mut Vec<u8>) -> Result<(), AllocError>
+    ensures { OnOk result (out.new.items ≡ out.old.items ++ flat_map (λ item. 44 ∷ member_written item) members.now) }
+{
+    for item in members {
+        out.push(b',')?;
+        write_member(item, out)?;
+    }
+    Ok(())
+}
+
+fn write_members(members: &[Member], out: &mut Vec<u8>) -> Result<(), AllocError>
+    ensures { OnOk result (out.new.items ≡ out.old.items ++ listed member_written members.now) }
+{
+    let [first, rest @ ..] = members else {
+        return Ok(());
+    };
+    write_member(first, out)?;
+    write_more_members(rest, out)?;
+    Ok(())
+}
+
+fn write_content(content: &Content, out: &mut Vec<u8>) -> Result<(), AllocError>
+    ensures { OnOk result (out.new.items ≡ out.old.items ++ spaced (content_pieces content.now)) }
+{
+    out.extend_from_slice(b" T")?;
+    match content {
+        Content::Node { tags, at } => {
+            write_tags(tags.as_slice(), out)?;
+            write_place(b'x', at.lon, out)?;
+            write_place(b'y', at.lat, out)?;
+        }
+        Content::Way { tags, refs } => {
+            write_tags(tags.as_slice(), out)?;
+            out.extend_from_slice(b" N")?;
+            write_refs(refs.as_slice(), out)?;
+        }
+        Content::Relation { tags, members } => {
+            write_tags(tags.as_slice(), out)?;
+            out.extend_from_slice(b" M")?;
+            write_members(members.as_slice(), out)?;
+        }
+    }
+    Ok(())
+}
+
+fn write_side(kind: Kind, side: Option<&Content>, out: &mut Vec<u8>) -> Result<(), AllocError>
+    ensures { OnOk result (out.new.items ≡ out.old.items ++ spaced (side_pieces kind (option_copied side.entry))) }
+{
+    match (side, kind) {
+        (Some(content), _) => write_content(content, out)?,
+        (None, Kind::Node) => out.extend_from_slice(b" T x y")?,
+        (None, Kind::Way) => out.extend_from_slice(b" T N")?,
+        (None, Kind::Relation) => out.extend_from_slice(b" T M")?,
+    }
+    Ok(())
+}
+
+/// Appends the written form of an object, without LF. A deleted one has no side.
+///
+/// # Errors
+/// Memory ran out; then some of it may have been appended.
+#[tactic(auto, unfolding(crate::specs::Written::written))]
+pub fn write_line(
+    key: Key,
+    version: u32,
+    side: Option<&Content>,
+    meta: &Meta,
+    out: &mut Vec<u8>,
+) -> Result<(), AllocError>
+    ensures written { OnOk result (out.new.items ≡ out.old.items ++ written key version (option_copied side.entry) meta.now) }
+    ensures line { IsOneLine (written key version (option_copied side.entry) meta.now) }
+    // What is written spells the object again.
+    ensures spells { (mode : Mode) → IsWritable key version (option_copied side.entry) meta.now → MayStand mode key (option_copied side.entry) → Spells mode (written key version (option_copied side.entry) meta.now) (object_with key version (option_copied side.entry) meta.now) }
+{
+    write_key(key, out)?;
+    write_front(version, side.is_some(), meta.changeset, out)?;
+    write_back(meta, out)?;
+    write_side(key.kind, side, out)?;
+    Ok(())
+}
