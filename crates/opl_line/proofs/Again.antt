@@ -20,7 +20,7 @@ use Rattle.osm_base.specs.declared.meta.Meta.{Meta}
 use Rattle.osm_base.specs.declared.members.Member.{Member}
 use Rattle.osm_base.specs.declared.content.Content.{Content}
 use Rattle.osm_base.specs.declared.content.Content.TheVariants as content
-use Rattle.opl_text.specs.Plain.{is_plain}
+use Rattle.opl_text.specs.Ends.{ends_nothing}
 use Rattle.opl_text.specs.Text.{unescaped, escaped}
 use Rattle.opl_text.specs.Time.{time_text, time_written}
 use Rattle.opl_line.specs.declared.mode.Mode.{Mode}
@@ -266,7 +266,7 @@ is_low b = nat_le b 32
 low_digits : (b : ℕ) → 48 ≤ b → is_low b ≡ false
 low_digits b h = grind (arith, nat_tests)
 
-plain_high : (b : ℕ) → is_plain b ≡ true → is_low b ≡ false
+plain_high : (b : ℕ) → ends_nothing b ≡ true → is_low b ≡ false
 plain_high b h = grind (arith, nat_tests)
 
 high_decimal : (n : ℕ) → Unbroken is_low (decimal n)
@@ -295,7 +295,7 @@ high_front : (version : ℕ) (visible : Bool) (changeset : ℕ) → AllUnbroken 
 high_front version visible changeset = ((refl, high_decimal version), ((refl, (high_sight visible, tt)), ((refl, high_decimal changeset), tt)))
 
 high_back : (meta : Meta) → AllUnbroken is_low (back_pieces meta)
-high_back meta = ((refl, unbroken_from is_plain is_low (time_written meta.time) plain_high (time_plain meta.time)), ((refl, high_decimal meta.uid), ((refl, high_text meta.user), tt)))
+high_back meta = ((refl, unbroken_from ends_nothing is_low (time_written meta.time) plain_high (time_plain meta.time)), ((refl, high_decimal meta.uid), ((refl, high_text meta.user), tt)))
 
 high_content : (c : Content) → AllUnbroken is_low (content_pieces c)
 high_content (content.Node tags at) = ((refl, unbroken_listed is_low tag_written tags refl high_tag), ((refl, high_coord at.lon), ((refl, high_coord at.lat), tt)))

@@ -17,7 +17,7 @@ use Rattle.osm_base.proofs.KeyLaw.{id_again}
 use Rattle.osm_base.specs.declared.key.Kind.{Kind}
 use Rattle.osm_base.specs.declared.key.Kind.TheVariants.{Node, Way, Relation}
 use Rattle.osm_base.specs.declared.members.Member.{Member}
-use Rattle.opl_text.specs.Plain.{is_plain}
+use Rattle.opl_text.specs.Ends.{ends_nothing}
 use Rattle.opl_text.specs.Text.{escaped}
 use Rattle.opl_line.specs.declared.fault.LineFault.{LineFault}
 use Rattle.opl_line.specs.Reads.{folded}
@@ -36,13 +36,13 @@ pub others_of : {A : Type 0} (P : A → Type 0) (x : A) (xs : List A) → All P 
 others_of P x xs h k d below = h (suc k) d (omega arith)
 
 -- a text has none of these marks
-pub text_unbroken : (ends : ℕ → Bool) (text : List ℕ) → ((b : ℕ) → is_plain b ≡ true → ends b ≡ false) → Unbroken ends (escaped text)
-text_unbroken ends text apart = unbroken_from is_plain ends (escaped text) apart (text_plain text)
+pub text_unbroken : (ends : ℕ → Bool) (text : List ℕ) → ((b : ℕ) → ends_nothing b ≡ true → ends b ≡ false) → Unbroken ends (escaped text)
+text_unbroken ends text apart = unbroken_from ends_nothing ends (escaped text) apart (text_plain text)
 
-no_comma : (b : ℕ) → is_plain b ≡ true → is 44 b ≡ false
+no_comma : (b : ℕ) → ends_nothing b ≡ true → is 44 b ≡ false
 no_comma b h = grind (arith, nat_tests)
 
-no_equals : (b : ℕ) → is_plain b ≡ true → is 61 b ≡ false
+no_equals : (b : ℕ) → ends_nothing b ≡ true → is 61 b ≡ false
 no_equals b h = grind (arith, nat_tests)
 
 -- ---- tags

@@ -7,7 +7,7 @@ use Rattle.std.proofs.lemmas.Bool.Decides.{nat_tests}
 use Rattle.std.specs.Char.{is_ascii_digit, digit_value}
 use Rattle.osm_base.specs.Number.{number_text}
 use Rattle.osm_base.specs.declared.meta.Stamp.{Stamp}
-use Rattle.opl_text.specs.Plain.{is_plain}
+use Rattle.opl_text.specs.Ends.{ends_nothing}
 use Rattle.opl_text.specs.Time.{days_in_month, is_date, is_time, has_marks, parts_of, stamp_text, time_text, last_digit, time_written, IsTime}
 
 -- one digit
@@ -76,11 +76,11 @@ unfolding time_text time_written
 time_again None h = refl
 time_again (Some s) h = ap (λ (o : Option Stamp). option_map (λ (s : Stamp). Some s) o) (stamp_again s h)
 
-digit_plain : (n : ℕ) → is_plain (last_digit n) ≡ true
+digit_plain : (n : ℕ) → ends_nothing (last_digit n) ≡ true
 digit_plain n = let h : n % 10 < 10 = omega arith in grind (arith, nat_tests)
 
 -- What is written has only plain bytes.
-pub time_plain : (time : Option Stamp) → list_all is_plain (time_written time) ≡ true
+pub time_plain : (time : Option Stamp) → list_all ends_nothing (time_written time) ≡ true
 unfolding time_written
 time_plain None = refl
 time_plain (Some s) =

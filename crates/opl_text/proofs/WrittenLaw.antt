@@ -14,8 +14,8 @@ use Rattle.std.proofs.lemmas.List.{append-nil, take_more}
 use lib.Utf8.{scalar, scalars, encode, encodes, low_scalar}
 use Rattle.opl_text.specs.Escape.{Spells, done, raw, escape, is_raw}
 use Rattle.opl_text.specs.Written.{is_escaped, stays, hex_digit, hex_written, spelling}
-use Rattle.opl_text.specs.Extends.{Extends}
-use Rattle.opl_text.specs.Plain.{is_plain}
+use Rattle.osm_base.specs.Extends.{Extends}
+use Rattle.opl_text.specs.Ends.{ends_nothing}
 use Rattle.opl_text.specs.Text.{unescaped, escaped, HasNoZero}
 use Rattle.opl_text.proofs.Bytes.{all_joined, characters_pass, bytes_pass}
 use Rattle.opl_text.proofs.Read.{spelled_text}
@@ -27,7 +27,7 @@ digit_is n = digit_value-digit_char (n % 16) (omega arith)
 digit_fits : (n : ℕ) → digit_value (hex_digit n) < 16
 digit_fits n = omega (arith, digit_is n)
 
-digit_plain : (n : ℕ) → is_plain (hex_digit n) ≡ true
+digit_plain : (n : ℕ) → ends_nothing (hex_digit n) ≡ true
 digit_plain n = let h : n % 16 < 16 = omega arith in grind (arith, nat_tests)
 
 digit_low : (n : ℕ) → hex_digit n < 128
@@ -36,7 +36,7 @@ digit_low n = let h : n % 16 < 16 = omega arith in grind (arith, nat_tests)
 -- Each is the hexadecimal digit of some number.
 pub record AreHex (hex : List ℕ) : Type 0 where
   pub digits : AllDigits 16 hex
-  pub plain : list_all is_plain hex ≡ true
+  pub plain : list_all ends_nothing hex ≡ true
   pub low : list_all is_ascii hex ≡ true
 
 none : AreHex []
@@ -45,7 +45,7 @@ none = record { digits = tt; plain = refl; low = refl }
 more : (n : ℕ) (hex : List ℕ) → AreHex hex → AreHex (hex_digit n ∷ hex)
 more n hex h = record {
   digits = (digit_fits n, h.digits);
-  plain = and_from (is_plain (hex_digit n)) (list_all is_plain hex) (digit_plain n) h.plain;
+  plain = and_from (ends_nothing (hex_digit n)) (list_all ends_nothing hex) (digit_plain n) h.plain;
   low = and_from (is_ascii (hex_digit n)) (list_all is_ascii hex) (lt-ltb (hex_digit n) 128 (digit_low n)) h.low;
 }
 
@@ -146,24 +146,24 @@ text_again text u some =
     spelled_text (encodes (flat_map spelling cs)) text ((flat_map spelling cs, (all, refl)), u, subst (λ (ds : List ℕ). Spells ds cs) (sym (chars-encodes (flat_map spelling cs) all)) spells)
 
 -- What is written has only plain bytes.
-plain_high : (b : ℕ) → 128 ≤ b → is_plain b ≡ true
+plain_high : (b : ℕ) → 128 ≤ b → ends_nothing b ≡ true
 plain_high b h = grind (arith, nat_tests)
 
-unescaped_plain : (c : ℕ) → is_escaped c ≡ false → is_plain c ≡ true
+unescaped_plain : (c : ℕ) → is_escaped c ≡ false → ends_nothing c ≡ true
 unescaped_plain c h = grind (arith, nat_tests)
 
-spelling_plain : (c : ℕ) (b : Bool) → is_escaped c ≡ b → list_all is_plain (spelling c) ≡ true
+spelling_plain : (c : ℕ) (b : Bool) → is_escaped c ≡ b → list_all ends_nothing (spelling c) ≡ true
 unfolding spelling
-spelling_plain c true e = rw e (all_joined is_plain (hex_written c) (37 ∷ []) (hex_is c).are.plain refl)
-spelling_plain c false e = rw e (and_from (is_plain c) true (unescaped_plain c e) refl)
+spelling_plain c true e = rw e (all_joined ends_nothing (hex_written c) (37 ∷ []) (hex_is c).are.plain refl)
+spelling_plain c false e = rw e (and_from (ends_nothing c) true (unescaped_plain c e) refl)
 
-spellings_plain : (cs : List ℕ) → list_all is_plain (flat_map spelling cs) ≡ true
+spellings_plain : (cs : List ℕ) → list_all ends_nothing (flat_map spelling cs) ≡ true
 spellings_plain [] = refl
-spellings_plain (c ∷ cs) = all_joined is_plain (spelling c) (flat_map spelling cs) (spelling_plain c (is_escaped c) refl) (spellings_plain cs)
+spellings_plain (c ∷ cs) = all_joined ends_nothing (spelling c) (flat_map spelling cs) (spelling_plain c (is_escaped c) refl) (spellings_plain cs)
 
-pub text_plain : (text : List ℕ) → list_all is_plain (escaped text) ≡ true
+pub text_plain : (text : List ℕ) → list_all ends_nothing (escaped text) ≡ true
 unfolding escaped
-text_plain text = bytes_pass is_plain plain_high (flat_map spelling (chars text)) (spellings_plain (chars text))
+text_plain text = bytes_pass ends_nothing plain_high (flat_map spelling (chars text)) (spellings_plain (chars text))
 
 -- A text of which each byte stays is its written form.
 stay_spelled : (cs : List ℕ) → list_all stays cs ≡ true → (flat_map spelling cs ≡ cs) × (list_all is_ascii cs ≡ true)

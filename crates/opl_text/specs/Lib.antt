@@ -1,6 +1,5 @@
 pub mod Escape
 pub mod Written
-pub mod Plain
-pub mod Extends
+pub mod Ends
 pub mod Text
 pub mod Time

@@ -4,8 +4,8 @@ ghost use Rattle.std.specs.Prelude.{◌≡◌, ◌++◌, ℕ, List, OnOk, OnErr,
 ghost use Rattle.std.specs.List.{list_all};
 ghost use Rattle.opl_text.specs.Escape.{is_raw};
 ghost use Rattle.opl_text.specs.Written.{stays};
-ghost use Rattle.opl_text.specs.Extends.{Extends};
-ghost use Rattle.opl_text.specs.Plain.{is_plain};
+ghost use Rattle.osm_base.specs.Extends.{Extends};
+ghost use Rattle.opl_text.specs.Ends.{ends_nothing};
 ghost use Rattle.opl_text.specs.Text.{unescaped, escaped, GivesText, SpellsText, HasNoZero};
 
 use crate::escape::{is_raw, unescape};
@@ -61,7 +61,7 @@ pub fn write_escaped(text: &Text, out: &mut Vec<u8>) -> Result<(), AllocError>
     // What is written spells the text, where it has no U+0000.
     ensures law { HasNoZero text.now → unescaped (escaped text.now) ≡ Some text.now }
     // No byte of it ends a field, an item, a key, a value or a member.
-    ensures plain { list_all is_plain (escaped text.now) ≡ true }
+    ensures plain { list_all ends_nothing (escaped text.now) ≡ true }
 {
     if all_stay(text.as_bytes()) {
         out.extend_from_slice(text.as_bytes())?;

@@ -2,7 +2,7 @@
 
 ghost use Rattle.std.specs.Prelude.{◌≡◌, ◌++◌, ◌≤◌, OnOk, OnErr, Some, true, IfOk, IfSome, length};
 ghost use Rattle.std.specs.List.{list_all};
-ghost use Rattle.opl_text.specs.Plain.{is_plain};
+ghost use Rattle.opl_text.specs.Ends.{ends_nothing};
 ghost use Rattle.opl_text.specs.Time.{time_text, stamp_text, parts_of, has_marks, is_time, is_date, time_written, last_digit, IsShort, GivesTime, IsTime};
 
 use jiff::civil::Date;
@@ -123,7 +123,7 @@ pub fn write_time(time: Option<Stamp>, out: &mut Vec<u8>) -> Result<(), AllocErr
     // What is written spells the time, where a time text can name it.
     ensures law { IsTime time → time_text (time_written time) ≡ Some time }
     // No byte of it ends a field or an item.
-    ensures plain { list_all is_plain (time_written time) ≡ true }
+    ensures plain { list_all ends_nothing (time_written time) ≡ true }
 {
     if let Some(stamp) = time {
         write_stamp(stamp, out)?;

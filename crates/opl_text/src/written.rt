@@ -2,7 +2,7 @@
 
 ghost use Rattle.std.specs.Prelude.{◌≡◌, ◌++◌, ◌∷◌, [], OnOk, OnErr};
 ghost use Rattle.std.specs.Str.{encode_utf8_all};
-ghost use Rattle.opl_text.specs.Extends.{Extends};
+ghost use Rattle.osm_base.specs.Extends.{Extends};
 ghost use Rattle.opl_text.specs.Text.{escaped};
 ghost use Rattle.opl_text.specs.Written.{is_escaped, stays, hex_digit, hex_written, spelling};
 
