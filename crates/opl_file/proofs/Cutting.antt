@@ -1,0 +1,60 @@
+-- Bytes without an LF before the bytes of a file.
+use Rattle.std.proofs.Common.{◌≡◌, ◌≢◌, ℕ, zero, suc, ◌+◌, ◌<◌, ◌≤◌, Bool, true, false, ◌==◌, ◌||◌, cond, List, [], ◌∷◌, ◌++◌, take, drop, length, slice_index, refl, sym, ap, ◌∙◌, append-nil, append_assoc, arith, rules}
+use Rattle.opl_file.specs.Cut.{Cut, has_lf, behind, cut, last_line, lines_of}
+
+either_false : (a b : Bool) → (a || b) ≡ false → (a ≡ false) × (b ≡ false)
+either_false true b e = cc
+either_false false b e = (refl, e)
+
+not_true : (b : Bool) → ¬ (b ≡ true) → b ≡ false
+not_true true h = absurd (h refl)
+not_true false h = refl
+
+-- bytes without an LF belong to the first line of what follows
+unfoldable pub glued : List ℕ → List (List ℕ) → List ℕ → Cut
+glued front [] rest = record { ended = []; rest = front ++ rest }
+glued front (line ∷ lines) rest = record { ended = (front ++ line) ∷ lines; rest = rest }
+
+glued-nil : (lines : List (List ℕ)) (rest : List ℕ) → glued [] lines rest ≡ record { ended = lines; rest = rest }
+unfolding glued
+glued-nil [] rest = refl
+glued-nil (line ∷ lines) rest = refl
+
+glued-cons : (byte : ℕ) (front : List ℕ) (lines : List (List ℕ)) (rest : List ℕ) → behind byte (glued front lines rest).ended (glued front lines rest).rest ≡ glued (byte ∷ front) lines rest
+unfolding glued
+glued-cons byte front [] rest = refl
+glued-cons byte front (line ∷ lines) rest = refl
+
+cut-step : (byte : ℕ) (bytes : List ℕ) → (byte == 10) ≡ false → cut (byte ∷ bytes) ≡ behind byte (cut bytes).ended (cut bytes).rest
+cut-step byte bytes plain = rw plain refl
+
+pub cut-front : (front bytes : List ℕ) → has_lf front ≡ false → cut (front ++ bytes) ≡ glued front (cut bytes).ended (cut bytes).rest
+cut-front [] bytes plain = sym (glued-nil (cut bytes).ended (cut bytes).rest)
+cut-front (byte ∷ front) bytes plain =
+    let parts = either_false (byte == 10) (has_lf front) plain in
+    cut-step byte (front ++ bytes) parts.0
+    ∙ ap (λ (c : Cut). behind byte c.ended c.rest) (cut-front front bytes parts.1)
+    ∙ glued-cons byte front (cut bytes).ended (cut bytes).rest
+
+-- an LF ends the line before it
+pub cut-line : (front bytes : List ℕ) → has_lf front ≡ false → cut (front ++ 10 ∷ bytes) ≡ record { ended = front ∷ (cut bytes).ended; rest = (cut bytes).rest }
+unfolding glued
+cut-line front bytes plain = cut-front front (10 ∷ bytes) plain ∙ ap (λ (line : List ℕ). record { ended = line ∷ (cut bytes).ended; rest = (cut bytes).rest }) (append-nil front)
+
+-- without an LF no line is ended
+pub cut-plain : (front : List ℕ) → has_lf front ≡ false → cut front ≡ record { ended = []; rest = front }
+unfolding glued
+cut-plain front plain = ap cut (sym (append-nil front)) ∙ cut-front front [] plain ∙ ap (λ (rest : List ℕ). record { ended = []; rest = rest }) (append-nil front)
+
+-- Two fronts without an LF are one.
+pub both_plain : (xs ys : List ℕ) → has_lf xs ≡ false → has_lf ys ≡ false → has_lf (xs ++ ys) ≡ false
+both_plain [] ys plain none = none
+both_plain (x ∷ xs) ys plain none =
+    let parts = either_false (x == 10) (has_lf xs) plain in
+    rw (parts.0, both_plain xs ys parts.1 none) refl
+
+-- where no byte below a place is an LF, none is among those before it
+pub plain_below : (bytes : List ℕ) (n : ℕ) → n ≤ length bytes → ((k : ℕ) → 0 ≤ k → k < n → ¬ ((slice_index bytes k == 10) ≡ true)) → has_lf (take n bytes) ≡ false
+plain_below bytes zero le none = refl
+plain_below [] (suc n) le none = absurd (omega arith)
+plain_below (byte ∷ bytes) (suc n) le none = rw (not_true (byte == 10) (none 0 (omega arith) (omega arith)), plain_below bytes n (omega arith) (λ k low high. none (suc k) (omega arith) (omega arith))) refl

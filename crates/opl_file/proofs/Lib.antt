@@ -1,0 +1,4 @@
+pub mod Cutting
+pub mod Keys
+pub mod Room
+pub mod Steps

@@ -1,0 +1,6 @@
+pub mod Cut
+pub mod Objects
+pub mod Reading
+pub mod Answers
+pub mod Feeding
+pub mod Pieces

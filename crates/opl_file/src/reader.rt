@@ -1,0 +1,244 @@
+//! A file, read in pieces.
+ghost use Rattle.std.specs.Prelude.{◌+◌, ◌^◌, ◌<◌, vec_len};
+
+use crate::lines::Lines;
+use crate::{FileAnswer, FileFault, Objects};
+use opl_line::Mode;
+use std::alloc::{AllocError, Global};
+
+/// Reads a file's objects from its bytes as they come.
+#[derive(Debug, Drop)]
+pub struct Reader {
+    lines: Lines,
+    // how many bytes may still come
+    room: u64,
+    too_long: bool,
+    failed: bool,
+    ghost counted: { lines.count + vec_len lines.unfinished + room < 2 ^ 64 },
+}
+
+impl Reader {
+    ghost use Rattle.std.specs.Prelude.{◌≡◌, ◌++◌, [], List, ℕ, Ok, Err, true, false, is_err, OnOk, IsErr, IfSome, MatchResult};
+    ghost use Rattle.opl_file.specs.Reading.{objects_of, finished_of};
+    ghost use Rattle.opl_file.specs.Answers.{Refuses};
+    ghost use Rattle.opl_file.specs.Feeding.{reads_on, lends_on, has_failed};
+
+    /// A reader for a file of at most `limit` bytes.
+    #[tactic(auto, unfolding(crate::specs::Feeding::reads_on, crate::specs::Feeding::lends_on, crate::specs::Feeding::has_failed, crate::specs::Reading::objects_of, crate::specs::Reading::finished_of))]
+    pub fn new(alloc: Global, mode: Mode, limit: u64) -> Reader
+        ensures reads { (bytes : List ℕ) → reads_on result bytes ≡ objects_of mode limit bytes }
+        ensures lends { (bytes : List ℕ) → lends_on result bytes ≡ finished_of mode limit bytes }
+        ensures failed { has_failed result ≡ false }
+    {
+        Reader {
+            lines: Lines::new(alloc, mode),
+            room: limit,
+            too_long: false,
+            failed: false,
+        }
+    }
+
+    /// Takes the next bytes of the file. How a file is cut into pieces plays no part. It costs
+    /// what the bytes cost; after the first bad line they are only counted.
+    ///
+    /// # Errors
+    ///
+    /// Want of memory, and from then on each call answers that.
+    #[tactic(auto, unfolding(crate::specs::Feeding::has_failed))]
+    pub fn feed(&mut self, piece: &[u8]) -> Result<(), AllocError>
+        ensures reads { OnOk result ((more : List ℕ) → reads_on self.new more ≡ reads_on self.old (piece.now ++ more)) }
+        ensures lends { OnOk result ((more : List ℕ) → lends_on self.new more ≡ lends_on self.old (piece.now ++ more)) }
+        ensures failed { has_failed self.new ≡ is_err result }
+        ensures stays { has_failed self.old ≡ true → IsErr result }
+    {
+        if self.failed {
+            return Err(AllocError);
+        }
+        let answer = self.take(piece);
+        self.failed = answer.is_err();
+        answer
+    }
+
+    // Counts the bytes, and takes them in while the file isn't too long.
+    fn take(&mut self, piece: &[u8]) -> Result<(), AllocError>
+        ensures reads { OnOk result ((more : List ℕ) → reads_on self.new more ≡ reads_on self.old (piece.now ++ more)) }
+        ensures lends { OnOk result ((more : List ℕ) → lends_on self.new more ≡ lends_on self.old (piece.now ++ more)) }
+    {
+        if self.too_long {
+            return Ok(());
+        }
+        let length = piece.len() as u64;
+        if self.room < length {
+            self.too_long = true;
+            return Ok(());
+        }
+        self.room -= length;
+        self.lines.take(piece)?;
+        Ok(())
+    }
+
+    /// The objects of the lines that stand before the first bad one and whose LF was fed. It
+    /// takes no memory. Of a file that is too long, and after want of memory, it tells nothing.
+    #[tactic(auto, unfolding(crate::specs::Feeding::lends_on))]
+    pub fn so_far(&self) -> &Objects
+        ensures { IfSome (lends_on self.now []) (λ objects. result.now ≡ objects) }
+    {
+        self.lines.so_far()
+    }
+
+    /// The objects of the whole file in order.
+    ///
+    /// # Errors
+    ///
+    /// [`FileFault::FileTooLong`] where more than `limit` bytes were fed, else the fault of the
+    /// first bad line; or want of memory.
+    #[tactic(auto, unfolding(crate::specs::Feeding::reads_on, crate::specs::Feeding::has_failed))]
+    pub fn finish(self) -> Result<Objects, FileAnswer>
+        ensures read { MatchResult result (λ objects. reads_on self [] ≡ Ok objects) (Refuses (reads_on self [])) }
+        ensures failed { has_failed self ≡ true → result ≡ Err FileAnswer.Memory }
+    {
+        if self.failed {
+            return Err(FileAnswer::Memory);
+        }
+        if self.too_long {
+            return Err(FileAnswer::Bad(FileFault::FileTooLong));
+        }
+        self.lines.finish()
+    }
+}
+
+#[cfg(test)]
+mod tests {
+    use super::*;
+    use opl_line::LineFault;
+    use osm_base::{Key, Kind};
+    use std::test::Fail;
+
+    // What a file gives that comes in pieces of at most `step` bytes: its fault, if it has one.
+    fn fault_of(
+        alloc: Global,
+        text: &str,
+        limit: u64,
+        step: usize,
+    ) -> Result<Option<FileFault>, AllocError>
+        requires { 0 < step }
+    {
+        let mut reader = Reader::new(alloc, Mode::Download, limit);
+        for piece in text.as_bytes().chunks(step) {
+            reader.feed(piece)?;
+        }
+        match reader.finish() {
+            Ok(_) => Ok(None),
+            Err(FileAnswer::Bad(fault)) => Ok(Some(fault)),
+            Err(FileAnswer::Memory) => Err(AllocError),
+        }
+    }
+
+    #[test]
+    fn first_fault_decides(rt: HostRuntime) -> Result<(), Fail> {
+        let twice = Some(FileFault::Twice { line: 2 });
+        let bad = |line: u64, fault: LineFault| Some(FileFault::Line { line, fault });
+        for (text, limit, want) in [
+            ("", 0, None),
+            ("n1 v1 x0 y0", 11, None),
+            ("n1 v1 x0 y0", 10, Some(FileFault::FileTooLong)),
+            ("n1 v1 x0 y0\nn1 v1 x0 y0\n", 25, twice),
+            ("n1 v1 x0 y0\nn1 v1 x0 y0\n", 24, twice),
+            (
+                "n1 v1 x0 y0\nn1 v1 x0 y0\n",
+                23,
+                Some(FileFault::FileTooLong),
+            ),
+            ("n1 v1 x0 y0\nn1 x0 y0", 99, bad(2, LineFault::NoVersion)),
+            (
+                "\n# a comment\nn1 v1 x0\nq",
+                99,
+                bad(3, LineFault::NoLocation),
+            ),
+            ("q\nn1 v1 x0 y0\n", 14, bad(1, LineFault::BadStart)),
+            ("q\nn1 v1 x0 y0\n", 13, Some(FileFault::FileTooLong)),
+        ] {
+            for step in [1, 5, 99] {
+                assert_eq!(rt;
+                    fault_of(rt.alloc(), text, limit, step)?,
+                    want,
+                    "{text}, {step} bytes a piece"
+                );
+            }
+        }
+        Ok(())
+    }
+
+    #[test]
+    fn any_cut_gives_the_same_objects(rt: HostRuntime) -> Result<(), Fail> {
+        let file = b"n1 v1 x0 y0\r\n\n# end\nw5 v2 Nn1\nr7 v1 dD";
+        for cut in 0..=file.len() {
+            let mut reader = Reader::new(rt.alloc(), Mode::Download, 38);
+            reader.feed(&file[..cut])?;
+            let finished = if cut < 13 {
+                0
+            } else if cut < 30 {
+                1
+            } else {
+                2
+            };
+            assert_eq!(rt; reader.so_far().len(), finished, "cut at {cut}");
+            reader.feed(&file[cut..])?;
+            let Ok(objects) = reader.finish() else {
+                assert!(rt; false, "cut at {cut}");
+                return Ok(());
+            };
+            assert_eq!(rt; objects.len(), 3, "cut at {cut}");
+            assert_eq!(rt;
+                objects.at(0).key,
+                Key {
+                    kind: Kind::Node,
+                    id: 1
+                },
+                "cut at {cut}"
+            );
+            assert_eq!(rt;
+                objects.at(1).key,
+                Key {
+                    kind: Kind::Way,
+                    id: 5
+                },
+                "cut at {cut}"
+            );
+            assert_eq!(rt;
+                objects.at(2).key,
+                Key {
+                    kind: Kind::Relation,
+                    id: 7
+                },
+                "cut at {cut}"
+            );
+        }
+        Ok(())
+    }
+
+    // A comment of 256 pieces of 65,536 bytes is a line of 16,777,216 bytes.
+    #[test]
+    fn line_has_at_most_its_limit(rt: HostRuntime) -> Result<(), Fail> {
+        let piece = [b'#'; 65_536];
+        for (end, want) in [
+            ("", None),
+            ("\n", None),
+            ("#", Some(FileFault::LineTooLong { line: 1 })),
+            ("#\n", Some(FileFault::LineTooLong { line: 1 })),
+        ] {
+            let mut reader = Reader::new(rt.alloc(), Mode::Import, 20_000_000);
+            for _ in 0..256 {
+                reader.feed(&piece)?;
+            }
+            reader.feed(end.as_bytes())?;
+            let fault = match reader.finish() {
+                Ok(_) => None,
+                Err(FileAnswer::Bad(fault)) => Some(fault),
+                Err(FileAnswer::Memory) => return Err(Fail::from(AllocError)),
+            };
+            assert_eq!(rt; fault, want, "{end:?}");
+        }
+        Ok(())
+    }
+}
