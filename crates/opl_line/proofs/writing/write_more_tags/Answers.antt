@@ -1,0 +1,6 @@
+use Rattle.osm_base.proofs.ExtendLaws.{extends_more, failed_after}
+use Rattle.opl_line.proofs.writing.write_more_tags.Goals as goal
+
+pub returns-in_err-write_tag-clause-kept : goal.returns-in_err-write_tag-clause-kept
+returns-in_err-write_tag-clause-kept c =
+    failed_after c.from_residual-in_err-write_tag.result _ _ _ _ c.loop-item.invariant (extends_more _ _ _ _ c.in_ok-push.ensures.items c.in_err-write_tag.ensures.kept)
