@@ -1,0 +1,6 @@
+pub mod Cutting
+pub mod Acts
+pub mod Clashes
+pub mod Fed
+pub mod Pieces
+pub mod Steps

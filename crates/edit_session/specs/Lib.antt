@@ -1,0 +1,15 @@
+pub mod Counted
+pub mod Fetch
+pub mod Limits
+pub mod Lines
+pub mod Load
+pub mod Printed
+pub mod Reply
+pub mod Script
+pub mod ScriptErrors
+pub mod Send
+pub mod Session
+pub mod Stop
+pub mod StatusText
+pub mod StopStatus
+pub mod Take

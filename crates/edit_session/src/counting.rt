@@ -1,0 +1,190 @@
+//! The text of `count`.
+ghost use Rattle.std.specs.Prelude.{◌≡◌, ◌++◌, ◌<◌, ◌^◌, OnOk, length};
+ghost use Rattle.osm_table.specs.Table.{is_living};
+ghost use Rattle.edit_session.specs.Counted.{count_text, counts_text, kinds_text, states_text, counts_among, part, with_one, with_key, HasRoom, is_node, is_way, is_relation, is_incomplete, is_deleted, is_in_conflict};
+
+use osm_base::{Key, Kind, write_digits};
+use osm_table::{Entry, Table};
+use std::alloc::AllocError;
+
+/// How many entries of a table are so.
+#[derive(Clone, Copy, Debug, PartialEq, Eq)]
+pub struct Counts {
+    /// Living nodes.
+    pub nodes: u64,
+
+    /// Living ways.
+    pub ways: u64,
+
+    /// Living relations.
+    pub relations: u64,
+
+    /// Keys of which nothing more is known.
+    pub incomplete: u64,
+
+    /// Known objects that aren't living.
+    pub deleted: u64,
+
+    /// Objects that differ from what a server has.
+    pub changed: u64,
+
+    /// Objects in conflict.
+    pub conflicts: u64,
+}
+
+/// Appends the text of `count`, one line. It sorts the keys once.
+///
+/// # Errors
+/// No memory was left.
+pub fn write_count(table: &Table, out: &mut Vec<u8>) -> Result<(), AllocError>
+    ensures { OnOk result (out.new.items ≡ out.old.items ++ count_text table.now) }
+{
+    let keys = table.ordered()?;
+    write_counts(counts_among(table, keys.as_slice()), out)
+}
+
+fn write_counts(counts: Counts, out: &mut Vec<u8>) -> Result<(), AllocError>
+    ensures { OnOk result (out.new.items ≡ out.old.items ++ counts_text counts) }
+{
+    write_kinds(counts, out)?;
+    write_states(counts, out)?;
+    Ok(())
+}
+
+fn write_kinds(counts: Counts, out: &mut Vec<u8>) -> Result<(), AllocError>
+    ensures { OnOk result (out.new.items ≡ out.old.items ++ kinds_text counts) }
+{
+    write_part(b"count nodes ", counts.nodes, out)?;
+    write_part(b" ways ", counts.ways, out)?;
+    write_part(b" relations ", counts.relations, out)?;
+    Ok(())
+}
+
+fn write_states(counts: Counts, out: &mut Vec<u8>) -> Result<(), AllocError>
+    ensures { OnOk result (out.new.items ≡ out.old.items ++ states_text counts) }
+{
+    write_part(b" incomplete ", counts.incomplete, out)?;
+    write_part(b" deleted ", counts.deleted, out)?;
+    write_part(b" changed ", counts.changed, out)?;
+    write_part(b" conflicts ", counts.conflicts, out)?;
+    out.push(b'\n')?;
+    Ok(())
+}
+
+#[tactic(auto, unfolding(crate::specs::Counted::part))]
+fn write_part(name: &[u8], count: u64, out: &mut Vec<u8>) -> Result<(), AllocError>
+    ensures { OnOk result (out.new.items ≡ out.old.items ++ part name.now count) }
+{
+    out.extend_from_slice(name)?;
+    write_digits(count, out)
+}
+
+fn counts_among(table: &Table, keys: &[Key]) -> Counts
+    ensures { result ≡ counts_among table.now keys.now }
+{
+    let mut counts = Counts {
+        nodes: 0,
+        ways: 0,
+        relations: 0,
+        incomplete: 0,
+        deleted: 0,
+        changed: 0,
+        conflicts: 0,
+    };
+    for key in keys {
+        counts = counts.with_key(table, *key);
+    }
+    counts
+}
+
+impl Counts {
+    // The counts with the entry of one key more.
+    fn with_key(self, table: &Table, key: Key) -> Counts
+        requires room { HasRoom self }
+        ensures { result ≡ with_key self table.now key }
+    {
+        match table.get(key) {
+            None => self,
+            Some(entry) => self.with_one(key.kind, entry),
+        }
+    }
+
+    fn with_one(self, kind: Kind, entry: &Entry) -> Counts
+        requires room { HasRoom self }
+        ensures { result ≡ with_one self kind entry.now }
+    {
+        let living = is_living(entry);
+        Counts {
+            nodes: self.nodes + u64::from(living && is_node(kind)),
+            ways: self.ways + u64::from(living && is_way(kind)),
+            relations: self.relations + u64::from(living && is_relation(kind)),
+            incomplete: self.incomplete + u64::from(is_incomplete(entry)),
+            deleted: self.deleted + u64::from(is_deleted(entry)),
+            changed: self.changed + u64::from(entry.is_changed()),
+            conflicts: self.conflicts + u64::from(is_in_conflict(entry)),
+        }
+    }
+}
+
+fn is_node(kind: Kind) -> bool
+    ensures { result ≡ is_node kind }
+{
+    match kind {
+        Kind::Node => true,
+        Kind::Way | Kind::Relation => false,
+    }
+}
+
+fn is_way(kind: Kind) -> bool
+    ensures { result ≡ is_way kind }
+{
+    match kind {
+        Kind::Way => true,
+        Kind::Node | Kind::Relation => false,
+    }
+}
+
+fn is_relation(kind: Kind) -> bool
+    ensures { result ≡ is_relation kind }
+{
+    match kind {
+        Kind::Relation => true,
+        Kind::Node | Kind::Way => false,
+    }
+}
+
+fn is_living(entry: &Entry) -> bool
+    ensures { result ≡ is_living entry.now }
+{
+    match entry {
+        Entry::Incomplete => false,
+        Entry::Known { mine, .. } => mine.is_some(),
+    }
+}
+
+fn is_incomplete(entry: &Entry) -> bool
+    ensures { result ≡ is_incomplete entry.now }
+{
+    match entry {
+        Entry::Incomplete => true,
+        Entry::Known { .. } => false,
+    }
+}
+
+fn is_deleted(entry: &Entry) -> bool
+    ensures { result ≡ is_deleted entry.now }
+{
+    match entry {
+        Entry::Incomplete => false,
+        Entry::Known { mine, .. } => mine.is_none(),
+    }
+}
+
+fn is_in_conflict(entry: &Entry) -> bool
+    ensures { result ≡ is_in_conflict entry.now }
+{
+    match entry {
+        Entry::Incomplete => false,
+        Entry::Known { conflict, .. } => conflict.is_some(),
+    }
+}

@@ -1,0 +1,91 @@
+//! The text of `print`.
+ghost use Rattle.std.specs.Prelude.{◌≡◌, ◌++◌, OnOk};
+ghost use Rattle.osm_base.specs.Meta.{empty_meta};
+ghost use Rattle.osm_table.specs.Table.{version_of};
+ghost use Rattle.edit_session.specs.Printed.{known_text, entry_text, entries_text, table_text, meta_of};
+
+use opl_line::write_line;
+use osm_base::{Content, Key, Meta};
+use osm_table::{Base, Entry, Table};
+use std::alloc::AllocError;
+
+/// Appends the text of `print`: each known object by rank in its written form, a line each. It sorts the keys once.
+///
+/// # Errors
+/// No memory was left.
+pub fn write_table(table: &Table, out: &mut Vec<u8>) -> Result<(), AllocError>
+    ensures { OnOk result (out.new.items ≡ out.old.items ++ table_text table.now) }
+{
+    let unknown = Meta::empty(*out.allocator())?;
+    let keys = table.ordered()?;
+    write_entries(table, keys.as_slice(), &unknown, out)?;
+    Ok(())
+}
+
+fn write_entries(
+    table: &Table,
+    keys: &[Key],
+    unknown: &Meta,
+    out: &mut Vec<u8>,
+) -> Result<(), AllocError>
+    requires { unknown.now ≡ empty_meta }
+    ensures { OnOk result (out.new.items ≡ out.old.items ++ entries_text table.now keys.now) }
+{
+    for key in keys {
+        write_entry(table, *key, unknown, out)?;
+    }
+    Ok(())
+}
+
+/// Appends the line of the object with that key, and nothing where it isn't known.
+pub fn write_entry(
+    table: &Table,
+    key: Key,
+    unknown: &Meta,
+    out: &mut Vec<u8>,
+) -> Result<(), AllocError>
+    requires { unknown.now ≡ empty_meta }
+    ensures { OnOk result (out.new.items ≡ out.old.items ++ entry_text table.now key) }
+{
+    match table.get(key) {
+        Some(Entry::Known { base, mine, .. }) => write_known(key, base, mine, unknown, out),
+        _ => Ok(()),
+    }
+}
+
+fn write_known(
+    key: Key,
+    base: &Base,
+    mine: &Option<Content>,
+    unknown: &Meta,
+    out: &mut Vec<u8>,
+) -> Result<(), AllocError>
+    requires { unknown.now ≡ empty_meta }
+    ensures { OnOk result (out.new.items ≡ out.old.items ++ known_text key base.now mine.now) }
+{
+    let meta = meta_of(base, unknown);
+    write_line(key, version_of(base), mine.as_ref(), meta, out)?;
+    out.push(b'\n')?;
+    Ok(())
+}
+
+// The version of a base, 0 where no server has the object.
+fn version_of(base: &Base) -> u32
+    ensures { result ≡ version_of base.now }
+{
+    match base {
+        Base::New => 0,
+        Base::Live { version, .. } | Base::Gone { version, .. } => *version,
+    }
+}
+
+// The metadata of a base, the empty ones where no server has the object.
+fn meta_of<'a>(base: &'a Base, unknown: &'a Meta) -> &'a Meta
+    requires { unknown.now ≡ empty_meta }
+    ensures { result.now ≡ meta_of base.now }
+{
+    match base {
+        Base::New => unknown,
+        Base::Live { meta, .. } | Base::Gone { meta, .. } => meta,
+    }
+}
