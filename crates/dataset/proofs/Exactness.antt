@@ -1,0 +1,141 @@
+-- The index is exact after a patch, if the pairs of one side go and those of the other come.
+use Rattle.std.proofs.Common.{◌≡◌, ◌≢◌, ℕ, ℤ, not, ◌+◌, ◌≤◌, ◌&&◌, Bool, true, false, cond, Option, Some, None, List, [], ◌∷◌, ◌++◌, map, refl, sym, ◌∙◌, ap, subst, arith}
+use Rattle.std.specs.Option.{option_map_or, unwrap_or}
+use Rattle.std.specs.Prelude.{T}
+use Rattle.std.specs.List.{count_by, sum_by}
+use Rattle.std.proofs.lemmas.List.Sums.{sum_by-cons, sum_by-append}
+use Rattle.std.specs.FinMap as fin
+use Rattle.osm_base.specs.Rank.{rank_cmp, is_key}
+use Rattle.osm_base.specs.Content.{node, refs_of}
+use Rattle.osm_base.proofs.SameLaws.{same_refs_decides, same_members_decides}
+use Rattle.osm_base.specs.declared.key.Key.{Key}
+use Rattle.osm_base.specs.declared.members.Member.{Member}
+use Rattle.osm_base.specs.declared.content.Content.{Content}
+use Rattle.osm_base.specs.declared.content.Content.TheVariants.{Node, Way, Relation}
+use Rattle.osm_table.specs.declared.entry.Entry.{Entry}
+use Rattle.osm_table.specs.Table.{TableValue, entry_of}
+use Rattle.ref_index.specs.declared.pair.Pair.{Pair}
+use Rattle.ref_index.specs.Bag.{Bag, count, times, is_pair, pair_cmp}
+use Rattle.ref_index.proofs.Agreement.{pair_parts}
+use Rattle.dataset.specs.declared.edit.Edit.{Edit}
+use Rattle.dataset.specs.Patch.{Entries, PatchValue, in_order, edit_at, edited}
+use Rattle.dataset.specs.Exact.{mine_at, refs_at, times_key, IsExact, pairs_of, pairs_by, moved_pairs, keeps_refs, same_lists}
+use Rattle.dataset.specs.Writes.{side}
+use Rattle.osm_base.proofs.RisingKeys.{one_key}
+use Rattle.dataset.proofs.Looked.{get_edited, found, found_key, tail_none, tail_order}
+use Rattle.dataset.proofs.Laws.{by_edit}
+
+count_step : (a b : Bool) (n m : ℕ) → n ≡ cond b m 0 → cond (a && b) 1 0 + n ≡ cond b (cond a 1 0 + m) 0
+count_step true true n m e = ap (λ x. 1 + x) e
+count_step true false n m e = let z : n ≡ 0 = e in omega arith
+count_step false true n m e = ap (λ x. 0 + x) e
+count_step false false n m e = let z : n ≡ 0 = e in omega arith
+
+no_pairs : (b : Bool) → ◌≡◌ {A = ℕ} 0 (cond b 0 0)
+no_pairs true = refl
+no_pairs false = refl
+
+-- a pair is among the pairs of one user only where it is that user's
+listed_pairs : (of user key : Key) (ks : List Key) → times (record { of = of; user = user }) (map (λ k. record { of = k; user = key }) ks) ≡ cond (is_key user key) (times_key of ks) 0
+listed_pairs of user key [] = no_pairs (is_key user key)
+listed_pairs of user key (k ∷ ks) =
+    sum_by-cons (λ (p : Pair). cond (is_pair (record { of = of; user = user }) p) 1 0) (record { of = k; user = key }) (map (λ k. record { of = k; user = key }) ks)
+    ∙ ap (λ b. cond b 1 0 + times (record { of = of; user = user }) (map (λ k. record { of = k; user = key }) ks)) (pair_parts (record { of = of; user = user }) (record { of = k; user = key }))
+    ∙ count_step (is_key of k) (is_key user key) _ (times_key of ks) (listed_pairs of user key ks)
+    ∙ ap (λ n. cond (is_key user key) n 0) (sym (sum_by-cons (λ (j : Key). cond (is_key of j) 1 0) k ks))
+
+moved_case : (b k : Bool) (p : Pair) (ps : List Pair) (n : ℕ) → times p ps ≡ cond k n 0 → times p (cond b [] ps) ≡ cond k (cond b 0 n) 0
+moved_case true k p ps n e = no_pairs k
+moved_case false k p ps n e = e
+
+-- how often an edit's user refers to a key by one side of it, if its references move
+abbrev pub times_moved : (Edit → Option Entry) → Key → Edit → ℕ
+times_moved side of e = cond (keeps_refs e) 0 (times_key of (refs_at (side e)))
+
+edit_step : (b : Bool) (a n : ℕ) (e : Edit) (o : Option Edit) (f : Edit → ℕ) → f e ≡ a → (b ≡ true → o ≡ None) → n ≡ option_map_or f o 0 → cond b a 0 + n ≡ option_map_or f (cond b (Some e) o) 0
+edit_step true a n e o f is none h = let z : n ≡ 0 = h ∙ ap (λ (x : Option Edit). option_map_or f x 0) (none refl) in omega (arith, is)
+edit_step false a n e o f is none h = let z : 0 + n ≡ n = omega arith in z ∙ h
+
+-- how often a pair is among those of edits in order: as in the edit of its user
+pub times_by : (side : Edit → Option Entry) (es : List Edit) (of user : Key) → T (in_order es) → times (record { of = of; user = user }) (pairs_by side es) ≡ option_map_or (times_moved side of) (edit_at user es) 0
+times_by side [] of user h = refl
+times_by side (e ∷ es) of user h =
+    sum_by-append (λ (p : Pair). cond (is_pair (record { of = of; user = user }) p) 1 0) (moved_pairs side e) (pairs_by side es)
+    ∙ ap (λ n. n + times (record { of = of; user = user }) (pairs_by side es)) (moved_case (keeps_refs e) (is_key user e.key) (record { of = of; user = user }) (pairs_of e.key (side e)) _ (listed_pairs of user e.key (refs_at (side e))))
+    ∙ edit_step (is_key user e.key) (times_moved side of e) _ e (edit_at user es) (times_moved side of) refl
+    (λ t. ap (λ (k : Key). edit_at k es) (one_key user e.key t) ∙ tail_none e es h)
+    (times_by side es of user (tail_order e es h))
+
+fewer : (b : Bool) (n m : ℕ) → m ≡ n → cond b 0 n ≤ m
+fewer true n m e = omega arith
+fewer false n m e = omega arith
+
+-- the pairs of what stands there are in an exact bag
+pub gone_there : (side : Edit → Option Entry) (es : List Edit) (t : TableValue) (bag : Bag) → T (in_order es) → ((k : Key) (e : Edit) → edit_at k es ≡ Some e → entry_of t k ≡ side e) → IsExact t bag → (p : Pair) → times p (pairs_by side es) ≤ count bag p
+gone_there side es t bag h stands exact p =
+    let is = times_by side es p.of p.user h in
+    let there : count bag p ≡ times_key p.of (refs_at (entry_of t p.user)) = exact p.of p.user in
+    by_edit _ (edit_at p.user es)
+    (λ none. let z : times p (pairs_by side es) ≡ 0 = is ∙ ap (λ (o : Option Edit). option_map_or (times_moved side p.of) o 0) none in omega (arith, z))
+    (λ e some.
+    let z : times p (pairs_by side es) ≡ times_moved side p.of e = is ∙ ap (λ (o : Option Edit). option_map_or (times_moved side p.of) o 0) some in
+    let w : count bag p ≡ times_key p.of (refs_at (side e)) = there ∙ ap (λ (o : Option Entry). times_key p.of (refs_at o)) (stands p.user e some) in
+    let f : times_moved side p.of e ≤ count bag p = fewer (keeps_refs e) (times_key p.of (refs_at (side e))) (count bag p) w in
+    omega (arith, z, f))
+
+moved_count : (b : Bool) (gone come old new f t : ℕ) → (b ≡ true → f ≡ t) → gone ≡ cond b 0 f → come ≡ cond b 0 t → gone + new ≡ come + old → old ≡ f → new ≡ t
+moved_count true gone come old new f t kept g c m was = let same = kept refl in omega arith
+moved_count false gone come old new f t kept g c m was = omega arith
+
+-- the bag is exact for the edited entries
+pub stays_exact : (from to : Edit → Option Entry) (es : List Edit) (t u : TableValue) (old new : Bag) → T (in_order es) → ((e : Edit) → keeps_refs e ≡ true → refs_at (from e) ≡ refs_at (to e)) → ((k : Key) (e : Edit) → edit_at k es ≡ Some e → entry_of t k ≡ from e)
+    → u.entries ≡ edited to es t.entries → IsExact t old → ((p : Pair) → times p (pairs_by from es) + count new p ≡ times p (pairs_by to es) + count old p) → IsExact u new
+stays_exact from to es t u old new h kept stands is exact changed of user =
+    let gone = times_by from es of user h in
+    let come = times_by to es of user h in
+    let moved = changed (record { of = of; user = user }) in
+    let there = exact of user in
+    let now : entry_of u user ≡ option_map_or to (edit_at user es) (entry_of t user) = ap (λ (m : Entries). fin.get m user) is ∙ get_edited to es t.entries user in
+    by_edit _ (edit_at user es)
+    (λ none.
+    let g : times (record { of = of; user = user }) (pairs_by from es) ≡ 0 = gone ∙ ap (λ (o : Option Edit). option_map_or (times_moved from of) o 0) none in
+    let c : times (record { of = of; user = user }) (pairs_by to es) ≡ 0 = come ∙ ap (λ (o : Option Edit). option_map_or (times_moved to of) o 0) none in
+    let n : entry_of u user ≡ entry_of t user = now ∙ ap (λ (o : Option Edit). option_map_or to o (entry_of t user)) none in
+    let m : count new (record { of = of; user = user }) ≡ count old (record { of = of; user = user }) = omega (arith, g, c, moved) in
+    m ∙ there ∙ ap (λ (o : Option Entry). times_key of (refs_at o)) (sym n))
+    (λ e some.
+    let g : times (record { of = of; user = user }) (pairs_by from es) ≡ times_moved from of e = gone ∙ ap (λ (o : Option Edit). option_map_or (times_moved from of) o 0) some in
+    let c : times (record { of = of; user = user }) (pairs_by to es) ≡ times_moved to of e = come ∙ ap (λ (o : Option Edit). option_map_or (times_moved to of) o 0) some in
+    let n : entry_of u user ≡ to e = now ∙ ap (λ (o : Option Edit). option_map_or to o (entry_of t user)) some in
+    let was : count old (record { of = of; user = user }) ≡ times_key of (refs_at (from e)) = there ∙ ap (λ (o : Option Entry). times_key of (refs_at o)) (stands user e some) in
+    moved_count (keeps_refs e) _ _ _ _ _ (times_key of (refs_at (to e))) (λ k. ap (times_key of) (kept e k)) g c moved was
+    ∙ ap (λ (o : Option Entry). times_key of (refs_at o)) (sym n))
+
+-- two contents with one list refer alike
+kept_lists : (a b : Option Content) → same_lists a b ≡ true → option_map_or refs_of a [] ≡ option_map_or refs_of b []
+kept_lists (Some (Way tags refs)) (Some (Way others theirs)) e = ap (λ (ids : List ℤ). map node ids) ((same_refs_decides refs theirs).0 e)
+kept_lists (Some (Relation tags members)) (Some (Relation others theirs)) e = ap (λ (ms : List Member). map (λ m. m.key) ms) ((same_members_decides members theirs).0 e)
+kept_lists (Some (Way tags refs)) (Some (Relation others theirs)) e = cc
+kept_lists (Some (Way tags refs)) (Some (Node others at)) e = cc
+kept_lists (Some (Relation tags members)) (Some (Way others theirs)) e = cc
+kept_lists (Some (Relation tags members)) (Some (Node others at)) e = cc
+kept_lists (Some (Node tags at)) (Some b) e = cc
+kept_lists (Some (Node tags at)) None e = cc
+kept_lists (Some (Way tags refs)) None e = cc
+kept_lists (Some (Relation tags members)) None e = cc
+kept_lists None b e = cc
+
+-- an edit that keeps the references has the same ones on both sides
+pub kept_refs : (forth : Bool) (e : Edit) → keeps_refs e ≡ true → refs_at (side (not forth) e) ≡ refs_at (side forth e)
+kept_refs true e k = kept_lists (mine_at e.before) (mine_at e.after) k
+kept_refs false e k = sym (kept_lists (mine_at e.before) (mine_at e.after) k)
+
+empty_pairs : (of user : Key) (o : Option ℕ) (x : Option Entry) → o ≡ None → x ≡ None → unwrap_or o 0 ≡ times_key of (refs_at x)
+empty_pairs of user o x e f = rw (e, f) refl
+
+-- an empty bag is exact for an empty table
+pub empty_exact : (t : TableValue) (bag : Bag) (n : ℕ) → t ≡ record { entries = fin.empty; next = n } → bag ≡ fin.empty → IsExact t bag
+empty_exact t bag n et eb of user =
+    empty_pairs of user (fin.get bag (record { of = of; user = user })) (entry_of t user)
+    (ap (λ (b : Bag). fin.get b (record { of = of; user = user })) eb ∙ fin.get-empty pair_cmp (record { of = of; user = user }))
+    (ap (λ (x : TableValue). entry_of x user) et ∙ fin.get-empty rank_cmp user)

@@ -1,0 +1,123 @@
+-- The laws of patches.
+use Rattle.std.proofs.Common.{◌≡◌, ◌≢◌, ℕ, Bool, true, false, cond, Option, Some, None, List, [], ◌∷◌, map, refl, sym, ◌∙◌, ap, subst}
+use Rattle.std.specs.Option.{option_map_or}
+use Rattle.std.specs.Prelude.{T}
+use Rattle.std.specs.List.{AllByRecursion}
+use Rattle.std.specs.FinMap as fin
+use Rattle.std.specs.FinMap.Entries.{same_entries}
+use Rattle.osm_base.specs.Rank.{rank_cmp}
+use Rattle.osm_base.specs.RankLaws.{rank_total, rank_exact}
+use Rattle.osm_base.specs.declared.key.Key.{Key}
+use Rattle.osm_table.specs.declared.entry.Entry.{Entry}
+use Rattle.osm_table.specs.Table.{TableValue, entry_of}
+use Rattle.osm_table.proofs.Each.{same_table}
+use Rattle.dataset.specs.declared.edit.Edit.{Edit}
+use Rattle.dataset.specs.Patch.{Entries, PatchValue, IsPatch, StandsBefore, StandsAfter, Leads, IsDiff, keyed, in_order, edit_at, edited, after_of, before_of}
+use Rattle.dataset.proofs.Looked.{get_edited, found, found_key, all_from_found}
+
+-- an edit that is found decides, and else the rest
+pub by_edit : (P : Type 0) (o : Option Edit) → (o ≡ None → P) → ((e : Edit) → o ≡ Some e → P) → P
+by_edit P None none some = none refl
+by_edit P (Some e) none some = some e refl
+
+at_edit : (side : Edit → Option Entry) (p : PatchValue) (m : Entries) (k : Key) (e : Edit) → edit_at k p.edits ≡ Some e → fin.get (edited side p.edits m) k ≡ side e
+at_edit side p m k e is = get_edited side p.edits m k ∙ ap (λ (o : Option Edit). option_map_or side o (fin.get m k)) is
+
+at_rest : (side : Edit → Option Entry) (p : PatchValue) (m : Entries) (k : Key) → edit_at k p.edits ≡ None → fin.get (edited side p.edits m) k ≡ fin.get m k
+at_rest side p m k is = get_edited side p.edits m k ∙ ap (λ (o : Option Edit). option_map_or side o (fin.get m k)) is
+
+pub stands_after : (p : PatchValue) (t : TableValue) → IsPatch p → StandsAfter p (after_of p t)
+stands_after p t is = record {
+  entries = all_from_found (λ e. entry_of (after_of p t) e.key ≡ e.after) p.edits is.by_rank (λ e here. at_edit (λ e. e.after) p t.entries e.key e here);
+  number = refl;
+}
+
+pub stands_before : (p : PatchValue) (u : TableValue) → IsPatch p → StandsBefore p (before_of p u)
+stands_before p u is = record {
+  entries = all_from_found (λ e. entry_of (before_of p u) e.key ≡ e.before) p.edits is.by_rank (λ e here. at_edit (λ e. e.before) p u.entries e.key e here);
+  number = refl;
+}
+
+-- to apply and then revert is to do nothing
+pub back_again : (p : PatchValue) (t : TableValue) → StandsBefore p t → t ≡ before_of p (after_of p t)
+back_again p t s = same_table t (before_of p (after_of p t))
+    (λ k. by_edit _ (edit_at k p.edits)
+    (λ none. sym (at_rest (λ e. e.before) p (after_of p t).entries k none ∙ at_rest (λ e. e.after) p t.entries k none))
+    (λ e some. ap (entry_of t) (found_key p.edits k e some) ∙ found (λ e. entry_of t e.key ≡ e.before) p.edits s.entries k e some ∙ sym (at_edit (λ e. e.before) p (after_of p t).entries k e some)))
+    s.number
+
+pub forth_again : (p : PatchValue) (u : TableValue) → StandsAfter p u → u ≡ after_of p (before_of p u)
+forth_again p u s = same_table u (after_of p (before_of p u))
+    (λ k. by_edit _ (edit_at k p.edits)
+    (λ none. sym (at_rest (λ e. e.after) p (before_of p u).entries k none ∙ at_rest (λ e. e.before) p u.entries k none))
+    (λ e some. ap (entry_of u) (found_key p.edits k e some) ∙ found (λ e. entry_of u e.key ≡ e.after) p.edits s.entries k e some ∙ sym (at_edit (λ e. e.after) p (before_of p u).entries k e some)))
+    s.number
+
+pub leads_on : (p : PatchValue) (t : TableValue) → IsPatch p → StandsBefore p t → Leads p t (after_of p t)
+leads_on p t is s = record { before = s; to = refl; after = stands_after p t is; back = back_again p t s }
+
+pub leads_back : (p : PatchValue) (u : TableValue) → IsPatch p → StandsAfter p u → Leads p (before_of p u) u
+leads_back p u is s = record { before = stands_before p u is; to = forth_again p u s; after = s; back = refl }
+
+-- the difference of two tables leads from the one to the other
+pub diff_leads : (t u : TableValue) (p : PatchValue) → IsDiff t u p → Leads p t u
+diff_leads t u p d = record {
+  before = d.before;
+  to = same_table u (after_of p t)
+      (λ k. by_edit _ (edit_at k p.edits)
+      (λ none. sym (d.rest k none) ∙ sym (at_rest (λ e. e.after) p t.entries k none))
+      (λ e some. ap (entry_of u) (found_key p.edits k e some) ∙ found (λ e. entry_of u e.key ≡ e.after) p.edits d.after.entries k e some ∙ sym (at_edit (λ e. e.after) p t.entries k e some)))
+      d.after.number;
+  after = d.after;
+  back = same_table t (before_of p u)
+      (λ k. by_edit _ (edit_at k p.edits)
+      (λ none. d.rest k none ∙ sym (at_rest (λ e. e.before) p u.entries k none))
+      (λ e some. ap (entry_of t) (found_key p.edits k e some) ∙ found (λ e. entry_of t e.key ≡ e.before) p.edits d.before.entries k e some ∙ sym (at_edit (λ e. e.before) p u.entries k e some)))
+      d.before.number;
+}
+
+-- a patch that leads from one table to another is their difference
+pub leads_diff : (t u : TableValue) (p : PatchValue) → IsPatch p → Leads p t u → IsDiff t u p
+leads_diff t u p is l = record {
+  patch = is;
+  before = l.before;
+  after = l.after;
+  rest = λ k none. sym (ap (λ (x : TableValue). entry_of x k) l.to ∙ at_rest (λ e. e.after) p t.entries k none);
+}
+
+-- two tables have one difference
+same_edit : (t u : TableValue) (p q : PatchValue) → IsDiff t u p → IsDiff t u q → (k : Key) (e f : Edit) → edit_at k p.edits ≡ Some e → edit_at k q.edits ≡ Some f → e ≡ f
+same_edit t u p q d g k e f x y =
+    let j = sym (found_key p.edits k e x) ∙ found_key q.edits k f y in
+    let b = sym (found (λ e. entry_of t e.key ≡ e.before) p.edits d.before.entries k e x) ∙ ap (entry_of t) j ∙ found (λ e. entry_of t e.key ≡ e.before) q.edits g.before.entries k f y in
+    let a = sym (found (λ e. entry_of u e.key ≡ e.after) p.edits d.after.entries k e x) ∙ ap (entry_of u) j ∙ found (λ e. entry_of u e.key ≡ e.after) q.edits g.after.entries k f y in
+    λ i. record { key = j i; before = b i; after = a i }
+
+not_left_out : (t u : TableValue) (p q : PatchValue) → IsDiff t u p → IsDiff t u q → (k : Key) (e : Edit) → edit_at k p.edits ≡ Some e → edit_at k q.edits ≡ None → ⊥
+not_left_out t u p q d g k e x none =
+    let j = found_key p.edits k e x in
+    found (λ e. e.before ≢ e.after) p.edits d.patch.changes k e x
+    (sym (found (λ e. entry_of t e.key ≡ e.before) p.edits d.before.entries k e x) ∙ sym (ap (entry_of t) j) ∙ g.rest k none ∙ ap (entry_of u) j ∙ found (λ e. entry_of u e.key ≡ e.after) p.edits d.after.entries k e x)
+
+pub same_edits : (t u : TableValue) (p q : PatchValue) → IsDiff t u p → IsDiff t u q → (k : Key) → edit_at k p.edits ≡ edit_at k q.edits
+same_edits t u p q d g k =
+    by_edit _ (edit_at k p.edits)
+    (λ none. by_edit _ (edit_at k q.edits) (λ none2. none ∙ sym none2) (λ f some. absurd (not_left_out t u q p g d k f some none)))
+    (λ e some. by_edit _ (edit_at k q.edits) (λ none. absurd (not_left_out t u p q d g k e some none)) (λ f some2. some ∙ ap Some (same_edit t u p q d g k e f some some2) ∙ sym some2))
+
+unkeyed : (es : List Edit) → map (λ e. e.1) (keyed es) ≡ es
+unkeyed [] = refl
+unkeyed (e ∷ es) = ap (λ (fs : List Edit). e ∷ fs) (unkeyed es)
+
+pub one_diff : (t u : TableValue) (p q : PatchValue) → IsDiff t u p → IsDiff t u q → p ≡ q
+one_diff t u p q d g =
+    let es = sym (unkeyed p.edits) ∙ ap (map (λ (e : Key × Edit). e.1)) (same_entries rank_cmp rank_total rank_exact (keyed p.edits) (keyed q.edits) d.patch.by_rank g.patch.by_rank (same_edits t u p q d g)) ∙ unkeyed q.edits in
+    let b = sym d.before.number ∙ g.before.number in
+    let a = sym d.after.number ∙ g.after.number in
+    λ i. record { edits = es i; next_before = b i; next_after = a i }
+
+pub diff_stands : (t u : TableValue) (p : PatchValue) → IsDiff t u p → StandsBefore p t
+diff_stands t u p d = d.before
+
+pub diff_to : (t u v : TableValue) (p : PatchValue) → IsDiff t u p → v ≡ after_of p t → v ≡ u
+diff_to t u v p d e = e ∙ sym (diff_leads t u p d).to

@@ -1,0 +1,209 @@
+//! A sound table with an exact index.
+ghost use Rattle.std.specs.Prelude.{◌≡◌, not, neg_ℤ, pos, T, OnOk, OnErr, IfOk};
+ghost use Rattle.std.specs.List.{AllByRecursion};
+ghost use Rattle.std.specs.Option.{option_copied};
+ghost use Rattle.std.specs.FinMap as fin;
+ghost use Rattle.osm_table.specs.Table.{entry_of, keys_by_rank, users};
+ghost use Rattle.dataset.specs.Sound.{IsSound};
+ghost use Rattle.dataset.specs.Patch.{IsDiff, in_order, edited, StandsBefore, StandsAfter, after_of, before_of};
+ghost use Rattle.dataset.specs.Diff.{diff};
+ghost use Rattle.dataset.specs.Draft.{drafted};
+ghost use Rattle.dataset.specs.Exact.{IsExact};
+ghost use Rattle.dataset.specs.Writes.{side};
+
+use crate::difference::edits_over;
+use crate::draft::Draft;
+use crate::edit::Edit;
+use crate::pairs::pairs;
+use crate::patch::Patch;
+use crate::writes::{copies, drop_keys, put_keys, write_all};
+use osm_base::{Key, Keys};
+use osm_table::{Entry, Table};
+use ref_index::RefIndex;
+use std::alloc::{AllocError, Global};
+use std::marker::Model;
+
+/// The objects of a session. Its table is always sound, and it knows the users of each key.
+#[derive(Drop)]
+pub struct DataSet {
+    table: Table,
+    index: RefIndex,
+}
+
+impl Model for DataSet {
+    ghost use Rattle.osm_table.specs.Table.{TableValue};
+    ghost use Rattle.osm_table.specs.TableCode.{table_code};
+    ghost use Rattle.dataset.specs.Sound.{IsSound};
+    ghost use Rattle.dataset.specs.Exact.{IsExact};
+
+    ghost Value = { TableValue };
+
+    ghost coded = { table_code };
+
+    ghost view = { λ d. d.table };
+
+    ghost invariant = { λ d. IsSound d.table × IsExact d.table d.index };
+}
+
+impl DataSet {
+    /// A data set without objects, whose first new object has the id -1.
+    pub fn new(alloc: Global) -> DataSet
+        ensures { result ≡ record { entries = fin.empty; next = 1 } }
+    {
+        DataSet {
+            table: Table::new(alloc),
+            index: RefIndex::new(alloc),
+        }
+    }
+
+    /// What is known of a key.
+    pub fn entry(&self, key: Key) -> Option<&Entry>
+        ensures { option_copied result ≡ entry_of self.now key }
+    {
+        self.table.get(key)
+    }
+
+    /// The living entries that refer to the key, by rank, each once. Costs one look-up and takes no
+    /// memory.
+    pub fn users(&self, key: Key) -> &[Key]
+        ensures { result.now ≡ users self.now key }
+    {
+        self.index.users(key)
+    }
+
+    /// The number of the next new object.
+    pub fn next(&self) -> u64
+        ensures { result ≡ self.now.next }
+    {
+        self.table.next()
+    }
+
+    /// The id of the next new object.
+    pub fn next_id(&self) -> i64
+        ensures { result ≡ neg_ℤ (pos self.now.next) }
+    {
+        -(self.table.next() as i64)
+    }
+
+    /// How many keys it has.
+    pub fn len(&self) -> usize
+        ensures { result ≡ fin.len self.now.entries }
+    {
+        self.table.len()
+    }
+
+    /// All keys by rank. Sorts them once.
+    ///
+    /// # Errors
+    ///
+    /// Where no memory is found.
+    pub fn ordered(&self) -> Result<Keys, AllocError>
+        ensures { IfOk result (λ keys. keys ≡ keys_by_rank self.now) }
+    {
+        self.table.ordered()
+    }
+
+    /// What every data set keeps. Costs nothing.
+    pub fn sound(&self)
+        ensures { IsSound self.now }
+    {
+        let _ = &self.table;
+    }
+
+    /// The allocator that it takes its memory from.
+    pub fn alloc(&self) -> Global {
+        self.table.alloc()
+    }
+
+    /// The difference between the table and the draft's table. Keys whose entries stay are left out.
+    /// Costs the draft's entries and one sort of its keys.
+    ///
+    /// # Errors
+    ///
+    /// Where no memory is found.
+    pub fn patch_of(&self, draft: &Draft) -> Result<Patch, AllocError>
+        ensures value { IfOk result (λ patch. patch ≡ diff self.now (drafted draft.now self.now)) }
+        ensures differs { IfOk result (λ patch. IsDiff self.now (drafted draft.now self.now) patch) }
+    {
+        let keys = draft.ordered()?;
+        let edits = edits_over(*keys.allocator(), &self.table, draft, &keys)?;
+        Ok(Patch::new(edits, self.table.next(), draft.next()))
+    }
+
+    /// Leads the table on, from what the patch has before to what it has after. Costs the edited
+    /// entries and their references; an edit that keeps the references, as one of tags alone, costs
+    /// the index nothing.
+    ///
+    /// # Errors
+    ///
+    /// Where no memory is found; then nothing changes.
+    pub fn apply(&mut self, patch: &Patch) -> Result<(), AllocError>
+        requires stands { StandsBefore patch.now self.old }
+        requires sound { IsSound (after_of patch.now self.old) }
+        ensures ok { OnOk result (self.new ≡ after_of patch.now self.old) }
+        ensures err { OnErr result (self.new ≡ self.old) }
+    {
+        lead(
+            patch.alloc(),
+            &mut self.table,
+            &mut self.index,
+            patch.edits(),
+            true,
+        )?;
+        self.table.set_next(patch.next_after());
+        Ok(())
+    }
+
+    /// Leads the table back, from what the patch has after to what it has before. Costs what
+    /// `apply` does.
+    ///
+    /// # Errors
+    ///
+    /// Where no memory is found; then nothing changes.
+    pub fn revert(&mut self, patch: &Patch) -> Result<(), AllocError>
+        requires stands { StandsAfter patch.now self.old }
+        requires sound { IsSound (before_of patch.now self.old) }
+        ensures ok { OnOk result (self.new ≡ before_of patch.now self.old) }
+        ensures err { OnErr result (self.new ≡ self.old) }
+    {
+        lead(
+            patch.alloc(),
+            &mut self.table,
+            &mut self.index,
+            patch.edits(),
+            false,
+        )?;
+        self.table.set_next(patch.next_before());
+        Ok(())
+    }
+}
+
+/// Leads the table by one side of edits, or leaves all as it was.
+///
+/// All that can find no memory comes first: the copies of the new entries, the pairs, the new keys,
+/// the index. Where the index finds none the new keys are taken out again.
+fn lead(
+    alloc: Global,
+    table: &mut Table,
+    index: &mut RefIndex,
+    edits: &[Edit],
+    forth: bool,
+) -> Result<(), AllocError>
+    requires order { T (in_order edits.now) }
+    requires stands { AllByRecursion (λ e. entry_of table.old e.key ≡ side (not forth) e) edits.now }
+    requires exact { IsExact table.old index.old }
+    ensures ok { OnOk result (table.new ≡ record { entries = edited (side forth) edits.now table.old.entries; next = table.old.next }) }
+    ensures exact { IsExact table.new index.new }
+    ensures err { OnErr result (table.new ≡ table.old) }
+{
+    let writes = copies(alloc, table, edits, forth)?;
+    let gone = pairs(alloc, edits, !forth)?;
+    let come = pairs(alloc, edits, forth)?;
+    put_keys(table, &writes)?;
+    if let Err(e) = index.change(&gone, &come) {
+        drop_keys(table, &writes);
+        return Err(e);
+    }
+    write_all(table, writes);
+    Ok(())
+}

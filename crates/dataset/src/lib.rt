@@ -1,0 +1,26 @@
+//! A table of objects that is always sound, and what changes it.
+//!
+//! A data set holds a table with an index of who refers to what. Whatever call has ended, the table
+//! is sound (`specs/Sound`) and the index exact, so that who stands above never thinks of either.
+//! Who wants a change says it by a draft, a few keys with their new entries. `patch_of` gives the
+//! difference, and a patch leads the table there (`apply`) and back (`revert`), all or nothing, at
+//! the cost of its own entries and references. It stands on `osm_table` and `ref_index`.
+//!
+//! Advice for who changes it: what a table has after edits is said key by key, so no law needs the
+//! order of edits. New keys go into the table as `Incomplete` before the index changes, so that the
+//! last step of all edits sets keys that are there, which can't fail. How a tool shows that its
+//! draft keeps the table sound stands in `proofs/Kept`, `proofs/Changes` and `proofs/Gone`.
+#![tactic(auto)]
+
+mod dataset;
+mod difference;
+mod draft;
+mod edit;
+mod pairs;
+mod patch;
+mod writes;
+
+pub use dataset::DataSet;
+pub use draft::Draft;
+pub use edit::Edit;
+pub use patch::Patch;
