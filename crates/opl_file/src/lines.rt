@@ -1,5 +1,5 @@
 //! The lines of a file, taken in as their bytes come.
-ghost use Rattle.std.specs.Prelude.{◌≡◌, false};
+ghost use Rattle.std.specs.Prelude.{◌≡◌, ◌≤◌, false, vec_len};
 ghost use Rattle.opl_file.specs.Cut.{has_lf};
 
 use crate::collected::Collected;
@@ -15,12 +15,13 @@ pub(crate) struct Lines {
     mode: Mode,
     // how many lines were finished
     count: u64,
-    // the bytes of the line that no LF has ended yet; at most `LINE_LIMIT`
+    // the bytes of the line that no LF has ended yet
     unfinished: Vec<u8>,
     objects: Collected,
     fault: Option<FileFault>,
     pool: Pool,
     ghost unbroken: { has_lf unfinished.items ≡ false },
+    ghost bounded: { vec_len unfinished ≤ 16777216 },
 }
 
 impl Lines {
