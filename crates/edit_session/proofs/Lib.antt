@@ -1,5 +1,6 @@
 pub mod Cutting
 pub mod Acts
+pub mod Afterwards
 pub mod Clashes
 pub mod Fed
 pub mod Pieces

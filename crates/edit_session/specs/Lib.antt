@@ -1,3 +1,4 @@
+pub mod After
 pub mod Counted
 pub mod Fetch
 pub mod Limits

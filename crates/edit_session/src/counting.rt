@@ -1,5 +1,6 @@
 //! The text of `count`.
-ghost use Rattle.std.specs.Prelude.{◌≡◌, ◌++◌, ◌<◌, ◌^◌, OnOk, length};
+ghost use Rattle.std.specs.Prelude.{◌≡◌, ◌++◌, ◌<◌, ◌^◌, OnOk, OnErr, length};
+ghost use Rattle.osm_base.specs.Extends.{Extends};
 ghost use Rattle.osm_table.specs.Table.{is_living};
 ghost use Rattle.edit_session.specs.Counted.{count_text, counts_text, kinds_text, states_text, counts_among, part, with_one, with_key, HasRoom, is_node, is_way, is_relation, is_incomplete, is_deleted, is_in_conflict};
 
@@ -35,24 +36,30 @@ pub struct Counts {
 /// Appends the text of `count`, one line. It sorts the keys once.
 ///
 /// # Errors
-/// No memory was left.
+/// No memory was left; what stood in `out` stays at its front.
+#[tactic(auto, using(osm_base::proofs::ExtendLaws::extends_steps))]
 pub fn write_count(table: &Table, out: &mut Vec<u8>) -> Result<(), AllocError>
-    ensures { OnOk result (out.new.items ≡ out.old.items ++ count_text table.now) }
+    ensures written { OnOk result (out.new.items ≡ out.old.items ++ count_text table.now) }
+    ensures kept { OnErr result (Extends out.old.items out.new.items) }
 {
     let keys = table.ordered()?;
     write_counts(counts_among(table, keys.as_slice()), out)
 }
 
+#[tactic(auto, using(osm_base::proofs::ExtendLaws::extends_steps))]
 fn write_counts(counts: Counts, out: &mut Vec<u8>) -> Result<(), AllocError>
-    ensures { OnOk result (out.new.items ≡ out.old.items ++ counts_text counts) }
+    ensures written { OnOk result (out.new.items ≡ out.old.items ++ counts_text counts) }
+    ensures kept { OnErr result (Extends out.old.items out.new.items) }
 {
     write_kinds(counts, out)?;
     write_states(counts, out)?;
     Ok(())
 }
 
+#[tactic(auto, using(osm_base::proofs::ExtendLaws::extends_steps))]
 fn write_kinds(counts: Counts, out: &mut Vec<u8>) -> Result<(), AllocError>
-    ensures { OnOk result (out.new.items ≡ out.old.items ++ kinds_text counts) }
+    ensures written { OnOk result (out.new.items ≡ out.old.items ++ kinds_text counts) }
+    ensures kept { OnErr result (Extends out.old.items out.new.items) }
 {
     write_part(b"count nodes ", counts.nodes, out)?;
     write_part(b" ways ", counts.ways, out)?;
@@ -60,8 +67,10 @@ fn write_kinds(counts: Counts, out: &mut Vec<u8>) -> Result<(), AllocError>
     Ok(())
 }
 
+#[tactic(auto, using(osm_base::proofs::ExtendLaws::extends_steps))]
 fn write_states(counts: Counts, out: &mut Vec<u8>) -> Result<(), AllocError>
-    ensures { OnOk result (out.new.items ≡ out.old.items ++ states_text counts) }
+    ensures written { OnOk result (out.new.items ≡ out.old.items ++ states_text counts) }
+    ensures kept { OnErr result (Extends out.old.items out.new.items) }
 {
     write_part(b" incomplete ", counts.incomplete, out)?;
     write_part(b" deleted ", counts.deleted, out)?;
@@ -71,9 +80,10 @@ fn write_states(counts: Counts, out: &mut Vec<u8>) -> Result<(), AllocError>
     Ok(())
 }
 
-#[tactic(auto, unfolding(crate::specs::Counted::part))]
+#[tactic(auto, using(osm_base::proofs::ExtendLaws::extends_steps), unfolding(crate::specs::Counted::part))]
 fn write_part(name: &[u8], count: u64, out: &mut Vec<u8>) -> Result<(), AllocError>
-    ensures { OnOk result (out.new.items ≡ out.old.items ++ part name.now count) }
+    ensures written { OnOk result (out.new.items ≡ out.old.items ++ part name.now count) }
+    ensures kept { OnErr result (Extends out.old.items out.new.items) }
 {
     out.extend_from_slice(name)?;
     write_digits(count, out)

@@ -7,11 +7,12 @@
 //!
 //! Each function that writes promises the whole text after Ok and a front of it after Err. To add
 //! a command, give `Act` a variant, its grammar to `specs/Script.antt`, and its meaning to
-//! `ended_by` in `specs/Session.antt`; `run_step` then has one arm more.
+//! `did` in `specs/Session.antt`; `run_step` then has one arm more.
 #![tactic(auto)]
 
 mod counting;
 mod files;
+mod law;
 mod limits;
 mod lines;
 mod loading;
@@ -26,6 +27,7 @@ mod stop;
 mod taking;
 
 pub use counting::write_count;
+pub use law::taken_as_told;
 pub use printing::write_table;
 pub use session::run_session;
 pub use status::Status;

@@ -1,5 +1,6 @@
 //! The text of `print`.
-ghost use Rattle.std.specs.Prelude.{◌≡◌, ◌++◌, OnOk};
+ghost use Rattle.std.specs.Prelude.{◌≡◌, ◌++◌, OnOk, OnErr};
+ghost use Rattle.osm_base.specs.Extends.{Extends};
 ghost use Rattle.osm_base.specs.Meta.{empty_meta};
 ghost use Rattle.osm_table.specs.Table.{version_of};
 ghost use Rattle.edit_session.specs.Printed.{known_text, entry_text, entries_text, table_text, meta_of};
@@ -12,9 +13,11 @@ use std::alloc::AllocError;
 /// Appends the text of `print`: each known object by rank in its written form, a line each. It sorts the keys once.
 ///
 /// # Errors
-/// No memory was left.
+/// No memory was left; what stood in `out` stays at its front.
+#[tactic(auto, using(osm_base::proofs::ExtendLaws::extends_steps))]
 pub fn write_table(table: &Table, out: &mut Vec<u8>) -> Result<(), AllocError>
-    ensures { OnOk result (out.new.items ≡ out.old.items ++ table_text table.now) }
+    ensures written { OnOk result (out.new.items ≡ out.old.items ++ table_text table.now) }
+    ensures kept { OnErr result (Extends out.old.items out.new.items) }
 {
     let unknown = Meta::empty(*out.allocator())?;
     let keys = table.ordered()?;
@@ -22,6 +25,7 @@ pub fn write_table(table: &Table, out: &mut Vec<u8>) -> Result<(), AllocError>
     Ok(())
 }
 
+#[tactic(auto, using(osm_base::proofs::ExtendLaws::extends_steps))]
 fn write_entries(
     table: &Table,
     keys: &[Key],
@@ -29,7 +33,8 @@ fn write_entries(
     out: &mut Vec<u8>,
 ) -> Result<(), AllocError>
     requires { unknown.now ≡ empty_meta }
-    ensures { OnOk result (out.new.items ≡ out.old.items ++ entries_text table.now keys.now) }
+    ensures written { OnOk result (out.new.items ≡ out.old.items ++ entries_text table.now keys.now) }
+    ensures kept { OnErr result (Extends out.old.items out.new.items) }
 {
     for key in keys {
         write_entry(table, *key, unknown, out)?;
@@ -38,6 +43,7 @@ fn write_entries(
 }
 
 /// Appends the line of the object with that key, and nothing where it isn't known.
+#[tactic(auto, using(osm_base::proofs::ExtendLaws::extends_steps))]
 pub fn write_entry(
     table: &Table,
     key: Key,
@@ -45,7 +51,8 @@ pub fn write_entry(
     out: &mut Vec<u8>,
 ) -> Result<(), AllocError>
     requires { unknown.now ≡ empty_meta }
-    ensures { OnOk result (out.new.items ≡ out.old.items ++ entry_text table.now key) }
+    ensures written { OnOk result (out.new.items ≡ out.old.items ++ entry_text table.now key) }
+    ensures kept { OnErr result (Extends out.old.items out.new.items) }
 {
     match table.get(key) {
         Some(Entry::Known { base, mine, .. }) => write_known(key, base, mine, unknown, out),
@@ -53,6 +60,7 @@ pub fn write_entry(
     }
 }
 
+#[tactic(auto, using(osm_base::proofs::ExtendLaws::extends_steps))]
 fn write_known(
     key: Key,
     base: &Base,
@@ -61,7 +69,8 @@ fn write_known(
     out: &mut Vec<u8>,
 ) -> Result<(), AllocError>
     requires { unknown.now ≡ empty_meta }
-    ensures { OnOk result (out.new.items ≡ out.old.items ++ known_text key base.now mine.now) }
+    ensures written { OnOk result (out.new.items ≡ out.old.items ++ known_text key base.now mine.now) }
+    ensures kept { OnErr result (Extends out.old.items out.new.items) }
 {
     let meta = meta_of(base, unknown);
     write_line(key, version_of(base), mine.as_ref(), meta, out)?;

@@ -1,5 +1,6 @@
 //! The reply line of a step.
-ghost use Rattle.std.specs.Prelude.{◌≡◌, ◌++◌, OnOk};
+ghost use Rattle.std.specs.Prelude.{◌≡◌, ◌++◌, OnOk, OnErr};
+ghost use Rattle.osm_base.specs.Extends.{Extends};
 ghost use Rattle.edit_session.specs.Reply.{number_of, fault_text, carried, refusal_text, reply_line};
 
 use opl_file::FileFault;
@@ -42,9 +43,11 @@ impl StepRefusal {
 /// Appends the reply line of a step with its LF.
 ///
 /// # Errors
-/// No memory was left.
+/// No memory was left; what stood in `out` stays at its front.
+#[tactic(auto, using(osm_base::proofs::ExtendLaws::extends_steps))]
 pub fn write_reply(line: u64, reply: StepReply, out: &mut Vec<u8>) -> Result<(), AllocError>
-    ensures { OnOk result (out.new.items ≡ out.old.items ++ reply_line line reply) }
+    ensures written { OnOk result (out.new.items ≡ out.old.items ++ reply_line line reply) }
+    ensures kept { OnErr result (Extends out.old.items out.new.items) }
 {
     write_digits(line, out)?;
     match reply {
@@ -54,8 +57,10 @@ pub fn write_reply(line: u64, reply: StepReply, out: &mut Vec<u8>) -> Result<(),
     Ok(())
 }
 
+#[tactic(auto, using(osm_base::proofs::ExtendLaws::extends_steps))]
 fn write_refusal(why: StepRefusal, out: &mut Vec<u8>) -> Result<(), AllocError>
-    ensures { OnOk result (out.new.items ≡ out.old.items ++ refusal_text why) }
+    ensures written { OnOk result (out.new.items ≡ out.old.items ++ refusal_text why) }
+    ensures kept { OnErr result (Extends out.old.items out.new.items) }
 {
     out.extend_from_slice(b" refused ")?;
     write_digits(u64::from(why.number()), out)?;
@@ -65,8 +70,10 @@ fn write_refusal(why: StepRefusal, out: &mut Vec<u8>) -> Result<(), AllocError>
 }
 
 // What the refusal carries, behind a space.
+#[tactic(auto, using(osm_base::proofs::ExtendLaws::extends_steps))]
 fn write_carried(why: StepRefusal, out: &mut Vec<u8>) -> Result<(), AllocError>
-    ensures { OnOk result (out.new.items ≡ out.old.items ++ carried why) }
+    ensures written { OnOk result (out.new.items ≡ out.old.items ++ carried why) }
+    ensures kept { OnErr result (Extends out.old.items out.new.items) }
 {
     match why {
         StepRefusal::NoFile => Ok(()),
@@ -78,8 +85,10 @@ fn write_carried(why: StepRefusal, out: &mut Vec<u8>) -> Result<(), AllocError>
     }
 }
 
+#[tactic(auto, using(osm_base::proofs::ExtendLaws::extends_steps))]
 fn write_fault(fault: FileFault, out: &mut Vec<u8>) -> Result<(), AllocError>
-    ensures { OnOk result (out.new.items ≡ out.old.items ++ fault_text fault) }
+    ensures written { OnOk result (out.new.items ≡ out.old.items ++ fault_text fault) }
+    ensures kept { OnErr result (Extends out.old.items out.new.items) }
 {
     match fault {
         FileFault::Line { line, fault } => {

@@ -20,7 +20,7 @@ pub returns-in_err-pass_full-clause-err : goal.returns-in_err-pass_full-clause-e
 returns-in_err-pass_full-clause-err g c =
     let p = err_from_is_err_and c.from_residual-in_err-pass_full.result c.from_residual-in_err-pass_full.ensures.1 in
     rw p.1 (piece_front (entry_text c.args.table.now) _ _ _ _ c.args.keys.now c.loop-key.key-index (get_or c.args.keys.now c.loop-key.key-index none) none _ _
-    (omega arith) refl c.loop-key.invariant.text c.in_ok-write_entry.ensures c.in_err-pass_full.ensures.err)
+    (omega arith) refl c.loop-key.invariant.text c.in_ok-write_entry.ensures.written c.in_err-pass_full.ensures.err)
 
 pub loop-key-preserved : goal.loop-key-preserved
 loop-key-preserved g c =
@@ -28,7 +28,7 @@ loop-key-preserved g c =
     record {
       later = omega (arith, passed.cause.later);
       text = piece_more (entry_text c.args.table.now) _ _ _ _ c.args.keys.now c.loop-key.key-index (get_or c.args.keys.now c.loop-key.key-index none) none _ _ _
-          (omega arith) refl c.loop-key.invariant.text c.in_ok-write_entry.ensures passed.ok;
+          (omega arith) refl c.loop-key.invariant.text c.in_ok-write_entry.ensures.written passed.ok;
     }
 
 pub returns-in_err-put-clause-err : goal.returns-in_err-put-clause-err
