@@ -5,7 +5,7 @@ use Rattle.std.specs.Option.{option_or}
 use Rattle.osm_base.specs.Rank.{is_key}
 use Rattle.osm_base.specs.declared.key.Key.{Key}
 use Rattle.osm_base.proofs.SameLaws.{is_key_decides}
-use Rattle.osm_table.specs.Table.{TableValue, entry_of, with_entry}
+use Rattle.osm_table.specs.Table.{TableValue, entry_of}
 use Rattle.osm_table.specs.declared.entry.Entry.{Entry}
 use Rattle.osm_table.specs.declared.entry.Entry.TheVariants.{Incomplete}
 use Rattle.osm_table.proofs.Each.{get_with}
