@@ -1,5 +1,5 @@
 -- A sound table after one change: an entry set, taken away, made Incomplete, given another content, or new.
-use Rattle.std.proofs.Common.{◌≡◌, ◌≤◌, ℕ, Bool, true, false, cond, is_some, Option, Some, None, List, [], refl, sym, ◌∙◌, ap, subst, IsTrue}
+use Rattle.std.proofs.Common.{◌≡◌, ◌≤◌, ℕ, Bool, true, false, cond, Option, Some, None, [], refl, sym, ◌∙◌, ap, subst, IsTrue}
 use Rattle.std.specs.Option.{option_map_or, unwrap_or}
 use Rattle.std.specs.FinMap as fin
 use Rattle.osm_base.specs.Rank.{rank_cmp, is_key}
@@ -18,7 +18,7 @@ use Rattle.osm_table.specs.Table.{TableValue, entry_of, with_entry, without_entr
 use Rattle.osm_table.proofs.Each.{get_with, get_without, each_with, each_without, same_table}
 use Rattle.dataset.specs.Patch.{placed}
 use Rattle.dataset.specs.Draft.{DraftValue, drafted}
-use Rattle.dataset.specs.Sound.{IsSound, IsSoundEntry, IsNumber, LivesIn, IdFits, BaseFits, ConflictFits, IsGiven}
+use Rattle.dataset.specs.Sound.{IsSound, IsSoundEntry, IsNumber, LivesIn, BaseFits, ConflictFits, IsGiven}
 use Rattle.dataset.proofs.Looked.{get_placed}
 use Rattle.dataset.proofs.Drafted.{get_drafted}
 use Rattle.dataset.proofs.Listed.{user_uses}

@@ -1,5 +1,5 @@
 -- The difference as a function is the difference.
-use Rattle.std.proofs.Common.{◌≡◌, ◌≢◌, ℕ, ◌&&◌, ◌||◌, nat_eq, Bool, true, false, cond, is_some, Option, Some, None, List, [], ◌∷◌, ◌++◌, map, refl, sym, ◌∙◌, ap, subst, Decides}
+use Rattle.std.proofs.Common.{◌≡◌, ◌≢◌, Bool, true, false, cond, is_some, Option, Some, None, List, [], ◌∷◌, ◌++◌, refl, sym, ◌∙◌, ap, Decides}
 use Rattle.std.specs.Prelude.{T}
 use Rattle.std.specs.FinMap as fin
 use Rattle.std.specs.FinMap.Entries.{find}
@@ -14,7 +14,7 @@ use Rattle.osm_table.specs.declared.entry.Entry.{Entry}
 use Rattle.osm_table.specs.Table.{TableValue, entry_of}
 use Rattle.osm_base.specs.RisingKeys.{rises, is_in}
 use Rattle.dataset.specs.declared.edit.Edit.{Edit}
-use Rattle.dataset.specs.Patch.{PatchValue, IsDiff, edit_at}
+use Rattle.dataset.specs.Patch.{PatchValue, IsDiff}
 use Rattle.dataset.specs.Draft.{DiffOver}
 use Rattle.dataset.specs.Diff.{same_at, keys_of_both, edits_over, diff}
 use Rattle.dataset.proofs.Drafted.{order_over, changes_over, before_over, after_over, rest_over, none_at, by_bool}

@@ -1,21 +1,19 @@
 -- The difference over the keys of a draft is the difference of the tables.
-use Rattle.std.proofs.Common.{◌≡◌, ◌≢◌, ℕ, ◌&&◌, ◌||◌, Bool, true, false, cond, is_some, Option, Some, None, List, [], ◌∷◌, ◌++◌, map, refl, sym, ◌∙◌, ap, subst}
+use Rattle.std.proofs.Common.{◌≡◌, ◌≢◌, ℕ, ◌&&◌, ◌||◌, Bool, true, false, cond, is_some, Option, Some, None, List, [], ◌∷◌, ◌++◌, refl, sym, ◌∙◌, ap, subst}
 use Rattle.std.specs.Option.{unwrap_or, option_to_list}
 use Rattle.std.specs.Prelude.{T}
 use Rattle.std.specs.Ordering.{is_lt}
-use Rattle.std.specs.List.{AllByRecursion, list_any}
-use Rattle.std.specs.Map.{keys_of}
+use Rattle.std.specs.List.{AllByRecursion}
 use Rattle.std.specs.FinMap as fin
-use Rattle.std.specs.FinMap.Entries.{find, is_sorted, below_all, is_some-find}
+use Rattle.std.specs.FinMap.Entries.{find, below_all}
 use Rattle.osm_base.specs.Rank.{rank_cmp, is_key}
-use Rattle.osm_base.specs.RankLaws.{rank_total}
 use Rattle.osm_base.specs.declared.key.Key.{Key}
 use Rattle.osm_base.proofs.ByRank.{rises_keys}
 use Rattle.osm_table.specs.declared.entry.Entry.{Entry}
 use Rattle.osm_table.specs.Table.{TableValue, entry_of}
 use Rattle.osm_base.specs.RisingKeys.{marked, rises, is_in}
 use Rattle.dataset.specs.declared.edit.Edit.{Edit}
-use Rattle.dataset.specs.Patch.{Entries, PatchValue, IsPatch, IsDiff, keyed, in_order, edit_at, placed}
+use Rattle.dataset.specs.Patch.{Entries, PatchValue, IsDiff, keyed, in_order, edit_at}
 use Rattle.dataset.specs.Draft.{DraftValue, DiffOver, IsEditOf, overlaid, drafted}
 use Rattle.osm_base.proofs.RisingKeys.{one_key}
 use Rattle.dataset.proofs.Looked.{get_placed, fore, aft}

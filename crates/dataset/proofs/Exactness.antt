@@ -1,8 +1,7 @@
 -- The index is exact after a patch, if the pairs of one side go and those of the other come.
-use Rattle.std.proofs.Common.{◌≡◌, ◌≢◌, ℕ, ℤ, not, ◌+◌, ◌≤◌, ◌&&◌, Bool, true, false, cond, Option, Some, None, List, [], ◌∷◌, ◌++◌, map, refl, sym, ◌∙◌, ap, subst, arith}
+use Rattle.std.proofs.Common.{◌≡◌, ℕ, ℤ, not, ◌+◌, ◌≤◌, ◌&&◌, Bool, true, false, cond, Option, Some, None, List, [], ◌∷◌, map, refl, sym, ◌∙◌, ap, arith}
 use Rattle.std.specs.Option.{option_map_or, unwrap_or}
 use Rattle.std.specs.Prelude.{T}
-use Rattle.std.specs.List.{count_by, sum_by}
 use Rattle.std.proofs.lemmas.List.Sums.{sum_by-cons, sum_by-append}
 use Rattle.std.specs.FinMap as fin
 use Rattle.osm_base.specs.Rank.{rank_cmp, is_key}
@@ -18,11 +17,11 @@ use Rattle.ref_index.specs.declared.pair.Pair.{Pair}
 use Rattle.ref_index.specs.Bag.{Bag, count, times, is_pair, pair_cmp}
 use Rattle.ref_index.proofs.Agreement.{pair_parts}
 use Rattle.dataset.specs.declared.edit.Edit.{Edit}
-use Rattle.dataset.specs.Patch.{Entries, PatchValue, in_order, edit_at, edited}
+use Rattle.dataset.specs.Patch.{Entries, in_order, edit_at, edited}
 use Rattle.dataset.specs.Exact.{mine_at, refs_at, times_key, IsExact, pairs_of, pairs_by, moved_pairs, keeps_refs, same_lists}
 use Rattle.dataset.specs.Writes.{side}
 use Rattle.osm_base.proofs.RisingKeys.{one_key}
-use Rattle.dataset.proofs.Looked.{get_edited, found, found_key, tail_none, tail_order}
+use Rattle.dataset.proofs.Looked.{get_edited, tail_none, tail_order}
 use Rattle.dataset.proofs.Laws.{by_edit}
 
 count_step : (a b : Bool) (n m : ℕ) → n ≡ cond b m 0 → cond (a && b) 1 0 + n ≡ cond b (cond a 1 0 + m) 0

@@ -1,15 +1,12 @@
 -- The definitions at work.
-use Rattle.std.proofs.Common.{◌≡◌, pos, negsuc, Bool, true, false, Option, Some, None, List, [], ◌∷◌, refl, arith}
+use Rattle.std.proofs.Common.{◌≡◌, pos, negsuc, true, false, Option, Some, None, [], ◌∷◌, refl, arith}
 use Rattle.osm_base.specs.Content.{node}
-use Rattle.osm_base.specs.Tags as tags
 use Rattle.osm_base.specs.declared.key.Kind.TheVariants as kind
 use Rattle.osm_base.specs.declared.key.Key.{Key}
-use Rattle.osm_base.specs.declared.content.Content.{Content}
 use Rattle.osm_base.specs.declared.content.Content.TheVariants.{Way}
 use Rattle.osm_table.specs.declared.entry.Base.TheVariants.{New}
 use Rattle.osm_table.specs.declared.entry.Entry.{Entry}
 use Rattle.osm_table.specs.declared.entry.Entry.TheVariants.{Incomplete, Known}
-use Rattle.ref_index.specs.declared.pair.Pair.{Pair}
 use Rattle.dataset.specs.declared.edit.Edit.{Edit}
 use Rattle.dataset.specs.Patch.{in_order, edit_at}
 use Rattle.dataset.specs.Diff.{same_at}

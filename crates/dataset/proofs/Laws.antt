@@ -1,8 +1,6 @@
 -- The laws of patches.
-use Rattle.std.proofs.Common.{◌≡◌, ◌≢◌, ℕ, Bool, true, false, cond, Option, Some, None, List, [], ◌∷◌, map, refl, sym, ◌∙◌, ap, subst}
+use Rattle.std.proofs.Common.{◌≡◌, ◌≢◌, Option, Some, None, List, [], ◌∷◌, map, refl, sym, ◌∙◌, ap}
 use Rattle.std.specs.Option.{option_map_or}
-use Rattle.std.specs.Prelude.{T}
-use Rattle.std.specs.List.{AllByRecursion}
 use Rattle.std.specs.FinMap as fin
 use Rattle.std.specs.FinMap.Entries.{same_entries}
 use Rattle.osm_base.specs.Rank.{rank_cmp}
@@ -12,7 +10,7 @@ use Rattle.osm_table.specs.declared.entry.Entry.{Entry}
 use Rattle.osm_table.specs.Table.{TableValue, entry_of}
 use Rattle.osm_table.proofs.Each.{same_table}
 use Rattle.dataset.specs.declared.edit.Edit.{Edit}
-use Rattle.dataset.specs.Patch.{Entries, PatchValue, IsPatch, StandsBefore, StandsAfter, Leads, IsDiff, keyed, in_order, edit_at, edited, after_of, before_of}
+use Rattle.dataset.specs.Patch.{Entries, PatchValue, IsPatch, StandsBefore, StandsAfter, Leads, IsDiff, keyed, edit_at, edited, after_of, before_of}
 use Rattle.dataset.proofs.Looked.{get_edited, found, found_key, all_from_found}
 
 -- an edit that is found decides, and else the rest

@@ -1,10 +1,10 @@
 -- Writes, the new keys put in and taken out again, and the edits that they come from.
-use Rattle.std.proofs.Common.{◌≡◌, ◌≢◌, ℕ, ℤ, zero, suc, ◌+◌, ◌≤◌, arith, ◌<◌, ◌&&◌, ◌||◌, not, Bool, true, false, cond, is_some, IsSome, Option, Some, None, List, [], ◌∷◌, ◌++◌, map, drop, slice_get, get_or, length, refl, sym, ◌∙◌, ap, subst}
+use Rattle.std.proofs.Common.{◌≡◌, ℕ, ℤ, zero, suc, ◌+◌, ◌≤◌, arith, ◌<◌, ◌&&◌, ◌||◌, not, Bool, true, false, cond, is_some, IsSome, Option, Some, None, List, [], ◌∷◌, ◌++◌, map, drop, slice_get, get_or, length, refl, sym, ◌∙◌, ap, subst}
 use Rattle.std.specs.Prelude.{T}
 use Rattle.std.specs.Ordering.{is_lt}
-use Rattle.std.specs.List.{AllByRecursion, list_any}
+use Rattle.std.specs.List.{AllByRecursion}
 use Rattle.std.specs.FinMap as fin
-use Rattle.std.specs.FinMap.Entries.{is_sorted, below_all}
+use Rattle.std.specs.FinMap.Entries.{below_all}
 use Rattle.osm_base.specs.Rank.{rank_cmp, is_key}
 use Rattle.osm_base.specs.RankLaws.{rank_total, rank_exact}
 use Rattle.osm_base.specs.declared.key.Key.{Key}
@@ -22,7 +22,7 @@ use Rattle.dataset.specs.Writes.{side, write_of, written, is_fresh, noted, unnot
 use Rattle.ref_index.specs.Bag.{Bag, count, times}
 use Rattle.dataset.specs.Exact.{IsExact, pairs_by}
 use Rattle.dataset.proofs.Exactness.{gone_there, stays_exact, kept_refs}
-use Rattle.osm_base.proofs.RisingKeys.{one_key, key_itself, key_turned}
+use Rattle.osm_base.proofs.RisingKeys.{one_key, key_itself}
 use Rattle.dataset.proofs.Looked.{found, found_key, no_tie, fore, aft, get_placed}
 
 -- maps of maps

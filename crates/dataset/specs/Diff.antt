@@ -1,5 +1,5 @@
 -- The difference of two tables.
-use Rattle.std.specs.Prelude.{ℕ, Bool, true, false, if◌then◌else◌, Option, Some, None, List, [], ◌∷◌, ◌++◌}
+use Rattle.std.specs.Prelude.{Bool, true, false, if◌then◌else◌, Option, Some, None, List, [], ◌∷◌, ◌++◌}
 use Rattle.std.specs.FinMap as fin
 use Rattle.osm_base.specs.Rank.{rank_cmp}
 use Rattle.osm_base.specs.declared.key.Key.{Key}

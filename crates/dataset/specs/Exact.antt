@@ -1,5 +1,5 @@
 -- The pairs of a table, entry by entry, and those that move with edits.
-use Rattle.std.specs.Prelude.{◌≡◌, ℕ, Bool, false, if◌then◌else◌, Option, Some, None, List, [], ◌∷◌, ◌++◌, map}
+use Rattle.std.specs.Prelude.{◌≡◌, ℕ, Bool, false, if◌then◌else◌, Option, Some, List, [], ◌∷◌, ◌++◌, map}
 use Rattle.std.specs.List.{count_by}
 use Rattle.std.specs.Option.{option_map_or, option_and_then}
 use Rattle.osm_base.specs.Rank.{is_key}
@@ -7,7 +7,7 @@ use Rattle.osm_base.specs.Content.{refs_of}
 use Rattle.osm_base.specs.Same.{same_refs, same_members}
 use Rattle.osm_base.specs.declared.key.Key.{Key}
 use Rattle.osm_base.specs.declared.content.Content.{Content}
-use Rattle.osm_base.specs.declared.content.Content.TheVariants.{Node, Way, Relation}
+use Rattle.osm_base.specs.declared.content.Content.TheVariants.{Way, Relation}
 use Rattle.osm_table.specs.declared.entry.Entry.{Entry}
 use Rattle.osm_table.specs.Table.{TableValue, entry_of, mine_of}
 use Rattle.ref_index.specs.declared.pair.Pair.{Pair}

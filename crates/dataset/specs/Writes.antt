@@ -1,5 +1,5 @@
 -- Writes to a table: which entry a key gets, and whether the key is new there.
-use Rattle.std.specs.Prelude.{◌≡◌, ◌&&◌, Bool, true, not, T, cond, is_some, Option, Some, None, List, [], ◌∷◌, map}
+use Rattle.std.specs.Prelude.{◌&&◌, Bool, not, cond, is_some, Option, List, [], ◌∷◌, map}
 use Rattle.std.specs.List.{list_any}
 use Rattle.std.specs.FinMap.Entries.{is_sorted}
 use Rattle.osm_base.specs.Rank.{rank_cmp, is_key}

@@ -18,6 +18,8 @@ mod draft;
 mod edit;
 mod pairs;
 mod patch;
+#[cfg(test)]
+mod tests;
 mod writes;
 
 pub use dataset::DataSet;

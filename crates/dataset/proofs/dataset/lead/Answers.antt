@@ -1,7 +1,6 @@
-use Rattle.std.proofs.Common.{◌≡◌, ◌∙◌, sym, ap, not, List, subst}
-use Rattle.osm_table.specs.Table.{TableValue}
+use Rattle.std.proofs.Common.{◌∙◌, ap, not, List}
 use Rattle.dataset.specs.declared.writes.Write.{Write}
-use Rattle.dataset.specs.Writes.{side, unnoted, noted}
+use Rattle.dataset.specs.Writes.{side, noted}
 use Rattle.dataset.proofs.WriteLaws.{lead_order, lead_back, lead_there, lead_to, lead_gone, lead_exact}
 use Rattle.dataset.proofs.dataset.lead.Goals as goal
 
