@@ -1,0 +1,12 @@
+pub mod Refusals
+pub mod Patches
+pub mod Tests
+pub mod Changes
+pub mod Closing
+pub mod Basic
+pub mod Gone
+pub mod Upkeep
+pub mod Split
+pub mod Combine
+pub mod Merged
+pub mod Plain

@@ -1,0 +1,204 @@
+//! The closing tests of jobs, and how a job ends.
+//!
+//! The tests speak of the whole table before and after a job, and the code looks at the draft's keys alone: what the
+//! draft doesn't name is as it was.
+ghost use Rattle.std.specs.Prelude.{◌≡◌, None, IfOk, OnOk, OnErr, is_some};
+ghost use Rattle.std.specs.List.{find, count_by};
+ghost use Rattle.std.specs.Option.{option_copied, option_and_then};
+ghost use Rattle.std.specs.FinMap as map;
+ghost use Rattle.osm_table.specs.Same.{same_mine};
+ghost use Rattle.osm_table.specs.Table.{entry_of, mine_of};
+ghost use Rattle.dataset.specs.Diff.{same_at};
+ghost use Rattle.dataset.specs.Draft.{drafted};
+ghost use Rattle.dataset.specs.Sound.{IsSound};
+ghost use Rattle.tool_api.specs.Changes.{content_of};
+ghost use Rattle.tool_api.specs.Closing.{closing, closing_tests, disturb_test, fit_test, disturbs, spoils, in_conflict, is_full};
+ghost use Rattle.tool_api.specs.Patches.{Kept};
+ghost use Rattle.tool_api.specs.Plain.{answered};
+
+use crate::refusal::Refusal;
+use crate::reply::Reply;
+use crate::steps::Steps;
+use crate::tests::is_named;
+use dataset::{DataSet, Draft};
+use osm_base::{Content, Key, Keys, fits, same};
+use osm_table::Entry;
+use std::alloc::AllocError;
+
+/// The last number that a new object may have: ids are from -10^18 on.
+const LAST_NUMBER: u64 = 1_000_000_000_000_000_000;
+
+fn in_conflict(found: Option<&Entry>) -> bool
+    ensures { result ≡ in_conflict (option_copied found.entry) }
+{
+    match found {
+        Some(Entry::Known { conflict, .. }) => conflict.is_some(),
+        _ => false,
+    }
+}
+
+fn same_entries(a: Option<&Entry>, b: Option<&Entry>) -> bool
+    ensures { result ≡ same_at (option_copied a.entry) (option_copied b.entry) }
+{
+    match (a, b) {
+        (None, None) => true,
+        (Some(a), Some(b)) => a.same(b),
+        _ => false,
+    }
+}
+
+fn disturbs(named: &[Key], key: Key, before: Option<&Entry>, after: Option<&Entry>) -> bool
+    ensures { result ≡ disturbs named.now key (option_copied before.entry) (option_copied after.entry) }
+{
+    in_conflict(before) && !is_named(named, key) && !same_entries(before, after)
+}
+
+/// The first of the keys whose entry is in conflict, changes, and isn't named.
+fn disturbed(ds: &DataSet, draft: &Draft, named: &[Key], keys: &[Key]) -> Option<Key>
+    ensures { result ≡ find (λ k. disturbs named.now k (entry_of ds.now k) (entry_of (drafted draft.now ds.now) k)) keys.now }
+{
+    for key in keys {
+        if disturbs(named, *key, ds.entry(*key), draft.entry(ds, *key)) {
+            return Some(*key);
+        }
+    }
+    None
+}
+
+fn disturb_test(ds: &DataSet, draft: &Draft, named: &[Key], keys: &[Key]) -> Option<Refusal>
+    requires keys { keys.now ≡ map.keys draft.now.puts }
+    ensures { result ≡ disturb_test ds.now named.now (drafted draft.now ds.now) }
+{
+    match disturbed(ds, draft, named, keys) {
+        None => None,
+        Some(key) => Some(Refusal::InConflict(key)),
+    }
+}
+
+fn content(found: Option<&Entry>) -> Option<&Content>
+    ensures { option_copied result ≡ option_and_then mine_of (option_copied found.entry) }
+{
+    match found {
+        None => None,
+        Some(entry) => entry.mine(),
+    }
+}
+
+fn is_content(before: Option<&Content>, after: &Content) -> bool
+    ensures { result ≡ same_mine (option_copied before.entry) (Some after.now) }
+{
+    match before {
+        None => false,
+        Some(before) => same(before, after),
+    }
+}
+
+fn spoils(before: Option<&Content>, after: Option<&Content>) -> bool
+    ensures { result ≡ spoils (option_copied before.entry) (option_copied after.entry) }
+{
+    match after {
+        None => false,
+        Some(after) => !fits(after) && !is_content(before, after),
+    }
+}
+
+/// The first of the keys whose content changes to one that doesn't fit.
+fn spoiled(ds: &DataSet, draft: &Draft, keys: &[Key]) -> Option<Key>
+    ensures { result ≡ find (λ k. spoils (content_of ds.now k) (content_of (drafted draft.now ds.now) k)) keys.now }
+{
+    for key in keys {
+        if spoils(content(ds.entry(*key)), content(draft.entry(ds, *key))) {
+            return Some(*key);
+        }
+    }
+    None
+}
+
+fn fit_test(ds: &DataSet, draft: &Draft, keys: &[Key]) -> Option<Refusal>
+    requires keys { keys.now ≡ map.keys draft.now.puts }
+    ensures { result ≡ fit_test ds.now (drafted draft.now ds.now) }
+{
+    match spoiled(ds, draft, keys) {
+        None => None,
+        Some(key) => Some(Refusal::Unfit(key)),
+    }
+}
+
+/// How many of the keys have an entry before the job.
+fn held_before(ds: &DataSet, keys: &[Key]) -> usize
+    ensures { result ≡ count_by (λ k. is_some (entry_of ds.now k)) keys.now }
+{
+    keys.iter().filter(|key| ds.entry(**key).is_some()).count()
+}
+
+/// How many of the keys have an entry after it.
+fn held_after(ds: &DataSet, draft: &Draft, keys: &[Key]) -> usize
+    ensures { result ≡ count_by (λ k. is_some (entry_of (drafted draft.now ds.now) k)) keys.now }
+{
+    keys.iter()
+        .filter(|key| draft.entry(ds, **key).is_some())
+        .count()
+}
+
+/// Whether the draft's table has more entries than the limit, or no number is left.
+fn is_full(ds: &DataSet, draft: &Draft, keys: &[Key], limit: u64) -> bool
+    requires keys { keys.now ≡ map.keys draft.now.puts }
+    ensures { result ≡ is_full limit (drafted draft.now ds.now) }
+{
+    let before = held_before(ds, keys) as u128;
+    let after = held_after(ds, draft, keys) as u128;
+    limit as u128 + before < ds.len() as u128 + after || LAST_NUMBER < draft.next()
+}
+
+/// The closing tests of a job, from its draft: InConflict, Unfit, TableFull. They look at the draft's keys alone.
+///
+/// # Errors
+/// No memory was left.
+pub fn closing_tests(
+    ds: &DataSet,
+    draft: &Draft,
+    named: &[Key],
+    limit: u64,
+) -> Result<Option<Refusal>, AllocError>
+    ensures { IfOk result (λ r. r ≡ closing_tests ds.now limit named.now (drafted draft.now ds.now)) }
+{
+    let keys = draft.ordered()?;
+    if let Some(refusal) = disturb_test(ds, draft, named, &keys) {
+        return Ok(Some(refusal));
+    }
+    if let Some(refusal) = fit_test(ds, draft, &keys) {
+        return Ok(Some(refusal));
+    }
+    if is_full(ds, draft, &keys, limit) {
+        return Ok(Some(Refusal::TableFull));
+    }
+    Ok(None)
+}
+
+/// Ends a job: refuses by the closing tests, or makes the draft's table the table, keeps the difference as the last
+/// step, and answers the keys. It costs the draft's entries and their references.
+///
+/// # Errors
+/// No memory was left, and then nothing is changed.
+pub fn finish(
+    steps: &mut Steps,
+    ds: &mut DataSet,
+    draft: &Draft,
+    named: &[Key],
+    limit: u64,
+    keys: Keys,
+) -> Result<Reply, AllocError>
+    requires sound { closing_tests ds.old limit named.now (drafted draft.now ds.old) ≡ None → IsSound (drafted draft.now ds.old) }
+    ensures reply { IfOk result (λ r. r ≡ (answered ds.old (closing ds.old limit named.now (record { keys = keys; table = drafted draft.now ds.old }))).reply) }
+    ensures table { OnOk result (ds.new ≡ (answered ds.old (closing ds.old limit named.now (record { keys = keys; table = drafted draft.now ds.old }))).table) }
+    ensures done { IfOk result (λ r. Kept r ds.old ds.new steps.old.0 steps.new.0) }
+    ensures undone { steps.new.1 ≡ steps.old.1 }
+    ensures err_table { OnErr result (ds.new ≡ ds.old) }
+    ensures err_done { OnErr result (steps.new.0 ≡ steps.old.0) }
+{
+    if let Some(refusal) = closing_tests(ds, draft, named, limit)? {
+        return Ok(Reply::Refused(refusal));
+    }
+    steps.commit(ds, draft)?;
+    Ok(Reply::Done(keys))
+}

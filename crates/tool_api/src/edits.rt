@@ -1,0 +1,97 @@
+//! Drafts in which each of several objects has its content edited.
+ghost use Rattle.std.specs.Prelude.{◌≡◌, OnOk, IfOk};
+ghost use Rattle.std.specs.Option.{option_map};
+ghost use Rattle.osm_base.specs.declared.content.Content.{Content};
+ghost use Rattle.dataset.specs.Draft.{drafted};
+ghost use Rattle.tool_api.specs.Changes.{changed, edit, with_mine};
+
+use dataset::{DataSet, Draft};
+use osm_base::{Content, Key};
+use osm_table::Entry;
+use std::alloc::AllocError;
+
+/// What a job makes of a content.
+pub trait EditContent {
+    ghost edited: { Self → Content → Content };
+
+    /// The content as the job leaves it.
+    ///
+    /// # Errors
+    /// No memory was left.
+    fn edit(&self, content: Content) -> Result<Content, AllocError>
+        ensures { IfOk result (λ new. new ≡ edited self.now content) };
+}
+
+fn edited_mine<E: EditContent>(
+    mine: Option<Content>,
+    rule: &E,
+) -> Result<Option<Content>, AllocError>
+    ensures { IfOk result (λ new. new ≡ option_map (E.edited rule.now) mine) }
+{
+    match mine {
+        None => Ok(None),
+        Some(content) => Ok(Some(rule.edit(content)?)),
+    }
+}
+
+fn edited_entry<E: EditContent>(entry: Entry, rule: &E) -> Result<Entry, AllocError>
+    ensures { IfOk result (λ new. new ≡ with_mine (E.edited rule.now) entry) }
+{
+    match entry {
+        Entry::Incomplete => Ok(Entry::Incomplete),
+        Entry::Known {
+            base,
+            mine,
+            conflict,
+        } => Ok(Entry::Known {
+            base,
+            mine: edited_mine(mine, rule)?,
+            conflict,
+        }),
+    }
+}
+
+fn edited_at<E: EditContent>(ds: &DataSet, key: Key, rule: &E) -> Result<Option<Entry>, AllocError>
+    ensures { IfOk result (λ new. new ≡ edit ds.now (E.edited rule.now) key) }
+{
+    match ds.entry(key) {
+        None => Ok(None),
+        Some(entry) => Ok(Some(edited_entry(entry.copy()?, rule)?)),
+    }
+}
+
+/// Puts the entry of each of the keys into the draft, with the content that the data set has edited. A look-up and a
+/// copy each.
+///
+/// # Errors
+/// No memory was left; then the draft has some of them.
+pub fn edit_all<E: EditContent>(
+    ds: &DataSet,
+    keys: &[Key],
+    rule: &E,
+    draft: &mut Draft,
+) -> Result<(), AllocError>
+    ensures { OnOk result (drafted draft.new ds.now ≡ changed (drafted draft.old ds.now) (edit ds.now (E.edited rule.now)) keys.now) }
+{
+    for key in keys {
+        let after = edited_at(ds, *key, rule)?;
+        draft.put(*key, after)?;
+    }
+    Ok(())
+}
+
+/// The draft in which each of the keys has its content edited. A look-up and a copy each.
+///
+/// # Errors
+/// No memory was left.
+pub fn edited_draft<E: EditContent>(
+    ds: &DataSet,
+    keys: &[Key],
+    rule: &E,
+) -> Result<Draft, AllocError>
+    ensures { IfOk result (λ draft. drafted draft ds.now ≡ changed ds.now (edit ds.now (E.edited rule.now)) keys.now) }
+{
+    let mut draft = Draft::new(ds);
+    edit_all(ds, keys, rule, &mut draft)?;
+    Ok(draft)
+}

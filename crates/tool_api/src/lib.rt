@@ -1,0 +1,36 @@
+//! What a command does, and how the history of a session knows it.
+//!
+//! A *job* is one command with its arguments; a *tool* is a box that runs the jobs of one verb over a data set,
+//! keeps the patch of each job that it did, and can take the last one back or do it again. What each job means,
+//! its reply and the new table, is one small definition in `specs/`: `plain`. A tool is proved to do just that.
+//!
+//! To add a command: add its variant to `Job` (and to `Refusal`, with the next number, where it refuses in a new
+//! way); write its definition in a file of `specs/` from the words of `specs/Tests`, `Changes` and `Closing`, with
+//! a worked example in `proofs/Examples`; add its line to `outcome` in `specs/Plain`; then write its tool over the
+//! calls of this crate: the tests, a draft of the change, and `finish`.
+#![tactic(auto)]
+
+mod closing;
+mod edits;
+mod job;
+mod kinds;
+mod refusal;
+mod reply;
+mod steps;
+mod tests;
+mod tool;
+mod verb;
+
+pub use closing::{closing_tests, finish};
+pub use edits::{EditContent, edit_all, edited_draft};
+pub use job::Job;
+pub use kinds::Kinds;
+pub use refusal::Refusal;
+pub use reply::Reply;
+pub use steps::Steps;
+pub use tests::{
+    is_named, list_tests, reference_tests, target_test, target_tests, twice_test, use_test,
+    use_tests,
+};
+pub use tool::Tool;
+pub use verb::Verb;

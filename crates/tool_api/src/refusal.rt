@@ -1,0 +1,68 @@
+//! Why a job is refused.
+ghost use Rattle.std.specs.Prelude.{◌≡◌};
+ghost use Rattle.tool_api.specs.Refusals.{number_of};
+
+use osm_base::{Key, Text};
+
+/// Why a job is refused, and what it concerns. A refused job changes nothing.
+#[derive(Debug, Drop)]
+pub enum Refusal {
+    /// The object isn't in the table.
+    Absent(Key),
+    /// The object is only referred to.
+    IncompleteObject(Key),
+    /// The object is deleted.
+    DeletedObject(Key),
+    /// The object is in conflict.
+    InConflict(Key),
+    /// The object is used, by the least user that isn't named.
+    InUse(Key, Key),
+    /// The command doesn't take objects of this kind.
+    WrongKind(Key),
+    /// The object would not fit the limits of API 0.6.
+    Unfit(Key),
+    /// The node would leave the map.
+    OutOfRange(Key),
+    /// The object is named twice.
+    NamedTwice(Key),
+    /// The node isn't one of the way.
+    NotInWay(Key),
+    /// The nodes cut nothing off the way.
+    NothingToSplit(Key),
+    /// The way doesn't meet the end of those before.
+    NotJoined(Key),
+    /// Two of the ways have unlike values of the key.
+    TagClash(Text),
+    /// The relation's members don't name the ways as one run.
+    MemberClash(Key),
+    /// The table would have more objects than the limit, or no number is left.
+    TableFull,
+    /// The object is known already, or deleted in the file: taking that in isn't built yet.
+    NotBuilt(Key),
+}
+
+impl Refusal {
+    /// The number in a reply.
+    pub fn number(&self) -> u8
+        ensures { result ≡ number_of self.now }
+    {
+        match self {
+            Refusal::Absent(_) => 1,
+            Refusal::IncompleteObject(_) => 2,
+            Refusal::DeletedObject(_) => 3,
+            Refusal::InConflict(_) => 4,
+            Refusal::InUse(_, _) => 5,
+            Refusal::WrongKind(_) => 6,
+            Refusal::Unfit(_) => 7,
+            Refusal::OutOfRange(_) => 8,
+            Refusal::NamedTwice(_) => 9,
+            Refusal::NotInWay(_) => 10,
+            Refusal::NothingToSplit(_) => 11,
+            Refusal::NotJoined(_) => 12,
+            Refusal::TagClash(_) => 13,
+            Refusal::MemberClash(_) => 14,
+            Refusal::TableFull => 18,
+            Refusal::NotBuilt(_) => 28,
+        }
+    }
+}
