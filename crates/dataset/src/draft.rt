@@ -89,8 +89,12 @@ impl Draft {
         }
     }
 
-    /// Its keys by rank.
-    pub(crate) fn ordered(&self) -> Result<Vec<Key>, AllocError>
+    /// Its keys by rank. Sorts them once.
+    ///
+    /// # Errors
+    ///
+    /// Where no memory is found.
+    pub fn ordered(&self) -> Result<Vec<Key>, AllocError>
         ensures { IfOk result (λ keys. keys.items ≡ map.keys self.now.puts) }
     {
         let mut keys = keys(&self.puts)?;
