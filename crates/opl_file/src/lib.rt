@@ -22,5 +22,6 @@ mod reader;
 
 pub use fault::{FileAnswer, FileFault};
 pub use law::same_for_any_pieces;
+pub use line::first_line;
 pub use objects::Objects;
 pub use reader::Reader;

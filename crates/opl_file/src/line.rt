@@ -13,8 +13,8 @@ use osm_base::Pool;
 /// How many bytes a line may have without its LF.
 pub(crate) const LINE_LIMIT: usize = 16_777_216;
 
-/// The bytes up to the first LF, and those that follow it, where there is one.
-pub(crate) fn first_line(bytes: &[u8]) -> (&[u8], Option<&[u8]>)
+/// The bytes up to the first LF, and those that follow it, where there is one. The bytes are walked up to the LF.
+pub fn first_line(bytes: &[u8]) -> (&[u8], Option<&[u8]>)
     ensures front { has_lf result.0.now ≡ false }
     ensures parts { MatchOption result.1 (result.0.now ≡ bytes.now) (λ rest. bytes.now ≡ result.0.now ++ 10 ∷ rest.now) }
 {

@@ -10,7 +10,6 @@
 //! Lines are cut as they are read, by one function for every separator; no list of pieces is made.
 #![tactic(auto)]
 
-mod cut;
 mod fault;
 mod fields;
 mod law;
@@ -20,13 +19,16 @@ mod lists;
 mod mode;
 mod number;
 mod object;
+mod pieces;
 mod writing;
 
 pub use fault::{LineAnswer, LineFault};
 pub use law::read_as_spelled;
-pub use line::read_line;
+pub use line::{freed, is_blank, read_line};
+pub use lists::{read_members, read_refs, read_tags};
 pub use mode::Mode;
 pub use object::{LineKind, OplObject};
+pub use pieces::cut;
 pub use writing::write_line;
 
 #[cfg(test)]

@@ -9,11 +9,11 @@ ghost use Rattle.opl_line.specs.Field.{is_allowed, field_into};
 ghost use Rattle.opl_line.specs.Line.{is_blank, id_at, key_at, no_fields, version_of, location_of, content_of, side_of, completed, meta_of, object_of, freed, is_skipped, kind_of_line, line_of};
 ghost use Rattle.opl_line.specs.Writable.{IsReadObject};
 
-use crate::cut::cut;
 use crate::fault::{LineAnswer, LineFault};
 use crate::fields::field_into;
 use crate::mode::{Mode, is_allowed};
 use crate::object::{Fields, LineKind, OplObject};
+use crate::pieces::cut;
 use osm_base::{
     Content, Coord, Key, Kind, Members, Meta, Pool, Refs, Tags, Text, kind_of, read_id,
 };
@@ -233,7 +233,7 @@ fn object_of(pool: &mut Pool, mode: Mode, line: &[u8]) -> Result<OplObject, Line
 }
 
 /// The line without one CR at its end.
-fn freed(line: &[u8]) -> &[u8]
+pub fn freed(line: &[u8]) -> &[u8]
     ensures { result.now ≡ freed line.now }
 {
     if !line.is_empty() && line[line.len() - 1] == b'\r' {
@@ -243,7 +243,8 @@ fn freed(line: &[u8]) -> &[u8]
     }
 }
 
-fn is_blank(byte: u8) -> bool
+/// Whether the byte is a space or a tab.
+pub fn is_blank(byte: u8) -> bool
     ensures { result ≡ is_blank byte }
 {
     byte == b' ' || byte == b'\t'

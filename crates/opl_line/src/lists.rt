@@ -12,10 +12,10 @@ ghost use Rattle.opl_line.specs.Reads.{Gives, or_fault, folded};
 ghost use Rattle.opl_line.specs.Cut.{is_one_of, split};
 ghost use Rattle.opl_line.specs.Field.{is_allowed, tag_into, tags_text, is_place, is_place_or_none, ref_text, ref_into, refs_text, member_at, member_into, members_text};
 
-use crate::cut::cut;
 use crate::fault::{LineAnswer, LineFault};
 use crate::mode::{Mode, is_allowed};
 use crate::number::read_place;
+use crate::pieces::cut;
 use opl_text::read_escaped;
 use osm_base::{Key, Member, Members, Pool, Refs, Tags, Text, TextFault, kind_of, read_id};
 
@@ -71,7 +71,10 @@ fn all_tags(pool: &mut Pool, text: &[u8]) -> Result<Tags, LineAnswer>
     }
 }
 
-/// The value of `T`.
+/// The tags that the text behind a field's `T` spells. It is walked once.
+///
+/// # Errors
+/// `Bad` with the first fault from the left; `Memory` where memory ran out.
 #[tactic(auto, unfolding(crate::specs::Field::tags_text))]
 pub fn read_tags(pool: &mut Pool, text: &[u8]) -> Result<Tags, LineAnswer>
     ensures { Gives (λ tags. tags) result (tags_text text.now) }
@@ -149,7 +152,10 @@ fn all_refs(pool: &mut Pool, text: &[u8]) -> Result<Refs, LineAnswer>
     }
 }
 
-/// The value of `N`.
+/// The references that the text behind a field's `N` spells. It is walked once.
+///
+/// # Errors
+/// `Bad` with the first fault from the left; `Memory` where memory ran out.
 #[tactic(auto, unfolding(crate::specs::Field::refs_text))]
 pub fn read_refs(pool: &mut Pool, text: &[u8]) -> Result<Refs, LineAnswer>
     ensures { Gives (λ refs. refs) result (refs_text text.now) }
@@ -217,7 +223,10 @@ fn all_members(pool: &mut Pool, text: &[u8]) -> Result<Members, LineAnswer>
     }
 }
 
-/// The value of `M`.
+/// The members that the text behind a field's `M` spells. It is walked once.
+///
+/// # Errors
+/// `Bad` with the first fault from the left; `Memory` where memory ran out.
 #[tactic(auto, unfolding(crate::specs::Field::members_text))]
 pub fn read_members(pool: &mut Pool, text: &[u8]) -> Result<Members, LineAnswer>
     ensures { Gives (λ members. members) result (members_text text.now) }

@@ -87,6 +87,24 @@ impl ToldMap {
         let (key, _) = self.entries.get_index(i).unwrap();
         *key
     }
+
+    /// The `i`th key that was put, and what is told of it. It costs no look-up.
+    pub fn entry_at(&self, i: usize) -> (Key, &Told)
+        requires { i < length self.now.order }
+        ensures key { slice_get self.now.order i ≡ Some result.0 }
+        ensures told { told_at self.now result.0 ≡ Some result.1.now }
+    {
+        let (key, told) = self.entries.get_index(i).unwrap();
+        (*key, told)
+    }
+
+    /// What every told map keeps. Costs nothing.
+    pub fn sound(&self)
+        ensures told_map { IsToldMap self.now.told }
+        ensures each { (key : Key) → list_any (is_key key) self.now.order ≡ is_some (told_at self.now key) }
+    {
+        let _ = &self.entries;
+    }
 }
 
 #[cfg(test)]

@@ -11,6 +11,8 @@ fn is_mark(a: u8, b: u8, byte: u8) -> bool
 }
 
 /// The piece before the first of two separators, and the bytes behind it where there is one.
+///
+/// For one separator it is given twice. The bytes are walked up to the separator.
 pub fn cut(bytes: &[u8], a: u8, b: u8) -> (&[u8], Option<&[u8]>)
     ensures before { result.0.now ≡ before (is_one_of a b) bytes.now }
     ensures after { option_map (λ rest. rest.now) result.1 ≡ after (is_one_of a b) bytes.now }

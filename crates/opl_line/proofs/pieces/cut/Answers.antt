@@ -1,7 +1,7 @@
 use Rattle.std.proofs.Common.{◌∙◌, sym, add-one, arith}
 use Rattle.std.proofs.lemmas.Grind.{common_steps}
 use Rattle.opl_line.proofs.Cutting.{cut_at, uncut, before_at, after_at, uncut_before, uncut_after}
-use Rattle.opl_line.proofs.cut.cut.Goals as goal
+use Rattle.opl_line.proofs.pieces.cut.Goals as goal
 
 pub returns-then-is_mark-clause-pieces : goal.returns-then-is_mark-clause-pieces
 returns-then-is_mark-clause-pieces c = (
