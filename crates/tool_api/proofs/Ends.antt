@@ -44,7 +44,3 @@ first_turned (p ∷ ps) = ap (λ (v : List PatchValue). first_patch (turned v)) 
 pub rest_turned : (ps : List PatchValue) → rest (turned ps) ≡ turned (front ps)
 rest_turned [] = refl
 rest_turned (p ∷ ps) = ap (λ (v : List PatchValue). rest (turned v)) (split p ps) ∙ ap rest (turned_pushed (front (p ∷ ps)) (last_patch (p ∷ ps)))
-
-pub some_turned : (ps : List PatchValue) → 0 < length (turned ps) → 0 < length ps
-some_turned [] h = h
-some_turned (p ∷ ps) h = omega arith

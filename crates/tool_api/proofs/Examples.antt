@@ -256,3 +256,16 @@ known_already = simp (fin.get-entries, in_told, in_village) refl
 takes_in : mine_in (merge village 9 (told_of (w 3) (told.Live 1 (line (3 ∷ 4 ∷ [])) server)))
     ≡ (n 1, Some (dot [])) ∷ (n 2, Some (dot [])) ∷ (n 3, Some (dot [])) ∷ (n 4, None) ∷ (w 1, Some (line (1 ∷ 2 ∷ []))) ∷ (w 2, Some (line (3 ∷ 2 ∷ []))) ∷ (w 3, Some (line (3 ∷ 4 ∷ []))) ∷ (r 9, Some (route_of (m (w 1) [] ∷ m (w 2) [] ∷ []))) ∷ []
 takes_in = simp (in_told, fin.len-entries, fin.get-entries, fin.entries-insert {X = Entry} rank_total, in_village) refl
+
+-- where n1 is deleted, w3 Nn1,n4 is refused
+abbrev deleted : List (Key × Entry)
+deleted = (n 1, Known (base.Live 1 (dot []) server) None None) ∷ []
+
+abbrev ruin : TableValue
+ruin = record { entries = fin.from_sorted deleted; next = 1 }
+
+in_ruin : fin.entries (fin.from_sorted {R = rank_cmp} deleted) ≡ deleted
+in_ruin = fin.entries-from_sorted rank_cmp deleted tt
+
+on_deleted : refused (merge ruin 9 (told_of (w 3) (told.Live 1 (line (1 ∷ 4 ∷ [])) server))) ≡ Some (NotBuilt (n 1))
+on_deleted = simp (fin.get-entries, in_told, in_ruin) refl

@@ -1,7 +1,10 @@
+pub mod Bridge
+pub mod Distincts
 pub mod Ends
 pub mod Examples
 pub mod Least
 pub mod Looks
 pub mod Passed
 pub mod Rooms
+pub mod Seen
 pub mod Sounds

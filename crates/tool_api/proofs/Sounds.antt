@@ -50,7 +50,7 @@ each_edited P t f ks all keeps live = each_changed P t (edit t f) ks all
     (λ k e named has. edited_from P f k e (entry_of t k) has (λ x is. keeps k x named is (live k x named is) (all k x is)))
 
 -- an entry by itself
-content_edited : (n : ℕ) (f : Content → Content) (k : Key) (base : Base) (c : Content) → kind_of_content (f c) ≡ kind_of_content c → (fits (f c) ≡ true) ⊎ (Some c ≡ Some (f c)) → IsSoundEntry n k (Known base (Some c) None) → IsSoundEntry n k (Known base (Some (f c)) None)
+pub content_edited : (n : ℕ) (f : Content → Content) (k : Key) (base : Base) (c : Content) → kind_of_content (f c) ≡ kind_of_content c → (fits (f c) ≡ true) ⊎ (Some c ≡ Some (f c)) → IsSoundEntry n k (Known base (Some c) None) → IsSoundEntry n k (Known base (Some (f c)) None)
 content_edited n f k base c kind (inl fit) s = mine_entry n k base (Some c) (f c) None s (kind ∙ s.kinds.1) fit tt
 content_edited n f k base c kind (inr same) s = subst (λ (x : Option Content). IsSoundEntry n k (Known base x None)) same s
 

@@ -1,6 +1,8 @@
+pub mod Order
 pub mod Refusals
 pub mod Patches
 pub mod Tests
+pub mod Distinct
 pub mod Changes
 pub mod Closing
 pub mod Basic

@@ -12,9 +12,10 @@ ghost use Rattle.dataset.specs.Diff.{same_at};
 ghost use Rattle.dataset.specs.Draft.{drafted};
 ghost use Rattle.dataset.specs.Sound.{IsSound};
 ghost use Rattle.tool_api.specs.Changes.{content_of};
-ghost use Rattle.tool_api.specs.Closing.{closing, closing_tests, disturb_test, fit_test, disturbs, spoils, in_conflict, is_full};
+ghost use Rattle.tool_api.specs.Closing.{closing, closing_tests, disturb_test, fit_test, room_test, disturbs, spoils, in_conflict, is_full};
 ghost use Rattle.tool_api.specs.Patches.{Kept};
 ghost use Rattle.tool_api.specs.Plain.{answered};
+ghost use Rattle.tool_api.specs.declared.reply.Reply.TheVariants.{Done};
 
 use crate::refusal::Refusal;
 use crate::reply::Reply;
@@ -150,6 +151,21 @@ fn is_full(ds: &DataSet, draft: &Draft, keys: &[Key], limit: u64) -> bool
     limit as u128 + before < ds.len() as u128 + after || LAST_NUMBER < draft.next()
 }
 
+/// The room test of a job, from its draft: TableFull. It is the last of the closing tests, for a job that asks no other.
+/// It looks at the draft's keys alone.
+///
+/// # Errors
+/// No memory was left.
+pub fn room_test(ds: &DataSet, draft: &Draft, limit: u64) -> Result<Option<Refusal>, AllocError>
+    ensures { IfOk result (λ r. r ≡ room_test limit (drafted draft.now ds.now)) }
+{
+    let keys = draft.ordered()?;
+    if is_full(ds, draft, &keys, limit) {
+        return Ok(Some(Refusal::TableFull));
+    }
+    Ok(None)
+}
+
 /// The closing tests of a job, from its draft: InConflict, Unfit, TableFull. They look at the draft's keys alone.
 ///
 /// # Errors
@@ -199,6 +215,28 @@ pub fn finish(
     if let Some(refusal) = closing_tests(ds, draft, named, limit)? {
         return Ok(Reply::Refused(refusal));
     }
+    accept(steps, ds, draft, keys)
+}
+
+/// Ends a job that has no closing tests: makes the draft's table the table, keeps the difference as the last step, and
+/// answers the keys. It costs the draft's entries and their references.
+///
+/// # Errors
+/// No memory was left, and then nothing is changed.
+pub fn accept(
+    steps: &mut Steps,
+    ds: &mut DataSet,
+    draft: &Draft,
+    keys: Keys,
+) -> Result<Reply, AllocError>
+    requires sound { IsSound (drafted draft.now ds.old) }
+    ensures reply { IfOk result (λ r. r ≡ Done keys) }
+    ensures table { OnOk result (ds.new ≡ drafted draft.now ds.old) }
+    ensures done { IfOk result (λ r. Kept r ds.old ds.new steps.old.0 steps.new.0) }
+    ensures undone { steps.new.1 ≡ steps.old.1 }
+    ensures err_table { OnErr result (ds.new ≡ ds.old) }
+    ensures err_done { OnErr result (steps.new.0 ≡ steps.old.0) }
+{
     steps.commit(ds, draft)?;
     Ok(Reply::Done(keys))
 }

@@ -13,24 +13,27 @@
 mod closing;
 mod edits;
 mod job;
+mod key_set;
 mod kinds;
+mod order;
 mod refusal;
 mod reply;
 mod steps;
 mod tests;
 mod tool;
+mod uses;
 mod verb;
 
-pub use closing::{closing_tests, finish};
+pub use closing::{accept, closing_tests, finish, room_test};
 pub use edits::{EditContent, edit_all, edited_draft};
 pub use job::Job;
+pub use key_set::{KeySet, distinct};
 pub use kinds::Kinds;
+pub use order::ranked;
 pub use refusal::Refusal;
 pub use reply::Reply;
 pub use steps::Steps;
-pub use tests::{
-    is_named, list_tests, reference_tests, target_test, target_tests, twice_test, use_test,
-    use_tests,
-};
+pub use tests::{is_named, list_tests, reference_tests, target_test, target_tests, twice_test};
 pub use tool::Tool;
+pub use uses::{use_test, use_tests};
 pub use verb::Verb;

@@ -1,15 +1,16 @@
 //! The tests that jobs share. Each gives the first refusal in the fixed order, or none.
-ghost use Rattle.std.specs.Prelude.{◌≡◌, not, []};
-ghost use Rattle.std.specs.List.{find};
+ghost use Rattle.std.specs.Prelude.{◌≡◌, [], IfOk};
 ghost use Rattle.std.specs.Option.{option_copied};
 ghost use Rattle.osm_table.specs.Table.{entry_of};
-ghost use Rattle.tool_api.specs.Tests.{is_named, entry_test, target_test, twice_test, list_tests, ref_entry_test, ref_tests, use_test, first_of};
+ghost use Rattle.tool_api.specs.Tests.{is_named, entry_test, target_test, twice_test, list_tests, ref_entry_test, ref_tests, first_of};
 
 use crate::kinds::Kinds;
 use crate::refusal::Refusal;
 use dataset::DataSet;
+use indexmap::IndexSet;
 use osm_base::{Key, same_key};
 use osm_table::Entry;
+use std::alloc::{AllocError, Global};
 
 /// Whether the key is one of those. It walks them up to the first match.
 pub fn is_named(keys: &[Key], key: Key) -> bool
@@ -56,27 +57,33 @@ pub fn target_tests(ds: &DataSet, kinds: Kinds, keys: &[Key]) -> Option<Refusal>
     None
 }
 
-/// NamedTwice for the first key that repeats one before it. It compares each key with those before it.
-pub fn twice_test(keys: &[Key]) -> Option<Refusal>
-    ensures { result ≡ twice_test [] keys.now }
+/// NamedTwice for the first key that repeats one before it. It hashes each key once.
+///
+/// # Errors
+/// No memory was left.
+pub fn twice_test(alloc: Global, keys: &[Key]) -> Result<Option<Refusal>, AllocError>
+    ensures { IfOk result (λ r. r ≡ twice_test [] keys.now) }
 {
-    for i in 0..keys.len() {
-        let key = keys[i];
-        if is_named(&keys[..i], key) {
-            return Some(Refusal::NamedTwice(key));
+    let mut seen = IndexSet::new(alloc);
+    for key in keys {
+        if !seen.insert(*key)? {
+            return Ok(Some(Refusal::NamedTwice(*key)));
         }
     }
-    None
+    Ok(None)
 }
 
-/// The list tests: NamedTwice, then the target tests object by object.
-pub fn list_tests(ds: &DataSet, kinds: Kinds, keys: &[Key]) -> Option<Refusal>
-    ensures { result ≡ list_tests ds.now kinds keys.now }
+/// The list tests: NamedTwice, then the target tests object by object. A hash and a look-up each.
+///
+/// # Errors
+/// No memory was left.
+pub fn list_tests(ds: &DataSet, kinds: Kinds, keys: &[Key]) -> Result<Option<Refusal>, AllocError>
+    ensures { IfOk result (λ r. r ≡ list_tests ds.now kinds keys.now) }
 {
-    if let Some(refusal) = twice_test(keys) {
-        return Some(refusal);
+    if let Some(refusal) = twice_test(ds.alloc(), keys)? {
+        return Ok(Some(refusal));
     }
-    target_tests(ds, kinds, keys)
+    Ok(target_tests(ds, kinds, keys))
 }
 
 fn reference_test(key: Key, found: Option<&Entry>) -> Option<Refusal>
@@ -96,34 +103,6 @@ pub fn reference_tests(ds: &DataSet, refs: &[Key]) -> Option<Refusal>
 {
     for key in refs {
         if let Some(refusal) = reference_test(*key, ds.entry(*key)) {
-            return Some(refusal);
-        }
-    }
-    None
-}
-
-fn first_other(users: &[Key], named: &[Key]) -> Option<Key>
-    ensures { result ≡ find (λ u. not (is_named named.now u)) users.now }
-{
-    users.iter().copied().find(|user| !is_named(named, *user))
-}
-
-/// InUse with the least user that isn't named. It walks the users up to that one.
-pub fn use_test(ds: &DataSet, named: &[Key], key: Key) -> Option<Refusal>
-    ensures { result ≡ use_test ds.now named.now key }
-{
-    match first_other(ds.users(key), named) {
-        None => None,
-        Some(by) => Some(Refusal::InUse(key, by)),
-    }
-}
-
-/// InUse for the first of the keys that has such a user.
-pub fn use_tests(ds: &DataSet, named: &[Key], keys: &[Key]) -> Option<Refusal>
-    ensures { result ≡ first_of (use_test ds.now named.now) keys.now }
-{
-    for key in keys {
-        if let Some(refusal) = use_test(ds, named, *key) {
             return Some(refusal);
         }
     }

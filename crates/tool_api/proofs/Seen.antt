@@ -1,0 +1,46 @@
+-- A loop over keys that keeps those it has seen.
+use Rattle.std.proofs.Common.{◌≡◌, ◌||◌, ◌+◌, ◌<◌, ℕ, suc, Bool, true, false, cond, not, List, [], ◌∷◌, ◌++◌, length, drop, get_or, Option, Some, refl, sym, ap, ◌∙◌, drop-cons, add-one}
+use Rattle.std.specs.List.{list_any}
+use Rattle.osm_base.specs.KeyEq.{eq}
+use Rattle.osm_base.specs.Rank.{is_key}
+use Rattle.osm_base.specs.RankLaws.{rank_ties}
+use Rattle.osm_base.specs.declared.key.Key.{Key}
+use Rattle.indexmap.specs.IndexSet.{insert_key}
+use Rattle.tool_api.specs.declared.refusal.Refusal.{Refusal}
+use Rattle.tool_api.specs.declared.refusal.Refusal.TheVariants.{NamedTwice}
+use Rattle.tool_api.specs.Tests.{is_named, twice_test}
+
+-- what `==` finds among keys is named
+pub found_named : (seen : List Key) (k : Key) → list_any (eq k) seen ≡ is_named seen k
+found_named [] k = refl
+found_named (j ∷ seen) k = ap (λ b. b || list_any (eq k) seen) (rank_ties k j) ∙ ap (λ b. is_key k j || b) (found_named seen k)
+
+now_at : (seen rest : List Key) (k : Key) → is_named seen k ≡ true → twice_test seen (k ∷ rest) ≡ Some (NamedTwice k)
+now_at seen rest k has = rw has refl
+
+later_at : (seen rest : List Key) (k : Key) → is_named seen k ≡ false → twice_test seen (k ∷ rest) ≡ twice_test (seen ++ k ∷ []) rest
+later_at seen rest k new = rw new refl
+
+pub is_not : (a b : Bool) → a ≡ not b → b ≡ not a
+is_not true true e = e
+is_not true false e = refl
+is_not false true e = refl
+is_not false false e = e
+
+-- a key that a set of those seen doesn't take is named twice
+pub named_again : (ks seen : List Key) (i : ℕ) (none : Key) (r : Option Refusal) → i < length ks → list_any (eq (get_or ks i none)) seen ≡ true → twice_test seen (drop i ks) ≡ r
+    → Some (NamedTwice (get_or ks i none)) ≡ r
+named_again ks seen i none r lt has before =
+    let k = get_or ks i none in
+    sym (now_at seen (drop (suc i) ks) k (sym (found_named seen k) ∙ has)) ∙ sym (ap (twice_test seen) (drop-cons ks i none lt)) ∙ before
+
+inserted : (seen : List Key) (k : Key) → list_any (eq k) seen ≡ false → insert_key eq seen k ≡ seen ++ k ∷ []
+inserted seen k new = rw new refl
+
+-- one that it takes is seen from then on
+pub named_once : (ks seen seen₁ : List Key) (i : ℕ) (none : Key) (r : Option Refusal) → i < length ks → list_any (eq (get_or ks i none)) seen ≡ false → seen₁ ≡ insert_key eq seen (get_or ks i none)
+    → twice_test seen (drop i ks) ≡ r → twice_test seen₁ (drop (i + 1) ks) ≡ r
+named_once ks seen seen₁ i none r lt new put before =
+    let k = get_or ks i none in
+    rw add-one (ap (λ (s : List Key). twice_test s (drop (suc i) ks)) (put ∙ inserted seen k new)
+    ∙ sym (later_at seen (drop (suc i) ks) k (sym (found_named seen k) ∙ new)) ∙ sym (ap (twice_test seen) (drop-cons ks i none lt)) ∙ before)

@@ -1,0 +1,90 @@
+//! Lists of keys in which a key is found without a walk.
+ghost use Rattle.std.specs.Prelude.{◌≡◌, [], IfOk};
+ghost use Rattle.tool_api.specs.Tests.{is_named};
+ghost use Rattle.tool_api.specs.Distinct.{distinct};
+
+use indexmap::IndexSet;
+use osm_base::Key;
+use std::alloc::{AllocError, Global};
+use std::marker::Model;
+
+/// A list of keys that knows at once whether a key is one of them.
+///
+/// Clauses see it as the list.
+#[derive(Drop)]
+pub struct KeySet {
+    keys: Vec<Key>,
+    index: IndexSet<Key>,
+}
+
+impl Model for KeySet {
+    ghost use Rattle.std.specs.Prelude.{◌≡◌, List};
+    ghost use Rattle.indexmap.specs.IndexSet.{contains};
+    ghost use Rattle.osm_base.specs.KeyEq.{eq};
+    ghost use Rattle.osm_base.specs.declared.key.Key.{Key};
+    ghost use Rattle.tool_api.specs.Tests.{is_named};
+
+    ghost Value = { List Key };
+
+    ghost view = { λ s. s.keys.items };
+
+    ghost invariant = { λ s. (key : Key) → contains eq s.index key ≡ is_named s.keys.items key };
+}
+
+impl KeySet {
+    /// These keys. The vector is kept as it is, and each key hashed once.
+    ///
+    /// # Errors
+    /// No memory was left.
+    pub fn new(keys: Vec<Key>) -> Result<KeySet, AllocError>
+        ensures { IfOk result (λ set. set ≡ keys.items) }
+    {
+        let index = index_of(*keys.allocator(), &keys)?;
+        Ok(KeySet { keys, index })
+    }
+
+    /// A copy of these keys. Each is hashed once.
+    ///
+    /// # Errors
+    /// No memory was left.
+    pub fn from_slice(alloc: Global, keys: &[Key]) -> Result<KeySet, AllocError>
+        ensures { IfOk result (λ set. set ≡ keys.now) }
+    {
+        KeySet::new(Vec::from_slice(alloc, keys)?)
+    }
+
+    /// Whether the key is one of those. One look-up.
+    pub fn contains(&self, key: Key) -> bool
+        ensures { result ≡ is_named self.now key }
+    {
+        self.index.contains(&key)
+    }
+
+    /// The keys, in order.
+    pub fn as_slice(&self) -> &[Key]
+        ensures { result.now ≡ self.now }
+    {
+        self.keys.as_slice()
+    }
+}
+
+/// Each of the keys once, in the order in which it comes first. It hashes each key once.
+///
+/// # Errors
+/// No memory was left.
+pub fn distinct(alloc: Global, keys: &[Key]) -> Result<Vec<Key>, AllocError>
+    ensures { IfOk result (λ once. once.items ≡ distinct keys.now) }
+{
+    let index = index_of(alloc, keys)?;
+    Vec::from_slice(alloc, index.as_slice())
+}
+
+fn index_of(alloc: Global, keys: &[Key]) -> Result<IndexSet<Key>, AllocError>
+    ensures { IfOk result (λ index. index.keys ≡ distinct keys.now) }
+{
+    let mut index = IndexSet::new(alloc);
+    for key in keys {
+        index.insert(*key)?;
+    }
+    Ok(index)
+}

@@ -1,0 +1,37 @@
+//! The test of who uses the objects that a job takes away.
+ghost use Rattle.std.specs.Prelude.{◌≡◌, not};
+ghost use Rattle.std.specs.List.{find};
+ghost use Rattle.tool_api.specs.Tests.{is_named, use_test, first_of};
+
+use crate::key_set::KeySet;
+use crate::refusal::Refusal;
+use dataset::DataSet;
+use osm_base::Key;
+
+fn first_other(users: &[Key], named: &KeySet) -> Option<Key>
+    ensures { result ≡ find (λ u. not (is_named named.now u)) users.now }
+{
+    users.iter().copied().find(|user| !named.contains(*user))
+}
+
+/// InUse with the least user that isn't named. A look-up for each user up to that one.
+pub fn use_test(ds: &DataSet, named: &KeySet, key: Key) -> Option<Refusal>
+    ensures { result ≡ use_test ds.now named.now key }
+{
+    match first_other(ds.users(key), named) {
+        None => None,
+        Some(by) => Some(Refusal::InUse(key, by)),
+    }
+}
+
+/// InUse for the first of the keys that has such a user.
+pub fn use_tests(ds: &DataSet, named: &KeySet, keys: &[Key]) -> Option<Refusal>
+    ensures { result ≡ first_of (use_test ds.now named.now) keys.now }
+{
+    for key in keys {
+        if let Some(refusal) = use_test(ds, named, *key) {
+            return Some(refusal);
+        }
+    }
+    None
+}
