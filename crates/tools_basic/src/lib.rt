@@ -1,5 +1,5 @@
-//! The tools of the plain commands. So far the one that adds objects stands; those that set tags, move nodes, or give
-//! an object another place, other nodes or other members belong here.
+//! The tools of the plain commands: adding objects, setting tags, moving nodes, and giving an object another place,
+//! other nodes or other members.
 //!
 //! Each runs the jobs of one verb as `plain` of `tool_api` says, and keeps its patches in `Steps`. A tool's `run` makes
 //! the tests of its job, then a draft of the change, and ends by `finish`, which makes the closing tests; nothing is
@@ -10,6 +10,13 @@
 #![tactic(auto)]
 
 mod add;
+mod change;
+mod edit;
 mod references;
+mod shift;
+mod tag;
 
 pub use add::AddTool;
+pub use change::ChangeTool;
+pub use shift::MoveTool;
+pub use tag::TagTool;
