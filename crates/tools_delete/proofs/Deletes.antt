@@ -1,0 +1,109 @@
+-- Deleting what nothing else uses keeps a table sound.
+use Rattle.std.proofs.Common.{◌≡◌, ◌||◌, ℕ, Bool, true, false, cond, not, is_some, List, [], ◌∷◌, Option, Some, None, refl, sym, ap, ◌∙◌, subst, IsTrue}
+use Rattle.std.specs.List.{find}
+use Rattle.std.specs.Option.{option_map, option_map_or, option_and_then}
+use Rattle.osm_base.specs.Rank.{is_key}
+use Rattle.osm_base.specs.RisingKeys.{is_in}
+use Rattle.osm_base.specs.declared.key.Key.{Key}
+use Rattle.osm_base.specs.declared.content.Content.{Content}
+use Rattle.osm_table.specs.declared.entry.Base.{Base}
+use Rattle.osm_table.specs.declared.entry.Base.TheVariants.{New, Live, Gone}
+use Rattle.osm_table.specs.declared.entry.Entry.{Entry}
+use Rattle.osm_table.specs.declared.entry.Entry.TheVariants.{Incomplete, Known}
+use Rattle.osm_table.specs.Table.{TableValue, entry_of, uses, users, Each, IsThere}
+use Rattle.dataset.specs.Sound.{IsSound, IsSoundEntry, IsNumber, LivesIn}
+use Rattle.dataset.proofs.Changes.{deleted_entry}
+use Rattle.dataset.proofs.Listed.{user_uses}
+use Rattle.tool_api.specs.declared.kinds.Kinds.TheVariants.{Any}
+use Rattle.tool_api.specs.declared.refusal.Refusal.TheVariants.{InUse}
+use Rattle.tool_api.specs.Tests.{◌>>◌, is_named, first_of, list_tests, target_test, twice_test, use_test}
+use Rattle.tool_api.specs.Changes.{changed, delete, deleted}
+use Rattle.tool_api.specs.Gone.{delete_all}
+use Rattle.tool_api.specs.declared.reply.Reply.TheVariants.{Done}
+use Rattle.tool_api.specs.Plain.{Answer, answered}
+use Rattle.tool_api.proofs.Looks.{entry_changed}
+use Rattle.tool_api.proofs.Passed.{Lives, lives, named_lives, both_none, passes, none_passes}
+use Rattle.tool_api.proofs.Sounds.{each_changed, next_is}
+use Rattle.tools_delete.proofs.Anys.{none_in}
+
+-- What is left of a deleted entry.
+
+same_some : {X : Type 0} (x y : X) → Some x ≡ Some y → x ≡ y
+same_some x y e = cc
+
+-- is sound by itself
+pub left_sound : (n : ℕ) (k : Key) (x e : Entry) → Lives x → deleted x ≡ Some e → IsSoundEntry n k x → IsSoundEntry n k e
+left_sound n k x e (lives New c) is s = cc
+left_sound n k x e (lives (Live v d m) c) is s = subst (IsSoundEntry n k) (same_some _ e is) (deleted_entry n k (Live v d m) (Some c) None refl s)
+left_sound n k x e (lives (Gone v m) c) is s = subst (IsSoundEntry n k) (same_some _ e is) (deleted_entry n k (Gone v m) (Some c) None refl s)
+
+-- and refers to nothing
+pub left_refers : (x e : Entry) (r : Key) → deleted x ≡ Some e → uses e r ≡ false
+left_refers Incomplete e r is = ap (λ y. uses y r) (sym (same_some Incomplete e is))
+left_refers (Known New mine conflict) e r is = cc
+left_refers (Known (Live v d m) mine conflict) e r is = ap (λ y. uses y r) (sym (same_some _ e is))
+left_refers (Known (Gone v m) mine conflict) e r is = ap (λ y. uses y r) (sym (same_some _ e is))
+
+pub left_from : (P : Type 0) (e : Entry) (o : Option Entry) → option_and_then deleted o ≡ Some e → ((x : Entry) → o ≡ Some x → deleted x ≡ Some e → P) → P
+left_from P e None has h = cc
+left_from P e (Some x) has h = h x refl has
+
+-- Users.
+
+-- an entry that uses a key is one of the key's users
+pub is_user : (t : TableValue) (k r : Key) (e : Entry) → entry_of t k ≡ Some e → uses e r ≡ true → is_named (users t r) k ≡ true
+is_user t k r e has used = user_uses t r k ∙ ap (λ (o : Option Entry). option_map_or (λ e. uses e r) o false) has ∙ used
+
+not_false : (b : Bool) → not b ≡ false → b ≡ true
+not_false true e = refl
+not_false false e = cc
+
+-- where the test of uses passed, each user is named
+pub user_named : (t : TableValue) (named : List Key) (k r : Key) (e : Entry) → use_test t named r ≡ None → entry_of t k ≡ Some e → uses e r ≡ true → is_named named k ≡ true
+user_named t named k r e free has used =
+    not_false (is_named named k) (none_passes (λ u. not (is_named named u)) (users t r) k (none_in (find (λ u. not (is_named named u)) (users t r)) (λ by. InUse r by) free) (is_user t k r e has used))
+
+-- Changed tables.
+
+-- an entry after a change is a new one at a key that changed, or an old one elsewhere
+pub either : (P : Type 0) (b : Bool) (new old : Option Entry) (e : Entry) → cond b new old ≡ Some e → (b ≡ true → new ≡ Some e → P) → (b ≡ false → old ≡ Some e → P) → P
+either P true new old e has at elsewhere = at refl has
+either P false new old e has at elsewhere = elsewhere refl has
+
+-- what is there stays there where it doesn't change
+pub unchanged_there : (b : Bool) (new old : Option Entry) → b ≡ false → IsThere old → IsThere (cond b new old)
+unchanged_there true new old e h = cc
+unchanged_there false new old e h = h
+
+pub by_name : (P : Type 0) (b : Bool) → (b ≡ true → P) → (b ≡ false → P) → P
+by_name P true is isnt = is refl
+by_name P false is isnt = isnt refl
+
+pub never : {P : Type 0} (b : Bool) → b ≡ true → b ≡ false → P
+never true is isnt = cc
+never false is isnt = cc
+
+-- Delete.
+
+closed_deleted : (t : TableValue) (ks : List Key) → IsSound t → first_of (use_test t ks) ks ≡ None → Each (changed t (delete t) ks) (λ k e. LivesIn (changed t (delete t) ks) e)
+closed_deleted t ks s free k e has r used =
+    either _ (is_named ks k) (delete t k) (entry_of t k) e (sym (entry_changed t (delete t) ks k) ∙ has)
+    (λ named left. left_from _ e (entry_of t k) left (λ x old is. never (uses e r) used (left_refers x e r is)))
+    (λ unnamed old. subst IsThere (sym (entry_changed t (delete t) ks r)) (unchanged_there (is_named ks r) (delete t r) (entry_of t r)
+    (by_name _ (is_named ks r) (λ gone. never (is_named ks k) (user_named t ks k r e (passes (use_test t ks) ks r free gone) old used) unnamed) (λ stays. stays))
+    (s.closed k e old r used)))
+
+pub delete_sound : (t : TableValue) (ks : List Key) → IsSound t → list_tests t Any ks ≡ None → first_of (use_test t ks) ks ≡ None → IsSound (changed t (delete t) ks)
+delete_sound t ks s passed free =
+    let live = λ (k : Key) (e : Entry) (named : is_named ks k ≡ true) (has : entry_of t k ≡ Some e). named_lives t Any ks k e (both_none (twice_test [] ks) (first_of (target_test t Any) ks) passed).1 named has in
+    record {
+      entries = next_is (λ n. Each (changed t (delete t) ks) (IsSoundEntry n)) t (delete t) ks
+          (each_changed (IsSoundEntry t.next) t (delete t) ks s.entries
+          (λ k e named left. left_from (IsSoundEntry t.next k e) e (entry_of t k) left (λ x has is. left_sound t.next k x e (live k x named has) is (s.entries k x has))));
+      closed = closed_deleted t ks s free;
+      number = next_is IsNumber t (delete t) ks s.number;
+    }
+
+pub delete_ends : (t u : TableValue) (ks made : List Key) → list_tests t Any ks ≡ None → first_of (use_test t ks) ks ≡ None → made ≡ [] → u ≡ changed t (delete t) ks
+    → answered t (delete_all t ks) ≡ record { reply = Done made; table = u }
+delete_ends t u ks made passed free nil is = rw (passed, free, nil, is) refl

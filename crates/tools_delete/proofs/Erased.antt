@@ -1,0 +1,184 @@
+-- What an erased table has at a key, and that the draft makes just that table.
+use Rattle.std.proofs.Common.{◌≡◌, ◌&&◌, ◌||◌, Bool, true, false, cond, not, is_some, List, [], ◌∷◌, filter, Option, Some, None, refl, sym, ap, ◌∙◌}
+use Rattle.std.specs.List.{list_all, list_any}
+use Rattle.std.specs.Option.{option_map, option_map_or, option_and_then}
+use Rattle.std.specs.FinMap as fin
+use Rattle.osm_base.proofs.RisingKeys.{in_filter}
+use Rattle.osm_base.specs.declared.key.Key.{Key}
+use Rattle.osm_base.specs.declared.members.Member.{Member}
+use Rattle.osm_base.specs.declared.content.Content.{Content}
+use Rattle.osm_base.specs.declared.content.Content.TheVariants as content
+use Rattle.osm_table.specs.declared.entry.Entry.{Entry}
+use Rattle.osm_table.specs.declared.entry.Entry.TheVariants.{Incomplete, Known}
+use Rattle.osm_table.specs.Table.{TableValue, entry_of, mine_of, users, keys_by_rank}
+use Rattle.osm_table.proofs.Each.{same_table}
+use Rattle.tool_api.specs.Tests.{is_named}
+use Rattle.tool_api.specs.Changes.{changed, content_of, delete, deleted, edit, with_mine}
+use Rattle.tool_api.specs.Basic.{with_members, with_refs}
+use Rattle.tool_api.specs.Gone.{erased, falls, goes, gone_keys, is_bare, is_left, is_mended, is_mended_content, is_relation, members_without, mended, mended_ways, relations_left}
+use Rattle.tool_api.proofs.Looks.{entry_changed, next_changed}
+use Rattle.tools_delete.specs.Touched.{falls_short, has_gone, is_left_by, lives_as_relation, lives_as_way, loses_members}
+use Rattle.tools_delete.proofs.Anys.{whole}
+
+-- an entry that goes, is mended, or loses members
+abbrev pub touched : Bool → Bool → Bool → (Content → Content) → (Content → Content) → Option Entry → Option Entry
+touched going mending losing f g o = cond losing (option_map (with_mine g) o) (cond mending (option_map (with_mine f) o) (cond going (option_and_then deleted o) o))
+
+-- three changes one after the other
+pub entry_touched : (t : TableValue) (f g : Content → Content) (going mending losing : List Key) (q : Key)
+    → entry_of (changed (changed (changed t (delete t) going) (edit t f) mending) (edit t g) losing) q ≡ touched (is_named going q) (is_named mending q) (is_named losing q) f g (entry_of t q)
+entry_touched t f g going mending losing q =
+    entry_changed (changed (changed t (delete t) going) (edit t f) mending) (edit t g) losing q
+    ∙ ap (cond (is_named losing q) (edit t g q)) (entry_changed (changed t (delete t) going) (edit t f) mending q ∙ ap (cond (is_named mending q) (edit t f q)) (entry_changed t (delete t) going q))
+
+pub next_touched : (t : TableValue) (f g : Content → Content) (going mending losing : List Key)
+    → (changed (changed (changed t (delete t) going) (edit t f) mending) (edit t g) losing).next ≡ t.next
+next_touched t f g going mending losing =
+    next_changed (changed (changed t (delete t) going) (edit t f) mending) (edit t g) losing ∙ next_changed (changed t (delete t) going) (edit t f) mending ∙ next_changed t (delete t) going
+
+-- a key that isn't there has nothing to change
+level : (p : Bool) (o new rest : Option Entry) → (o ≡ None → new ≡ None) → (o ≡ None → rest ≡ None) → cond (p && is_some o) new rest ≡ cond p new rest
+level false o new rest h k = refl
+level true None new rest h k = k refl ∙ sym (h refl)
+level true (Some e) new rest h k = refl
+
+none_edited : (f : Content → Content) (o : Option Entry) → o ≡ None → option_map (with_mine f) o ≡ None
+none_edited f None e = refl
+none_edited f (Some x) e = cc
+
+none_deleted : (o : Option Entry) → o ≡ None → option_and_then deleted o ≡ None
+none_deleted None e = refl
+none_deleted (Some x) e = cc
+
+none_either : (b : Bool) (new rest : Option Entry) → new ≡ None → rest ≡ None → cond b new rest ≡ None
+none_either true new rest h k = h
+none_either false new rest h k = k
+
+only_there : (going mending losing : Bool) (f g : Content → Content) (o : Option Entry)
+    → touched (going && is_some o) (mending && is_some o) (losing && is_some o) f g o ≡ touched going mending losing f g o
+only_there going mending losing f g o =
+    let first : cond (going && is_some o) (option_and_then deleted o) o ≡ cond going (option_and_then deleted o) o = level going o (option_and_then deleted o) o (none_deleted o) (λ e. e) in
+    let second : cond (mending && is_some o) (option_map (with_mine f) o) (cond going (option_and_then deleted o) o) ≡ cond mending (option_map (with_mine f) o) (cond going (option_and_then deleted o) o) =
+    level mending o (option_map (with_mine f) o) (cond going (option_and_then deleted o) o) (none_edited f o) (λ e. none_either going (option_and_then deleted o) o (none_deleted o e) e) in
+    let third : cond (losing && is_some o) (option_map (with_mine g) o) (cond mending (option_map (with_mine f) o) (cond going (option_and_then deleted o) o)) ≡ cond losing (option_map (with_mine g) o) (cond mending (option_map (with_mine f) o) (cond going (option_and_then deleted o) o)) =
+    level losing o (option_map (with_mine g) o) (cond mending (option_map (with_mine f) o) (cond going (option_and_then deleted o) o)) (none_edited g o) (λ e. none_either mending (option_map (with_mine f) o) (cond going (option_and_then deleted o) o) (none_edited f o e) (none_either going (option_and_then deleted o) o (none_deleted o e) e)) in
+    ap (cond (losing && is_some o) (option_map (with_mine g) o)) (ap (cond (mending && is_some o) (option_map (with_mine f) o)) first ∙ second) ∙ third
+
+-- a key that passes a test is among the table's keys that pass it, where it is there
+among : (t : TableValue) (p : Key → Bool) (q : Key) → is_named (filter p (keys_by_rank t)) q ≡ (p q && is_some (entry_of t q))
+among t p q = in_filter p q (keys_by_rank t) ∙ ap (λ b. p q && b) (sym (fin.contains_key-keys t.entries q))
+
+-- the rules of erasing at one key
+abbrev pub mends : TableValue → List Key → Key → Bool
+mends t named q = is_mended t named q && not (falls t named q)
+
+abbrev pub stays_related : TableValue → List Key → Key → Bool
+stays_related t named q = not (falls t named q) && lives_as_relation t q
+
+abbrev pub loss : TableValue → List Key → Content → Content
+loss t named = with_members (members_without (goes t named))
+
+pub entry_erased : (t : TableValue) (named : List Key) (q : Key) → entry_of (erased t named) q ≡ touched (goes t named q) (mends t named q) (stays_related t named q) (with_refs (mended named)) (loss t named) (entry_of t q)
+entry_erased t named q =
+    entry_touched t (with_refs (mended named)) (loss t named) (gone_keys t named) (mended_ways t named) (relations_left t named) q
+    ∙ (let a = among t (goes t named) q in let b = among t (mends t named) q in let c = among t (stays_related t named) q in λ i. touched (a i) (b i) (c i) (with_refs (mended named)) (loss t named) (entry_of t q))
+    ∙ only_there (goes t named q) (mends t named q) (stays_related t named q) (with_refs (mended named)) (loss t named) (entry_of t q)
+
+pub next_erased : (t : TableValue) (named : List Key) → (erased t named).next ≡ t.next
+next_erased t named = next_touched t (with_refs (mended named)) (loss t named) (gone_keys t named) (mended_ways t named) (relations_left t named)
+
+-- The draft touches only relations that lose a member: the others stay as they are.
+
+relation_case : (going : List Key) (e : Entry) → option_map_or is_relation (mine_of e) false ≡ true → option_map_or (has_gone going) (mine_of e) false ≡ false → with_mine (with_members (members_without (is_named going))) e ≡ e
+relation_case going Incomplete is none = cc
+relation_case going (Known base None conflict) is none = cc
+relation_case going (Known base (Some (content.Node tags at)) conflict) is none = cc
+relation_case going (Known base (Some (content.Way tags refs)) conflict) is none = cc
+relation_case going (Known base (Some (content.Relation tags members)) conflict) is none = ap (λ (ms : List Member). Known base (Some (content.Relation tags ms)) conflict) (whole (λ (m : Member). is_named going m.key) members none)
+
+not_mended : (named : List Key) (o : Option Content) → option_map_or is_relation o false ≡ true → option_map_or (is_mended_content named) o false ≡ false
+not_mended named None is = cc
+not_mended named (Some (content.Node tags at)) is = cc
+not_mended named (Some (content.Way tags refs)) is = cc
+not_mended named (Some (content.Relation tags members)) is = refl
+
+not_bare : (o : Option Entry) → option_map_or is_relation (option_and_then mine_of o) false ≡ true → is_bare o ≡ false
+not_bare None is = cc
+not_bare (Some Incomplete) is = cc
+not_bare (Some (Known base None conflict)) is = cc
+not_bare (Some (Known base (Some (content.Node tags at)) conflict)) is = cc
+not_bare (Some (Known base (Some (content.Way tags refs)) conflict)) is = refl
+not_bare (Some (Known base (Some (content.Relation tags members)) conflict)) is = refl
+
+same_edited : (going : List Key) (o : Option Entry) → option_map_or is_relation (option_and_then mine_of o) false ≡ true → option_map_or (has_gone going) (option_and_then mine_of o) false ≡ false
+    → option_map (with_mine (with_members (members_without (is_named going)))) o ≡ o
+same_edited going None is none = cc
+same_edited going (Some e) is none = ap Some (relation_case going e is none)
+
+and_false : (a b : Bool) → b ≡ false → (a && b) ≡ false
+and_false true b e = e
+and_false false b e = refl
+
+and_no : (b : Bool) → (b && false) ≡ false
+and_no true = refl
+and_no false = refl
+
+or_no : (a b : Bool) → a ≡ false → b ≡ false → (a || b) ≡ false
+or_no a b e f = rw (e, f) refl
+
+-- where a relation stays and has no member that goes, nothing changes
+fewer_case : (f g : Content → Content) (going mending falls rel has : Bool) (o : Option Entry)
+    → (rel ≡ true → has ≡ false → option_map (with_mine g) o ≡ o) → (rel ≡ true → mending ≡ false) → (rel ≡ true → falls ≡ false → going ≡ false) → (has ≡ true → rel ≡ true)
+    → touched going mending (not falls && has) f g o ≡ touched going mending (not falls && rel) f g o
+fewer_case f g going mending true rel has o same no_way no_node is = refl
+fewer_case f g going mending false rel true o same no_way no_node is = ap (λ b. touched going mending b f g o) (sym (is refl))
+fewer_case f g going mending false false false o same no_way no_node is = refl
+fewer_case f g going mending false true false o same no_way no_node is = rw (no_way refl, no_node refl refl) (sym (same refl refl))
+
+has_relation : (going : List Key) (o : Option Content) → option_map_or (has_gone going) o false ≡ true → option_map_or is_relation o false ≡ true
+has_relation going None h = cc
+has_relation going (Some (content.Node tags at)) h = cc
+has_relation going (Some (content.Way tags refs)) h = cc
+has_relation going (Some (content.Relation tags members)) h = refl
+
+fewer : (t : TableValue) (named going : List Key) (f : Content → Content) (q : Key)
+    → touched (goes t named q) (mends t named q) (not (falls t named q) && option_map_or (has_gone going) (content_of t q) false) f (with_members (members_without (is_named going))) (entry_of t q)
+    ≡ touched (goes t named q) (mends t named q) (stays_related t named q) f (with_members (members_without (is_named going))) (entry_of t q)
+fewer t named going f q =
+    fewer_case f (with_members (members_without (is_named going))) (goes t named q) (mends t named q) (falls t named q) (lives_as_relation t q) (option_map_or (has_gone going) (content_of t q) false) (entry_of t q)
+    (same_edited going (entry_of t q))
+    (λ rel. ap (λ b. b && not (falls t named q)) (and_false (not (is_named named q)) _ (not_mended named (content_of t q) rel)))
+    (λ rel stays. or_no (falls t named q) (is_left t named q) stays (ap (λ b. b && list_any (λ u. falls t named u && lives_as_way t u) (users t q) && list_all (falls t named) (users t q)) (not_bare (entry_of t q) rel)))
+    (has_relation going (content_of t q))
+
+and_turned : (a b : Bool) → (a && b) ≡ (b && a)
+and_turned true true = refl
+and_turned true false = refl
+and_turned false true = refl
+and_turned false false = refl
+
+-- The sets that the index gives make the erased table.
+pub erased_by : (t : TableValue) (named ways falling going relations staying : List Key)
+    → ((q : Key) → is_named ways q ≡ is_mended t named q)
+    → ((q : Key) → is_named falling q ≡ (is_named named q || (falls_short t named q && is_named ways q)))
+    → ((q : Key) → is_named going q ≡ (is_named falling q || is_left_by t falling q))
+    → ((q : Key) → is_named relations q ≡ loses_members t falling going q)
+    → staying ≡ filter (λ w. not (is_named falling w)) ways
+    → changed (changed (changed t (delete t) going) (edit t (with_refs (mended named))) staying) (edit t (with_members (members_without (is_named going)))) relations ≡ erased t named
+erased_by t named ways falling going relations staying mending fallen gone losing kept =
+    let f = with_refs (mended named) in
+    let g = with_members (members_without (is_named going)) in
+    let falls_at : (q : Key) → is_named falling q ≡ falls t named q = λ q. fallen q ∙ ap (λ b. is_named named q || b) (and_turned (falls_short t named q) (is_named ways q) ∙ ap (λ b. b && falls_short t named q) (mending q)) in
+    let goes_at : (q : Key) → is_named going q ≡ goes t named q =
+    λ q. gone q ∙ (λ i. falls_at q i || (is_bare (entry_of t q) && list_any (λ u. falls_at u i && lives_as_way t u) (users t q) && list_all (λ u. falls_at u i) (users t q))) in
+    let mends_at : (q : Key) → is_named staying q ≡ mends t named q =
+    λ q. ap (λ ks. is_named ks q) kept ∙ in_filter (λ w. not (is_named falling w)) q ways ∙ (λ i. not (falls_at q i) && mending q i) ∙ and_turned (not (falls t named q)) (is_mended t named q) in
+    let loses_at : (q : Key) → is_named relations q ≡ (not (falls t named q) && option_map_or (has_gone going) (content_of t q) false) =
+    λ q. losing q ∙ (λ i. not (falls_at q i) && option_map_or (has_gone going) (content_of t q) false) in
+    same_table _ _
+    (λ q. entry_touched t f g going staying relations q
+    ∙ (λ i. touched (goes_at q i) (mends_at q i) (loses_at q i) f g (entry_of t q))
+    ∙ fewer t named going f q
+    ∙ (λ i. touched (goes t named q) (mends t named q) (stays_related t named q) f (with_members (members_without (λ k. goes_at k i))) (entry_of t q))
+    ∙ sym (entry_erased t named q))
+    (next_touched t f g going staying relations ∙ sym (next_erased t named))

@@ -1,0 +1,6 @@
+mod Anys
+mod Deletes
+mod Erased
+mod Erases
+mod Purges
+mod Touches

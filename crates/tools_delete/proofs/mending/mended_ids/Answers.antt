@@ -1,0 +1,7 @@
+use Rattle.std.proofs.Common.{◌∙◌, ap, int_eq}
+use Rattle.std.specs.List.{dedup}
+use Rattle.std.proofs.lemmas.List.Filters.{dedup_is}
+use Rattle.tools_delete.proofs.mending.mended_ids.Goals as goal
+
+pub returns : goal.returns
+returns c = dedup_is int_eq _ _ c.dedup.ensures.filtered ∙ ap (dedup int_eq) c.in_ok-left.ensures
