@@ -1,0 +1,10 @@
+pub mod Among
+pub mod Bools
+pub mod Combines
+pub mod Ends
+pub mod Joints
+pub mod Looks
+pub mod Runs
+pub mod Sounds
+pub mod Turns
+pub mod Unions

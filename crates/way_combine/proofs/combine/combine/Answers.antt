@@ -1,0 +1,63 @@
+use Rattle.std.proofs.Common.{◌≡◌, Some, None, Ok, Err, Result, ℤ, List, sym, ap, ◌∙◌, subst, IfOk, OnOk}
+use Rattle.dataset.specs.Sound.{IsSound}
+use Rattle.tool_api.specs.declared.kinds.Kinds.TheVariants.{Ways}
+use Rattle.tool_api.specs.declared.refusal.Refusal.{Refusal}
+use Rattle.tool_api.specs.Changes.{Outcome}
+use Rattle.tool_api.specs.Tests.{first_of, list_tests}
+use Rattle.tool_api.specs.Closing.{closing_tests}
+use Rattle.tool_api.specs.Combine.{way_test, joined, all_tags, clash_test, member_test, kept_way, combined}
+use Rattle.tool_api.specs.Plain.{Answer, answered}
+use Rattle.way_combine.proofs.Combines.{at_tags, at_members, at_end, tags_joined, tags_refused}
+use Rattle.way_combine.proofs.Sounds.{combined_sound}
+use Rattle.way_combine.proofs.combine.combine.Goals as goal
+
+pub returns-in-Err-2-clause-reply : goal.returns-in-Err-2-clause-reply
+returns-in-Err-2-clause-reply c =
+    let t = c.args.ds.now in
+    let ways = c.args.ways.now in
+    ap (λ (r : Result Outcome Refusal). (answered t r).reply) (sym (at_tags t c.args.limit ways c.in-Ok.refs (Some c.in-Err-2.refusal)
+    (sym c.in_ok-refusal.ensures ∙ c.in_default.is) (sym c.in_default-way_tests.ensures) (sym c.in_ok-refs.ensures ∙ c.in-Ok.is)
+    (tags_refused c.in-Err-2.refusal (all_tags t ways) (sym c.in_ok-tags.ensures ∙ c.in-Err-2.is))))
+
+pub returns-in-Some-2-clause-reply : goal.returns-in-Some-2-clause-reply
+returns-in-Some-2-clause-reply c =
+    let t = c.args.ds.now in
+    let ways = c.args.ways.now in
+    ap (λ (r : Result Outcome Refusal). (answered t r).reply) (sym (at_members t c.args.limit ways c.in-Ok.refs (Some c.in-Some-2.refusal)
+    (sym c.in_ok-refusal.ensures ∙ c.in_default.is) (sym c.in_default-way_tests.ensures) (sym c.in_ok-refs.ensures ∙ c.in-Ok.is)
+    (tags_joined c.in-Ok-2.tags (all_tags t ways) (sym c.in_ok-tags.ensures ∙ c.in-Ok-2.is)).0
+    (sym c.in_ok-refusal-2.ensures ∙ c.in-Some-2.is)))
+
+pub finish-requires : goal.finish-requires
+finish-requires c =
+    let t = c.args.ds.now in
+    let ways = c.args.ways.now in
+    let is = c.in_ok-draft.ensures in
+    record {
+      sound = λ closed. subst IsSound (sym is) (combined_sound t c.args.limit ways c.in-Ok.refs c.kept_way-kept.result (record {
+        sound = c.sound.ensures;
+        tests = sym c.in_ok-refusal.ensures ∙ c.in_default.is;
+        joins = sym c.in_ok-refs.ensures ∙ c.in-Ok.is;
+        members = sym c.in_ok-refusal-2.ensures ∙ c.in_default-2.is;
+        kept_is = c.kept_way-kept.ensures;
+        closed = ap (closing_tests t c.args.limit ways) (sym is) ∙ closed;
+      }));
+    }
+
+pub returns-clause-reply : goal.returns-clause-reply
+returns-clause-reply c =
+    let t = c.args.ds.now in
+    let ways = c.args.ways.now in
+    subst (λ (a : Answer). IfOk c.finish.result (λ r. r ≡ a.reply)) (at_end t _ c.args.limit ways _ c.in-Ok.refs c.kept_way-kept.result
+    (sym c.in_ok-refusal.ensures ∙ c.in_default.is) (sym c.in_default-way_tests.ensures) (sym c.in_ok-refs.ensures ∙ c.in-Ok.is)
+    (tags_joined c.in-Ok-2.tags (all_tags t ways) (sym c.in_ok-tags.ensures ∙ c.in-Ok-2.is)).0
+    (sym c.in_ok-refusal-2.ensures ∙ c.in_default-2.is) c.kept_way-kept.ensures c.new-keys.ensures c.in_ok-draft.ensures) c.finish.ensures.reply
+
+pub returns-clause-table : goal.returns-clause-table
+returns-clause-table c =
+    let t = c.args.ds.now in
+    let ways = c.args.ways.now in
+    subst (λ (a : Answer). OnOk c.finish.result (c.finish.new.ds ≡ a.table)) (at_end t _ c.args.limit ways _ c.in-Ok.refs c.kept_way-kept.result
+    (sym c.in_ok-refusal.ensures ∙ c.in_default.is) (sym c.in_default-way_tests.ensures) (sym c.in_ok-refs.ensures ∙ c.in-Ok.is)
+    (tags_joined c.in-Ok-2.tags (all_tags t ways) (sym c.in_ok-tags.ensures ∙ c.in-Ok-2.is)).0
+    (sym c.in_ok-refusal-2.ensures ∙ c.in_default-2.is) c.kept_way-kept.ensures c.new-keys.ensures c.in_ok-draft.ensures) c.finish.ensures.table

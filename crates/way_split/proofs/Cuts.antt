@@ -1,0 +1,189 @@
+-- Steps of the loops that cut a way and number its pieces.
+use Rattle.std.proofs.Common.{◌≡◌, ℕ, ℤ, zero, suc, pos, ◌+◌, ◌-◌, ◌<◌, ◌≤◌, ◌&&◌, ◌||◌, Bool, true, false, cond, not, nat_lt, nat_le, List, [], ◌∷◌, ◌++◌, length, drop, take, get_or, slice_get, Option, Some, None, refl, sym, ap, ◌∙◌, subst, drop-cons, add-one, length-drop, append_assoc, arith}
+use Rattle.std.proofs.lemmas.Bool.Decides.{nat_tests, Decides-int_eq}
+use Rattle.std.proofs.lemmas.Option.{slice_get-get_or}
+use Rattle.std.proofs.lemmas.List.Folds.{list_any-append}
+use Rattle.std.proofs.lemmas.List.Sums.{prefix_len-le-length}
+use Rattle.std.specs.List.{last_or, list_any, position, position_or_len}
+use Rattle.std.specs.Option.{option_map_or, option_or, unwrap_or}
+use Rattle.std.specs.Ordering.{int_eq}
+use Rattle.osm_base.specs.Rank.{is_key}
+use Rattle.osm_base.specs.Content.{node}
+use Rattle.osm_base.specs.RankLaws.{rank_ties}
+use Rattle.osm_base.specs.declared.key.Key.{Key}
+use Rattle.tool_api.specs.declared.kinds.Kinds.TheVariants.{Nodes}
+use Rattle.tool_api.specs.declared.refusal.Refusal.{Refusal}
+use Rattle.tool_api.specs.declared.refusal.Refusal.TheVariants.{NamedTwice, WrongKind, NotInWay}
+use Rattle.tool_api.specs.Tests.{is_named, takes, when}
+use Rattle.tool_api.specs.Split.{pieces_from, is_closed, node_tests, piece_of}
+use Rattle.tool_api.specs.Upkeep.{PieceValue, first_in, is_among}
+use Rattle.way_split.specs.Tests.{one_test}
+
+-- A way cut at its nodes.
+
+inside : (i n m : ℕ) → m ≡ n - suc i → nat_lt (i + 1) n ≡ nat_lt 0 m
+inside i n m e = grind (arith, nat_tests)
+
+cut_cases : (P : ℤ → Bool) (out all : List (List ℤ)) (piece xs : List ℤ) (x : ℤ) (c : Bool) → out ++ cond c ((piece ++ x ∷ []) ∷ pieces_from P (x ∷ []) xs) (pieces_from P (piece ++ x ∷ []) xs) ≡ all
+    → cond c (out ++ (piece ++ x ∷ []) ∷ []) out ++ pieces_from P (cond c (x ∷ []) (piece ++ x ∷ [])) xs ≡ all
+cut_cases P out all piece xs x true h = append_assoc out ((piece ++ x ∷ []) ∷ []) (pieces_from P (x ∷ []) xs) ∙ h
+cut_cases P out all piece xs x false h = h
+
+one_more : (P : ℤ → Bool) (refs : List ℤ) (i : ℕ) (out out₁ all : List (List ℤ)) (piece piece₁ : List ℤ) (c : Bool) → i < length refs
+    → c ≡ (nat_lt (i + 1) (length refs) && P (get_or refs i (pos 0)))
+    → out₁ ≡ cond c (out ++ (piece ++ get_or refs i (pos 0) ∷ []) ∷ []) out → piece₁ ≡ cond c (get_or refs i (pos 0) ∷ []) (piece ++ get_or refs i (pos 0) ∷ [])
+    → out ++ pieces_from P piece (drop i refs) ≡ all → out₁ ++ pieces_from P piece₁ (drop (suc i) refs) ≡ all
+one_more P refs i out out₁ all piece piece₁ c lt is outs pieces h =
+    let test : c ≡ (nat_lt 0 (length (drop (suc i) refs)) && P (get_or refs i (pos 0))) = is ∙ ap (λ b. b && P (get_or refs i (pos 0))) (inside i (length refs) (length (drop (suc i) refs)) (length-drop (suc i) refs)) in
+    (λ j. outs j ++ pieces_from P (pieces j) (drop (suc i) refs))
+    ∙ cut_cases P out all piece (drop (suc i) refs) (get_or refs i (pos 0)) c
+    (ap (λ b. out ++ cond b ((piece ++ get_or refs i (pos 0) ∷ []) ∷ pieces_from P (get_or refs i (pos 0) ∷ []) (drop (suc i) refs)) (pieces_from P (piece ++ get_or refs i (pos 0) ∷ []) (drop (suc i) refs))) test
+    ∙ ap (λ xs. out ++ pieces_from P piece xs) (sym (drop-cons refs i (pos 0) lt)) ∙ h)
+
+pub next_piece : (P : ℤ → Bool) (refs : List ℤ) (i : ℕ) (x : ℤ) (out out₁ all : List (List ℤ)) (piece piece₁ : List ℤ) (c : Bool) → i < length refs → x ≡ get_or refs i (pos 0)
+    → c ≡ (nat_lt (i + 1) (length refs) && P (get_or refs i (pos 0)))
+    → out₁ ≡ cond c (out ++ (piece ++ x ∷ []) ∷ []) out → piece₁ ≡ cond c (x ∷ []) (piece ++ x ∷ [])
+    → out ++ pieces_from P piece (drop i refs) ≡ all → out₁ ++ pieces_from P piece₁ (drop (i + 1) refs) ≡ all
+next_piece P refs i x out out₁ all piece piece₁ c lt at is outs pieces h = rw add-one (one_more P refs i out out₁ all piece piece₁ c lt is
+    (outs ∙ ap (λ y. cond c (out ++ (piece ++ y ∷ []) ∷ []) out) at) (pieces ∙ ap (λ y. cond c (y ∷ []) (piece ++ y ∷ [])) at) h)
+
+-- The end of a list.
+
+at_end : {A : Type 0} (xs : List A) (i : ℕ) → length xs ≤ i → drop i xs ≡ []
+at_end [] zero h = refl
+at_end [] (suc i) h = refl
+at_end (x ∷ xs) zero h = absurd (omega arith)
+at_end (x ∷ xs) (suc i) h = at_end xs i (omega arith)
+
+-- The set of a way's nodes.
+
+same_node : (a b : ℤ) → is_key (node a) (node b) ≡ int_eq a b
+same_node a b = sym (rank_ties (node a) (node b))
+
+named_more : (set : List Key) (k q : Key) → is_named (set ++ k ∷ []) q ≡ (is_named set q || (is_key q k || false))
+named_more set k q = list_any-append (is_key q) set (k ∷ [])
+
+or_grouped : (a b c : Bool) → ((a || (b || false)) || c) ≡ (a || (b || c))
+or_grouped true b c = refl
+or_grouped false true c = refl
+or_grouped false false c = refl
+
+same_id : (a b : ℤ) → int_eq a b ≡ true → a ≡ b
+same_id a b e = (Decides-int_eq a b).0 e
+
+set_cases : (set set₁ : List Key) (x id : ℤ) (rest : Bool) (b c : Bool) → is_named set (node x) ≡ b → int_eq id x ≡ c → set₁ ≡ cond b set (set ++ node x ∷ []) → (is_named set₁ (node id) || rest) ≡ (is_named set (node id) || (c || rest))
+set_cases set set₁ x id rest true true there is put = let named : is_named set (node id) ≡ true = ap (λ n. is_named set (node n)) (same_id id x is) ∙ there in ap (λ (ks : List Key). is_named ks (node id) || rest) put ∙ ap (λ b. b || rest) named ∙ sym (ap (λ b. b || true) named)
+set_cases set set₁ x id rest true false there is put = ap (λ (ks : List Key). is_named ks (node id) || rest) put
+set_cases set set₁ x id rest false c there is put =
+    ap (λ (ks : List Key). is_named ks (node id) || rest) put ∙ ap (λ b. b || rest) (named_more set (node x) (node id) ∙ ap (λ b. is_named set (node id) || (b || false)) (same_node id x ∙ is))
+    ∙ or_grouped (is_named set (node id)) c rest
+
+pub set_step : (ids : List ℤ) (i : ℕ) (k : Key) (set set₁ : List Key) (id : ℤ) (all : Bool) → i < length ids → k ≡ node (get_or ids i (pos 0)) → set₁ ≡ cond (is_named set k) set (set ++ k ∷ [])
+    → (is_named set (node id) || is_among (drop i ids) id) ≡ all → (is_named set₁ (node id) || is_among (drop (i + 1) ids) id) ≡ all
+set_step ids i k set set₁ id all lt is put before =
+    set_cases set set₁ (get_or ids i (pos 0)) id (is_among (drop (i + 1) ids) id) _ _ refl refl (put ∙ (λ j. cond (is_named set (is j)) set (set ++ is j ∷ [])))
+    ∙ (let e : drop i ids ≡ get_or ids i (pos 0) ∷ drop (i + 1) ids = rw add-one (drop-cons ids i (pos 0) lt) in sym (ap (λ (xs : List ℤ). is_named set (node id) || is_among xs id) e)) ∙ before
+
+-- The tests of the named nodes.
+
+take_at : {A : Type 0} (xs : List A) (i : ℕ) (d : A) → i < length xs → take (suc i) xs ≡ take i xs ++ get_or xs i d ∷ []
+take_at [] i d lt = absurd (omega arith)
+take_at (x ∷ xs) zero d lt = refl
+take_at {A = A} (x ∷ xs) (suc i) d lt = ap (λ (ys : List A). x ∷ ys) (take_at xs i d (omega arith))
+
+tests_cases : (a b c : Bool) (k : Key) (rest : Option Refusal) → option_or (when a (NamedTwice k)) (option_or (when (not b) (WrongKind k)) (option_or (when (not c) (NotInWay k)) rest))
+    ≡ option_or (option_or (when a (NamedTwice k)) (option_or (when (not b) (WrongKind k)) (when (not c) (NotInWay k)))) rest
+tests_cases true b c k rest = refl
+tests_cases false false c k rest = refl
+tests_cases false true false k rest = refl
+tests_cases false true true k rest = refl
+
+module _ (refs : List ℤ) (in_way : List Key) (in_refs : (id : ℤ) → is_named in_way (node id) ≡ is_among refs id) where
+  tests_one : (seen : List Key) (k : Key) (ks : List Key) → node_tests refs seen (k ∷ ks) ≡ option_or (one_test in_way seen k) (node_tests refs (seen ++ k ∷ []) ks)
+  tests_one seen k ks =
+      tests_cases (is_named seen k) (takes Nodes k.kind) (is_among refs k.id) k (node_tests refs (seen ++ k ∷ []) ks)
+      ∙ ap (λ b. option_or (option_or (when (is_named seen k) (NamedTwice k)) (option_or (when (not (takes Nodes k.kind)) (WrongKind k)) (when (not b) (NotInWay k)))) (node_tests refs (seen ++ k ∷ []) ks)) (sym (in_refs k.id))
+
+  tests_at : (seen nodes : List Key) (i : ℕ) (none : Key) → i < length nodes → node_tests refs seen (drop i nodes) ≡ option_or (one_test in_way seen (get_or nodes i none)) (node_tests refs (seen ++ get_or nodes i none ∷ []) (drop (i + 1) nodes))
+  tests_at seen nodes i none lt = (let e : drop i nodes ≡ get_or nodes i none ∷ drop (i + 1) nodes = rw add-one (drop-cons nodes i none lt) in ap (node_tests refs seen) e) ∙ tests_one seen (get_or nodes i none) (drop (i + 1) nodes)
+
+  pub test_refuses : (seen nodes : List Key) (i : ℕ) (none : Key) (r : Refusal) (all : Option Refusal) → i < length nodes → Some r ≡ one_test in_way seen (get_or nodes i none) → node_tests refs seen (drop i nodes) ≡ all → Some r ≡ all
+  test_refuses seen nodes i none r all lt is before =
+      ap (λ (o : Option Refusal). option_or o (node_tests refs (seen ++ get_or nodes i none ∷ []) (drop (i + 1) nodes))) is ∙ sym (tests_at seen nodes i none lt) ∙ before
+
+  not_seen : (a : Bool) (k : Key) (rest : Option Refusal) → ◌≡◌ {A = Option Refusal} None (option_or (when a (NamedTwice k)) rest) → a ≡ false
+  not_seen true k rest e = cc
+  not_seen false k rest e = refl
+
+  pub test_step : (seen seen₁ nodes : List Key) (i : ℕ) (none : Key) (all : Option Refusal) → i < length nodes → ◌≡◌ {A = Option Refusal} None (one_test in_way seen (get_or nodes i none))
+      → seen₁ ≡ cond (is_named seen (get_or nodes i none)) seen (seen ++ get_or nodes i none ∷ []) → (seen ≡ take i nodes) × (node_tests refs seen (drop i nodes) ≡ all)
+      → (seen₁ ≡ take (i + 1) nodes) × (node_tests refs seen₁ (drop (i + 1) nodes) ≡ all)
+  test_step seen seen₁ nodes i none all lt passed put before =
+      let k = get_or nodes i none in
+      let new : is_named seen k ≡ false = not_seen (is_named seen k) k (option_or (when (not (takes Nodes k.kind)) (WrongKind k)) (when (not (is_named in_way (node k.id))) (NotInWay k))) passed in
+      let longer : seen₁ ≡ seen ++ k ∷ [] = put ∙ ap (λ b. cond b seen (seen ++ k ∷ [])) new in
+      let all_seen : take (i + 1) nodes ≡ take i nodes ++ k ∷ [] = rw add-one (take_at nodes i none lt) in (
+        longer ∙ ap (λ (ks : List Key). ks ++ k ∷ []) before.0 ∙ sym all_seen,
+        ap (λ (ks : List Key). node_tests refs ks (drop (i + 1) nodes)) longer ∙ ap (λ (o : Option Refusal). option_or o (node_tests refs (seen ++ k ∷ []) (drop (i + 1) nodes))) passed ∙ sym (tests_at seen nodes i none lt) ∙ before.1,
+      )
+
+  pub tests_end : (seen nodes : List Key) (i : ℕ) (all : Option Refusal) → length nodes ≤ i → node_tests refs seen (drop i nodes) ≡ all → None ≡ all
+  tests_end seen nodes i all h before = sym (ap (node_tests refs seen) (at_end nodes i h)) ∙ before
+
+-- The first and the last of a list.
+
+first_got : (xs : List ℤ) → first_in xs ≡ slice_get xs 0
+first_got [] = refl
+first_got (x ∷ xs) = refl
+
+last_from : {A : Type 0} (x : A) (xs : List A) → last_or (Some x) xs ≡ slice_get (x ∷ xs) (length xs)
+last_from x [] = refl
+last_from x (y ∷ xs) = last_from y xs
+
+last_got : (xs : List ℤ) → last_or None xs ≡ slice_get xs (length xs - 1)
+last_got [] = refl
+last_got (x ∷ xs) = last_from x xs ∙ (let e : length xs ≡ suc (length xs) - 1 = omega arith in ap (λ n. slice_get (x ∷ xs) n) e)
+
+-- A way is closed.
+
+closed_case : (first last : Option ℤ) (x y : ℤ) → first ≡ Some x → last ≡ Some y → option_map_or (λ a. option_map_or (λ b. int_eq a b) last false) first false ≡ int_eq x y
+closed_case first last x y e f = (λ i. option_map_or (λ a. option_map_or (λ b. int_eq a b) (f i) false) (e i) false)
+
+pub closed_got : (refs : List ℤ) (j k : Key) (b : Bool) → 3 ≤ length refs → j ≡ node (get_or refs 0 (pos 0)) → k ≡ node (get_or refs (length refs - 1) (pos 0)) → b ≡ is_key j k → b ≡ is_closed refs
+closed_got refs j k b more first last is =
+    let x = get_or refs 0 (pos 0) in
+    let y = get_or refs (length refs - 1) (pos 0) in
+    let long : nat_le 3 (length refs) ≡ true = grind (arith, nat_tests) in
+    let lt : 0 < length refs = omega arith in
+    let lt₁ : length refs - 1 < length refs = omega arith in
+    is ∙ (λ i. is_key (first i) (last i)) ∙ same_node x y
+    ∙ sym (closed_case (first_in refs) (last_or None refs) x y (first_got refs ∙ slice_get-get_or refs 0 (pos 0) lt) (last_got refs ∙ slice_get-get_or refs (length refs - 1) (pos 0) lt₁))
+    ∙ sym (ap (λ b. b && option_map_or (λ a. option_map_or (λ b. int_eq a b) (last_or None refs) false) (first_in refs) false) long)
+
+-- The first cut.
+
+past_case : (b : Bool) (n m : ℕ) → nat_lt m n ≡ b → m ≤ n → ◌≡◌ {A = Option ℕ} None (cond b (Some m) None) → n ≡ m
+past_case true n m test le e = cc
+past_case false n m test le e = let h : n ≤ m = grind (arith, nat_tests) in omega arith
+
+at_case : (b : Bool) (i m : ℕ) → Some i ≡ cond b (Some m) None → i ≡ m
+at_case true i m e = ap (λ (o : Option ℕ). unwrap_or o i) e
+at_case false i m e = cc
+
+pub none_place : (P : ℤ → Bool) (xs : List ℤ) → ◌≡◌ {A = Option ℕ} None (position P xs) → length xs ≡ position_or_len P xs
+none_place P xs e = past_case (nat_lt (position_or_len P xs) (length xs)) (length xs) (position_or_len P xs) refl (prefix_len-le-length _ xs) e
+
+pub some_place : (P : ℤ → Bool) (xs : List ℤ) (i : ℕ) → Some i ≡ position P xs → i ≡ position_or_len P xs
+some_place P xs i e = at_case (nat_lt (position_or_len P xs) (length xs)) i (position_or_len P xs) e
+
+pub place_within : (P : ℤ → Bool) (xs : List ℤ) (i : ℕ) → i ≡ position_or_len P xs → i ≤ length xs
+place_within P xs i e = subst (λ n. n ≤ length xs) (sym e) (prefix_len-le-length _ xs)
+
+-- A piece and its ends.
+
+pub piece_got : (way : Key) (p : Key × List ℤ) (ids : List ℤ) (a b : Option ℤ) (first last : ℤ) (kept : Bool) → ids ≡ p.1 → a ≡ slice_get ids 0 → b ≡ slice_get ids (length ids - 1) → first ≡ unwrap_or a (pos 0) → last ≡ unwrap_or b (pos 0)
+    → kept ≡ is_key way p.0 → record { key = p.0; first = first; last = last; kept = kept } ≡ piece_of way p
+piece_got way p ids a b first last kept same is_first is_last one other k =
+    let x : first ≡ unwrap_or (first_in p.1) (pos 0) = one ∙ ap (λ (o : Option ℤ). unwrap_or o (pos 0)) (is_first ∙ sym (first_got ids) ∙ ap first_in same) in
+    let y : last ≡ unwrap_or (last_or None p.1) (pos 0) = other ∙ ap (λ (o : Option ℤ). unwrap_or o (pos 0)) (is_last ∙ sym (last_got ids) ∙ ap (last_or None) same) in
+    λ i. record { key = p.0; first = x i; last = y i; kept = k i }

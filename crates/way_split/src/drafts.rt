@@ -1,0 +1,193 @@
+//! The draft of a split: the relations, the way, the new ways.
+ghost use Rattle.std.specs.Prelude.{◌≡◌, ◌+◌, ◌≤◌, ◌<◌, ◌^◌, false, map, IfOk, OnOk};
+ghost use Rattle.std.specs.List.{filter};
+ghost use Rattle.std.specs.Option.{option_map_or, option_copied};
+ghost use Rattle.osm_base.specs.declared.content.Content.{Content};
+ghost use Rattle.osm_base.specs.declared.content.Content.TheVariants.{Way};
+ghost use Rattle.osm_table.specs.Table.{TableValue};
+ghost use Rattle.dataset.specs.Draft.{drafted};
+ghost use Rattle.tool_api.specs.Basic.{with_members, with_refs};
+ghost use Rattle.tool_api.specs.Changes.{added, all_added, content_of};
+ghost use Rattle.tool_api.specs.Gone.{is_relation};
+ghost use Rattle.tool_api.specs.Split.{kept_refs, others, relations_of, tags_at, split_table};
+ghost use Rattle.tool_api.specs.Upkeep.{replaced};
+ghost use Rattle.relation_upkeep.specs.Replace.{piece_values};
+
+use crate::parts::{kept_refs, new_key, pieces_of};
+use dataset::{DataSet, Draft};
+use osm_base::{Content, Key, Members, Refs, Tags, same_key};
+use osm_table::{Base, Entry};
+use relation_upkeep::{Piece, replace_member};
+use std::alloc::{AllocError, Global};
+use tool_api::{EditContent, edit_all};
+
+/// The living content of a key.
+pub fn living(ds: &DataSet, key: Key) -> Option<&Content>
+    ensures { option_copied result ≡ content_of ds.now key }
+{
+    match ds.entry(key) {
+        None => None,
+        Some(entry) => entry.mine(),
+    }
+}
+
+fn with_members(content: Content, new: Members) -> Content
+    ensures { result ≡ with_members (λ _. new) content }
+{
+    match content {
+        Content::Relation { tags, .. } => Content::Relation { tags, members: new },
+        other => other,
+    }
+}
+
+fn take_pieces(
+    ds: &DataSet,
+    way: Key,
+    pieces: &[Piece],
+    content: Content,
+) -> Result<Content, AllocError>
+    ensures { IfOk result (λ new. new ≡ replaced ds.now way (piece_values pieces.now) content) }
+{
+    let members = replace_member(&content, way, pieces, ds)?;
+    Ok(with_members(content, members))
+}
+
+/// Relations take the pieces for the way.
+#[derive(Drop)]
+struct TakePieces<'a> {
+    ds: &'a DataSet,
+    way: Key,
+    pieces: &'a [Piece],
+}
+
+impl EditContent for TakePieces<'_> {
+    ghost edited = { λ r c. replaced r.ds.now r.way (piece_values r.pieces.now) c };
+
+    fn edit(&self, content: Content) -> Result<Content, AllocError> {
+        take_pieces(self.ds, self.way, self.pieces, content)
+    }
+}
+
+/// A way keeps some of its nodes.
+#[derive(Drop)]
+struct KeepRefs {
+    refs: Refs,
+}
+
+impl EditContent for KeepRefs {
+    ghost edited = { λ r. with_refs (λ _. r.refs) };
+
+    fn edit(&self, content: Content) -> Result<Content, AllocError> {
+        match content {
+            Content::Way { tags, .. } => Ok(Content::Way {
+                tags,
+                refs: self.refs.copy()?,
+            }),
+            other => Ok(other),
+        }
+    }
+}
+
+fn is_relation(ds: &DataSet, key: Key) -> bool
+    ensures { result ≡ option_map_or is_relation (content_of ds.now key) false }
+{
+    match living(ds, key) {
+        Some(Content::Relation { .. }) => true,
+        _ => false,
+    }
+}
+
+/// The living relations that refer to the way, by rank.
+fn relations_of(ds: &DataSet, way: Key) -> Result<Vec<Key>, AllocError>
+    ensures { IfOk result (λ keys. keys.items ≡ relations_of ds.now way) }
+{
+    ds.users(way)
+        .iter()
+        .copied()
+        .filter(|key| is_relation(ds, *key))
+        .collect(ds.alloc())
+}
+
+/// The tags of a living object.
+fn tags_at(ds: &DataSet, key: Key) -> Result<Tags, AllocError>
+    ensures { IfOk result (λ tags. tags ≡ tags_at ds.now key) }
+{
+    match living(ds, key) {
+        None => Ok(Tags::new(ds.alloc())),
+        Some(content) => content.tags().copy(),
+    }
+}
+
+/// Puts a new object into the draft, and raises the number.
+///
+/// # Errors
+/// No memory was left.
+pub fn add_new(draft: &mut Draft, content: Content) -> Result<(), AllocError>
+    requires low { 1 ≤ draft.old.next }
+    requires high { draft.old.next < 2 ^ 63 }
+    ensures added { OnOk result ((t : TableValue) → drafted draft.new t ≡ added (drafted draft.old t) content) }
+    ensures next { OnOk result (draft.new.next ≡ draft.old.next + 1) }
+{
+    let number = draft.next();
+    let key = new_key(content.kind(), number);
+    draft.set_next(number + 1);
+    draft.put(
+        key,
+        Some(Entry::Known {
+            base: Base::New,
+            mine: Some(content),
+            conflict: None,
+        }),
+    )?;
+    Ok(())
+}
+
+/// Puts the parts that don't stay in the way into the draft, as new ways with the tags.
+fn add_others(
+    draft: &mut Draft,
+    ds: &DataSet,
+    way: Key,
+    parts: &[(Key, Refs)],
+) -> Result<(), AllocError>
+    requires low { 1 ≤ draft.old.next }
+    requires high { draft.old.next ≤ 10 ^ 18 }
+    ensures { OnOk result (drafted draft.new ds.now ≡ all_added (drafted draft.old ds.now) (map (λ p. Way (tags_at ds.now way) p.1) (others way parts.now))) }
+{
+    let tags = tags_at(ds, way)?;
+    for part in parts {
+        if same_key(way, part.0) {
+            continue;
+        }
+        let content = Content::Way {
+            tags: tags.copy()?,
+            refs: part.1.copy()?,
+        };
+        add_new(draft, content)?;
+    }
+    Ok(())
+}
+
+/// The draft of a split into parts. It costs the relations that name the way, and the parts.
+///
+/// # Errors
+/// No memory was left.
+pub fn split_draft(ds: &DataSet, way: Key, parts: &[(Key, Refs)]) -> Result<Draft, AllocError>
+    ensures { IfOk result (λ draft. drafted draft ds.now ≡ split_table ds.now way parts.now) }
+{
+    ds.sound();
+    let mut draft = Draft::new(ds);
+    let relations = relations_of(ds, way)?;
+    let pieces = pieces_of(ds.alloc(), way, parts)?;
+    let take = TakePieces {
+        ds,
+        way,
+        pieces: &pieces,
+    };
+    edit_all(ds, &relations, &take, &mut draft)?;
+    let keep = KeepRefs {
+        refs: kept_refs(ds.alloc(), way, parts)?,
+    };
+    edit_all(ds, &[way], &keep, &mut draft)?;
+    add_others(&mut draft, ds, way, parts)?;
+    Ok(draft)
+}
