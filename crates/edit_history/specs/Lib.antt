@@ -1,0 +1,5 @@
+pub mod Machine
+pub mod Single
+pub mod Trail
+pub mod Boxes
+pub mod Shown

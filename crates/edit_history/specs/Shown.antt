@@ -1,0 +1,86 @@
+-- How a history is seen as a state of the machine.
+use Rattle.std.specs.Prelude.{◌≡◌, ◌≢◌, ℕ, ◌+◌, ◌<◌, List, [], ◌∷◌, ◌++◌, length, take, drop, nat_lt, sum, get_or, slice_get, slice_set, Some}
+use Rattle.std.specs.declared.dyn_box.DynBox.{DynBox}
+use Rattle.std.specs.declared.alloc.Global.{Global}
+use Rattle.osm_table.specs.Table.{TableValue}
+use Rattle.dataset.specs.Patch.{PatchValue}
+use Rattle.dataset.specs.Diff.{diff}
+use Rattle.tool_api.specs.declared.verb.Verb.{Verb}
+use Rattle.tool_api.specs.declared.reply.Reply.{Reply}
+use Rattle.tool_api.specs.declared.reply.Reply.TheVariants as reply
+use Rattle.edit_history.specs.declared.counts.Group.{Group}
+use Rattle.edit_history.specs.declared.counts.Group.TheVariants.{Outside, Running, Refused}
+use Rattle.edit_history.specs.declared.counts.Counts.{Counts}
+use Rattle.edit_history.specs.declared.history.History.{History}
+use Rattle.edit_history.specs.Trail.{back_by, on_by}
+use Rattle.edit_history.specs.Boxes.{Holds, back_of, on_of, lists, kinds}
+use Rattle.edit_history.specs.Machine.{State}
+
+-- the tables at the ends of steps of so many jobs, back from t
+abbrev pub pasts : List ℕ → List PatchValue → TableValue → List TableValue
+pasts [] ps t = []
+pasts (k ∷ ks) ps t = back_by (take k ps) t ∷ pasts ks (drop k ps) (back_by (take k ps) t)
+
+-- and on from t
+abbrev pub nexts : List ℕ → List PatchValue → TableValue → List TableValue
+nexts [] fs t = []
+nexts (k ∷ ks) fs t = on_by (take k fs) t ∷ nexts ks (drop k fs) (on_by (take k fs) t)
+
+-- the state that the counts and the two trails of patches tell, with the table now
+abbrev pub state_of : Counts → List PatchValue → List PatchValue → TableValue → State
+state_of c ps fs t = record {
+  past = pasts c.steps (drop c.waiting ps) (back_by (take c.waiting ps) t);
+  now = t;
+  undone = nexts c.again fs t;
+  group = c.group;
+  start = back_by (take c.waiting ps) t;
+  accepted = nat_lt 0 c.waiting;
+}
+
+-- jobs wait in a Running group alone, and then none is undone
+abbrev pub WaitsIn : Group → ℕ → List ℕ → Type 0
+WaitsIn Outside waiting again = waiting ≡ 0
+WaitsIn Running waiting again = 0 < waiting → again ≡ []
+WaitsIn Refused waiting again = waiting ≡ 0
+
+-- the steps count all jobs
+pub record Counted (c : Counts) (bs fs : List ℕ) : Type 0 where
+  pub behind : sum c.steps + c.waiting ≡ length bs
+  pub ahead : sum c.again ≡ length fs
+  pub waiting : WaitsIn c.group c.waiting c.again
+
+-- The state that a history shows.
+abbrev pub shown : {X : Type 0} {F : X → Type 0} → (DynBox X Global F → List PatchValue) → (DynBox X Global F → List PatchValue) → History X F → State
+shown done undone h = state_of h.counts (back_of done h.jobs) (on_of undone h.jobs) h.jobs.ds
+
+-- What is true of each history between two calls.
+abbrev pub Valid : {X : Type 0} {F : X → Type 0} → (DynBox X Global F → List PatchValue) → (DynBox X Global F → List PatchValue) → History X F → Type 0
+Valid done undone h = Holds done undone h.jobs × Counted h.counts h.jobs.behind h.jobs.ahead
+
+-- one job more that was accepted
+abbrev pub accepted_in : Group → Counts → Counts
+accepted_in Outside c = record { steps = 1 ∷ c.steps; again = []; waiting = c.waiting; group = c.group }
+accepted_in Running c = record { steps = c.steps; again = []; waiting = c.waiting + 1; group = c.group }
+accepted_in Refused c = record { steps = c.steps; again = []; waiting = c.waiting; group = c.group }
+
+-- the verbs of the boxes
+abbrev pub verbs_of : {X : Type 0} {F : X → Type 0} → (DynBox X Global F → Verb) → History X F → List Verb
+verbs_of kind h = kinds kind h.jobs
+
+-- the patches of the boxes
+abbrev pub patches_of : {X : Type 0} {F : X → Type 0} → (DynBox X Global F → List PatchValue) → History X F → List (List PatchValue)
+patches_of done h = lists done h.jobs
+
+-- some box has the verb
+abbrev pub IsThere : Verb → List Verb → Type 0
+IsThere v vs = (i : ℕ) × (slice_get vs i ≡ Some v)
+
+-- the i-th box has the verb, and none before it
+pub record IsFirst (v : Verb) (vs : List Verb) (i : ℕ) : Type 0 where
+  pub there : slice_get vs i ≡ Some v
+  pub none : (k : ℕ) → k < i → slice_get vs k ≢ Some v
+
+-- With Done the difference of the tables is last at the first box with the verb, and the others keep what they had.
+abbrev pub KeptByFirst : Reply → Verb → List Verb → TableValue → TableValue → List (List PatchValue) → List (List PatchValue) → Type 0
+KeptByFirst (reply.Done keys) v vs t u ls ms = (i : ℕ) × IsFirst v vs i × (ms ≡ slice_set ls i (get_or ls i [] ++ diff t u ∷ []))
+KeptByFirst (reply.Refused r) v vs t u ls ms = Unit {0}

@@ -1,0 +1,207 @@
+//! Boxed tools in a vector, one box at a time.
+//!
+//! A function `_box` repeats a clause of the trait at a box; its `_at` or `_all` says the same of the vector, by the
+//! lists of what each box keeps. All above speaks of those lists alone.
+ghost use Rattle.std.specs.Prelude.{◌≡◌, ◌≢◌, ◌<◌, ℕ, List, [], ◌∷◌, ◌++◌, length, map, get_or, slice_get, slice_set, vec_len, Some, IfSome, IfNone, OnOk, OnErr, IfOk};
+ghost use Rattle.dataset.specs.Patch.{StandsBefore, StandsAfter, after_of, before_of};
+ghost use Rattle.dataset.specs.Sound.{IsSound};
+ghost use Rattle.tool_api.specs.Plain.{verb_of, plain, IsWellFormed};
+ghost use Rattle.tool_api.specs.Patches.{last_patch, front, first_patch, rest, Kept};
+ghost use Rattle.edit_history.specs.Trail.{KeepNothing, KeptAt, StaysRefused};
+ghost use Rattle.edit_history.specs.Shown.{IsFirst};
+
+use dataset::DataSet;
+use std::alloc::{AllocError, Global};
+use tool_api::{Job, Reply, Tool, Verb};
+
+/// Undoes one job of a box.
+pub fn undo_box(tool: &mut Box<dyn Tool>, ds: &mut DataSet) -> Result<(), AllocError>
+    requires some { 0 < length (done tool.old) }
+    requires stands { StandsAfter (last_patch (done tool.old)) ds.old }
+    requires sound { IsSound (before_of (last_patch (done tool.old)) ds.old) }
+    ensures table { OnOk result (ds.new ≡ before_of (last_patch (done tool.old)) ds.old) }
+    ensures done { OnOk result (done tool.new ≡ front (done tool.old)) }
+    ensures undone { OnOk result (undone tool.new ≡ last_patch (done tool.old) ∷ undone tool.old) }
+    ensures kind { kind tool.new ≡ kind tool.old }
+{
+    tool.undo(ds)
+}
+
+/// Undoes one job of the i-th box.
+pub fn undo_at(tools: &mut Vec<Box<dyn Tool>>, i: usize, ds: &mut DataSet) -> Result<(), AllocError>
+    requires within { i < vec_len tools.old }
+    requires some { 0 < length (get_or (map (λ b. done b) tools.old.items) i []) }
+    requires stands { StandsAfter (last_patch (get_or (map (λ b. done b) tools.old.items) i [])) ds.old }
+    requires sound { IsSound (before_of (last_patch (get_or (map (λ b. done b) tools.old.items) i [])) ds.old) }
+    ensures table { OnOk result (ds.new ≡ before_of (last_patch (get_or (map (λ b. done b) tools.old.items) i [])) ds.old) }
+    ensures dones { OnOk result (map (λ b. done b) tools.new.items ≡ slice_set (map (λ b. done b) tools.old.items) i (front (get_or (map (λ b. done b) tools.old.items) i []))) }
+    ensures undones { OnOk result (map (λ b. undone b) tools.new.items ≡ slice_set (map (λ b. undone b) tools.old.items) i (last_patch (get_or (map (λ b. done b) tools.old.items) i []) ∷ get_or (map (λ b. undone b) tools.old.items) i [])) }
+    ensures kinds { map (λ b. kind b) tools.new.items ≡ map (λ b. kind b) tools.old.items }
+{
+    undo_box(&mut tools[i], ds)
+}
+
+/// Does one undone job of a box again.
+pub fn redo_box(tool: &mut Box<dyn Tool>, ds: &mut DataSet) -> Result<(), AllocError>
+    requires some { 0 < length (undone tool.old) }
+    requires stands { StandsBefore (first_patch (undone tool.old)) ds.old }
+    requires sound { IsSound (after_of (first_patch (undone tool.old)) ds.old) }
+    ensures table { OnOk result (ds.new ≡ after_of (first_patch (undone tool.old)) ds.old) }
+    ensures done { OnOk result (done tool.new ≡ done tool.old ++ first_patch (undone tool.old) ∷ []) }
+    ensures undone { OnOk result (undone tool.new ≡ rest (undone tool.old)) }
+    ensures kind { kind tool.new ≡ kind tool.old }
+{
+    tool.redo(ds)
+}
+
+/// Does one undone job of the i-th box again.
+pub fn redo_at(tools: &mut Vec<Box<dyn Tool>>, i: usize, ds: &mut DataSet) -> Result<(), AllocError>
+    requires within { i < vec_len tools.old }
+    requires some { 0 < length (get_or (map (λ b. undone b) tools.old.items) i []) }
+    requires stands { StandsBefore (first_patch (get_or (map (λ b. undone b) tools.old.items) i [])) ds.old }
+    requires sound { IsSound (after_of (first_patch (get_or (map (λ b. undone b) tools.old.items) i [])) ds.old) }
+    ensures table { OnOk result (ds.new ≡ after_of (first_patch (get_or (map (λ b. undone b) tools.old.items) i [])) ds.old) }
+    ensures dones { OnOk result (map (λ b. done b) tools.new.items ≡ slice_set (map (λ b. done b) tools.old.items) i (get_or (map (λ b. done b) tools.old.items) i [] ++ first_patch (get_or (map (λ b. undone b) tools.old.items) i []) ∷ [])) }
+    ensures undones { OnOk result (map (λ b. undone b) tools.new.items ≡ slice_set (map (λ b. undone b) tools.old.items) i (rest (get_or (map (λ b. undone b) tools.old.items) i []))) }
+    ensures kinds { map (λ b. kind b) tools.new.items ≡ map (λ b. kind b) tools.old.items }
+{
+    redo_box(&mut tools[i], ds)
+}
+
+/// Runs a job in a box.
+pub fn run_box(
+    tool: &mut Box<dyn Tool>,
+    ds: &mut DataSet,
+    job: &Job,
+    limit: u64,
+) -> Result<Reply, AllocError>
+    requires verb { verb_of job.now ≡ kind tool.old }
+    requires formed { IsWellFormed job.now }
+    ensures reply { IfOk result (λ r. r ≡ (plain job.now ds.old limit).reply) }
+    ensures table { OnOk result (ds.new ≡ (plain job.now ds.old limit).table) }
+    ensures stays { IfOk result (λ r. StaysRefused r ds.old ds.new) }
+    ensures sound { OnOk result (IsSound ds.new) }
+    ensures done { IfOk result (λ r. Kept r ds.old ds.new (done tool.old) (done tool.new)) }
+    ensures undone { undone tool.new ≡ undone tool.old }
+    ensures kind { kind tool.new ≡ kind tool.old }
+{
+    let reply = tool.run(ds, job, limit)?;
+    ds.sound();
+    Ok(reply)
+}
+
+/// Runs a job in the i-th box.
+pub fn run_at(
+    tools: &mut Vec<Box<dyn Tool>>,
+    i: usize,
+    ds: &mut DataSet,
+    job: &Job,
+    limit: u64,
+) -> Result<Reply, AllocError>
+    requires verb { slice_get (map (λ b. kind b) tools.old.items) i ≡ Some (verb_of job.now) }
+    requires formed { IsWellFormed job.now }
+    ensures reply { IfOk result (λ r. r ≡ (plain job.now ds.old limit).reply) }
+    ensures table { OnOk result (ds.new ≡ (plain job.now ds.old limit).table) }
+    ensures stays { IfOk result (λ r. StaysRefused r ds.old ds.new) }
+    ensures sound { OnOk result (IsSound ds.new) }
+    ensures dones { IfOk result (λ r. KeptAt r ds.old ds.new (map (λ b. done b) tools.old.items) i (map (λ b. done b) tools.new.items)) }
+    ensures undones { map (λ b. undone b) tools.new.items ≡ map (λ b. undone b) tools.old.items }
+    ensures kinds { map (λ b. kind b) tools.new.items ≡ map (λ b. kind b) tools.old.items }
+{
+    run_box(&mut tools[i], ds, job, limit)
+}
+
+/// Forgets what one box has undone.
+pub fn drop_undone_box(tool: &mut Box<dyn Tool>)
+    ensures done { done tool.new ≡ done tool.old }
+    ensures undone { undone tool.new ≡ [] }
+    ensures kind { kind tool.new ≡ kind tool.old }
+{
+    tool.drop_undone()
+}
+
+/// Forgets what is undone.
+pub fn drop_undone_all(tools: &mut Vec<Box<dyn Tool>>)
+    ensures dones { map (λ b. done b) tools.new.items ≡ map (λ b. done b) tools.old.items }
+    ensures undones { KeepNothing (map (λ b. undone b) tools.new.items) }
+    ensures kinds { map (λ b. kind b) tools.new.items ≡ map (λ b. kind b) tools.old.items }
+{
+    for i in 0..tools.len() {
+        drop_undone_box(&mut tools[i]);
+    }
+}
+
+/// Forgets all that one box keeps.
+pub fn clear_box(tool: &mut Box<dyn Tool>)
+    ensures done { done tool.new ≡ [] }
+    ensures undone { undone tool.new ≡ [] }
+    ensures kind { kind tool.new ≡ kind tool.old }
+{
+    tool.clear()
+}
+
+/// Forgets all that the boxes keep.
+pub fn clear_all(tools: &mut Vec<Box<dyn Tool>>)
+    ensures dones { KeepNothing (map (λ b. done b) tools.new.items) }
+    ensures undones { KeepNothing (map (λ b. undone b) tools.new.items) }
+    ensures kinds { map (λ b. kind b) tools.new.items ≡ map (λ b. kind b) tools.old.items }
+{
+    for i in 0..tools.len() {
+        clear_box(&mut tools[i]);
+    }
+}
+
+/// The verb of a box.
+fn verb_of_box(tool: &Box<dyn Tool>) -> Verb
+    ensures { result ≡ kind tool.now }
+{
+    tool.verb()
+}
+
+/// The verb of the i-th box.
+fn verb_at(tools: &Vec<Box<dyn Tool>>, i: usize) -> Verb
+    requires { i < vec_len tools.now }
+    ensures { slice_get (map (λ b. kind b) tools.now.items) i ≡ Some result }
+{
+    verb_of_box(&tools[i])
+}
+
+/// The first box with this verb.
+pub fn find(tools: &Vec<Box<dyn Tool>>, verb: Verb) -> Option<usize>
+    ensures first { IfSome result (λ i. IsFirst verb (map (λ b. kind b) tools.now.items) i) }
+    ensures none { IfNone result ((k : ℕ) → k < vec_len tools.now → slice_get (map (λ b. kind b) tools.now.items) k ≢ Some verb) }
+{
+    for i in 0..tools.len() {
+        if verb_at(tools, i) == verb {
+            return Some(i);
+        }
+    }
+    None
+}
+
+/// No boxes yet. It takes no memory.
+pub fn no_boxes(alloc: Global) -> Vec<Box<dyn Tool>>
+    ensures dones { KeepNothing (map (λ b. done b) result.items) }
+    ensures undones { KeepNothing (map (λ b. undone b) result.items) }
+    ensures kinds { map (λ b. kind b) result.items ≡ [] }
+{
+    Vec::new(alloc)
+}
+
+/// One box more, of a tool that has done nothing yet. It comes after the others: of two boxes with one verb the first
+/// runs the jobs.
+///
+/// # Errors
+/// Want of memory.
+pub fn add_box(tools: &mut Vec<Box<dyn Tool>>, tool: Box<dyn Tool>) -> Result<(), AllocError>
+    requires dones { KeepNothing (map (λ b. done b) tools.old.items) }
+    requires undones { KeepNothing (map (λ b. undone b) tools.old.items) }
+    requires done { done tool ≡ [] }
+    requires undone { undone tool ≡ [] }
+    ensures dones { OnOk result (KeepNothing (map (λ b. done b) tools.new.items)) }
+    ensures undones { OnOk result (KeepNothing (map (λ b. undone b) tools.new.items)) }
+    ensures kinds { OnOk result (map (λ b. kind b) tools.new.items ≡ map (λ b. kind b) tools.old.items ++ kind tool ∷ []) }
+{
+    tools.push(tool)?;
+    Ok(())
+}

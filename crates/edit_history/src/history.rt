@@ -1,0 +1,379 @@
+//! The history of a session.
+ghost use Rattle.std.specs.Prelude.{◌≡◌, ◌≢◌, ◌≤◌, ◌<◌, ◌+◌, ◌↔◌, if◌then◌else◌, nat_le, length, map, slice_get, Some, IsTrue, OnOk, OnErr, IfOk};
+ghost use Rattle.dataset.specs.Patch.{StandsBefore, after_of};
+ghost use Rattle.dataset.specs.Sound.{IsSound};
+ghost use Rattle.tool_api.specs.Plain.{verb_of, plain, IsWellFormed};
+ghost use Rattle.edit_history.specs.Trail.{KeepNothing};
+ghost use Rattle.edit_history.specs.Machine.{IsWiped, fresh, first_state, ran, began, gave_up, ended, went_back, went_on, settled};
+ghost use Rattle.edit_history.specs.Shown.{shown, Valid, IsThere, IsFirst, KeptByFirst, verbs_of, patches_of};
+ghost use Rattle.edit_history.specs.declared.counts.Group.TheVariants.{Outside, Running, Refused};
+ghost use Rattle.edit_history.specs.Single.{undo_1, redo_1, undo_n, redo_n};
+
+use crate::boxes::find;
+use crate::counts::{Counts, Group};
+use crate::jobs::Jobs;
+use crate::stack::Stack;
+use dataset::{DataSet, Patch};
+use std::alloc::{AllocError, Global};
+use tool_api::{Job, Reply, Tool, Verb};
+
+/// The undo and redo history of an editing session, with its data set and its tools.
+///
+/// `shown` is its state as a machine of whole tables. `Valid` is true of each history that `new` made.
+#[derive(Drop)]
+pub struct History {
+    jobs: Jobs,
+    counts: Counts,
+}
+
+impl History {
+    /// A history over an empty data set, with tools that have done nothing yet. It takes no memory.
+    pub fn new(alloc: Global, tools: Vec<Box<dyn Tool>>) -> History
+        requires dones { KeepNothing (map (λ b. done b) tools.items) }
+        requires undones { KeepNothing (map (λ b. undone b) tools.items) }
+        ensures valid { Valid (λ b. done b) (λ b. undone b) result }
+        ensures state { shown (λ b. done b) (λ b. undone b) result ≡ first_state }
+        ensures kinds { verbs_of (λ b. kind b) result ≡ map (λ b. kind b) tools.items }
+    {
+        let ds = DataSet::new(alloc);
+        ds.sound();
+        History {
+            jobs: Jobs {
+                tools,
+                ds,
+                behind: Stack::new(alloc),
+                ahead: Stack::new(alloc),
+            },
+            counts: Counts {
+                steps: Stack::new(alloc),
+                again: Stack::new(alloc),
+                waiting: 0,
+                group: Group::Outside,
+            },
+        }
+    }
+
+    /// Whether some box has the verb.
+    pub fn has(&self, verb: Verb) -> bool
+        ensures { IsTrue result ↔ IsThere verb (verbs_of (λ b. kind b) self.now) }
+    {
+        match find(&self.jobs.tools, verb) {
+            None => false,
+            Some(_) => true,
+        }
+    }
+
+    /// The data set.
+    pub fn ds(&self) -> &DataSet
+        ensures { result.now ≡ (shown (λ b. done b) (λ b. undone b) self.now).now }
+    {
+        &self.jobs.ds
+    }
+
+    /// Whether a group is open.
+    pub fn group(&self) -> Group
+        ensures { result ≡ (shown (λ b. done b) (λ b. undone b) self.now).group }
+    {
+        self.counts.group
+    }
+
+    /// Runs a job by the first box with its verb. Outside a group a job that is done is a step of its own. One that is
+    /// refused changes nothing, but in a group it takes the whole group back. Costs what the job costs, and a look at
+    /// each box.
+    ///
+    /// # Errors
+    /// Want of memory. Then the table is sound, nothing can be undone or done again, and no group is open.
+    pub fn run(&mut self, job: &Job, limit: u64) -> Result<Reply, AllocError>
+        requires valid { Valid (λ b. done b) (λ b. undone b) self.old }
+        requires there { IsThere (verb_of job.now) (verbs_of (λ b. kind b) self.old) }
+        requires formed { IsWellFormed job.now }
+        requires open { (shown (λ b. done b) (λ b. undone b) self.old).group ≢ Refused }
+        ensures valid { Valid (λ b. done b) (λ b. undone b) self.new }
+        ensures reply { IfOk result (λ r. r ≡ (plain job.now (shown (λ b. done b) (λ b. undone b) self.old).now limit).reply) }
+        ensures state { IfOk result (λ r. shown (λ b. done b) (λ b. undone b) self.new ≡ ran r (plain job.now (shown (λ b. done b) (λ b. undone b) self.old).now limit).table (shown (λ b. done b) (λ b. undone b) self.old)) }
+        ensures first { IfOk result (λ r. KeptByFirst r (verb_of job.now) (verbs_of (λ b. kind b) self.old) (shown (λ b. done b) (λ b. undone b) self.old).now (shown (λ b. done b) (λ b. undone b) self.new).now (patches_of (λ b. done b) self.old) (patches_of (λ b. done b) self.new)) }
+        ensures err { OnErr result (IsWiped (shown (λ b. done b) (λ b. undone b) self.new)) }
+        ensures cleared { OnErr result (KeepNothing (patches_of (λ b. done b) self.new) × KeepNothing (patches_of (λ b. undone b) self.new)) }
+        ensures kinds { verbs_of (λ b. kind b) self.new ≡ verbs_of (λ b. kind b) self.old }
+    {
+        match find(&self.jobs.tools, job.verb()) {
+            None => unreachable!(),
+            Some(i) => match self.run_in(i, job, limit) {
+                Ok(reply) => Ok(reply),
+                Err(e) => {
+                    self.wipe();
+                    Err(e)
+                }
+            },
+        }
+    }
+
+    /// Opens a group.
+    pub fn begin(&mut self)
+        requires valid { Valid (λ b. done b) (λ b. undone b) self.old }
+        requires outside { (shown (λ b. done b) (λ b. undone b) self.old).group ≡ Outside }
+        ensures valid { Valid (λ b. done b) (λ b. undone b) self.new }
+        ensures state { shown (λ b. done b) (λ b. undone b) self.new ≡ began (shown (λ b. done b) (λ b. undone b) self.old) }
+        ensures kinds { verbs_of (λ b. kind b) self.new ≡ verbs_of (λ b. kind b) self.old }
+    {
+        self.counts.group = Group::Running;
+    }
+
+    /// Gives the running group up, as a refused job does: the table is again the one where the group began. The group
+    /// stays open until its end. Costs the edits of the group.
+    ///
+    /// # Errors
+    /// Want of memory. Then the table is sound, nothing can be undone or done again, and no group is open.
+    pub fn give_up(&mut self) -> Result<(), AllocError>
+        requires valid { Valid (λ b. done b) (λ b. undone b) self.old }
+        requires running { (shown (λ b. done b) (λ b. undone b) self.old).group ≡ Running }
+        ensures valid { Valid (λ b. done b) (λ b. undone b) self.new }
+        ensures state { OnOk result (shown (λ b. done b) (λ b. undone b) self.new ≡ gave_up (shown (λ b. done b) (λ b. undone b) self.old)) }
+        ensures err { OnErr result (IsWiped (shown (λ b. done b) (λ b. undone b) self.new)) }
+        ensures cleared { OnErr result (KeepNothing (patches_of (λ b. done b) self.new) × KeepNothing (patches_of (λ b. undone b) self.new)) }
+        ensures kinds { verbs_of (λ b. kind b) self.new ≡ verbs_of (λ b. kind b) self.old }
+    {
+        match self.leave_group() {
+            Ok(()) => Ok(()),
+            Err(e) => {
+                self.wipe();
+                Err(e)
+            }
+        }
+    }
+
+    /// Ends the group. What was done in it is one step, if a job was.
+    ///
+    /// # Errors
+    /// Want of memory, and then nothing is changed.
+    pub fn end(&mut self) -> Result<(), AllocError>
+        requires valid { Valid (λ b. done b) (λ b. undone b) self.old }
+        requires open { (shown (λ b. done b) (λ b. undone b) self.old).group ≢ Outside }
+        ensures valid { Valid (λ b. done b) (λ b. undone b) self.new }
+        ensures state { OnOk result (shown (λ b. done b) (λ b. undone b) self.new ≡ ended (shown (λ b. done b) (λ b. undone b) self.old)) }
+        ensures err { OnErr result (shown (λ b. done b) (λ b. undone b) self.new ≡ shown (λ b. done b) (λ b. undone b) self.old) }
+        ensures kinds { verbs_of (λ b. kind b) self.new ≡ verbs_of (λ b. kind b) self.old }
+    {
+        if self.counts.waiting > 0 {
+            self.counts.steps.push(self.counts.waiting)?;
+            self.counts.waiting = 0;
+        }
+        self.counts.group = Group::Outside;
+        Ok(())
+    }
+
+    /// Undoes the last n steps; false where there are fewer, and then nothing is changed. Costs the edits of the steps.
+    ///
+    /// # Errors
+    /// Want of memory. Then the table is sound, nothing can be undone or done again, and no group is open.
+    pub fn undo(&mut self, n: u64) -> Result<bool, AllocError>
+        requires valid { Valid (λ b. done b) (λ b. undone b) self.old }
+        requires outside { (shown (λ b. done b) (λ b. undone b) self.old).group ≡ Outside }
+        requires some { 1 ≤ n }
+        ensures valid { Valid (λ b. done b) (λ b. undone b) self.new }
+        ensures answer { IfOk result (λ r. r ≡ nat_le n (length (shown (λ b. done b) (λ b. undone b) self.old).past)) }
+        ensures state { IfOk result (λ r. shown (λ b. done b) (λ b. undone b) self.new ≡ (if r then went_back n (shown (λ b. done b) (λ b. undone b) self.old) else shown (λ b. done b) (λ b. undone b) self.old)) }
+        ensures err { OnErr result (IsWiped (shown (λ b. done b) (λ b. undone b) self.new)) }
+        ensures cleared { OnErr result (KeepNothing (patches_of (λ b. done b) self.new) × KeepNothing (patches_of (λ b. undone b) self.new)) }
+        ensures kinds { verbs_of (λ b. kind b) self.new ≡ verbs_of (λ b. kind b) self.old }
+    {
+        if n > self.counts.steps.len() as u64 {
+            return Ok(false);
+        }
+        match self.undo_steps(n as usize) {
+            Ok(()) => Ok(true),
+            Err(e) => {
+                self.wipe();
+                Err(e)
+            }
+        }
+    }
+
+    /// Does the next n undone steps again; false where there are fewer, and then nothing is changed. Costs the edits of
+    /// the steps.
+    ///
+    /// # Errors
+    /// Want of memory. Then the table is sound, nothing can be undone or done again, and no group is open.
+    pub fn redo(&mut self, n: u64) -> Result<bool, AllocError>
+        requires valid { Valid (λ b. done b) (λ b. undone b) self.old }
+        requires outside { (shown (λ b. done b) (λ b. undone b) self.old).group ≡ Outside }
+        requires some { 1 ≤ n }
+        ensures valid { Valid (λ b. done b) (λ b. undone b) self.new }
+        ensures answer { IfOk result (λ r. r ≡ nat_le n (length (shown (λ b. done b) (λ b. undone b) self.old).undone)) }
+        ensures state { IfOk result (λ r. shown (λ b. done b) (λ b. undone b) self.new ≡ (if r then went_on n (shown (λ b. done b) (λ b. undone b) self.old) else shown (λ b. done b) (λ b. undone b) self.old)) }
+        ensures err { OnErr result (IsWiped (shown (λ b. done b) (λ b. undone b) self.new)) }
+        ensures cleared { OnErr result (KeepNothing (patches_of (λ b. done b) self.new) × KeepNothing (patches_of (λ b. undone b) self.new)) }
+        ensures kinds { verbs_of (λ b. kind b) self.new ≡ verbs_of (λ b. kind b) self.old }
+    {
+        if n > self.counts.again.len() as u64 {
+            return Ok(false);
+        }
+        match self.redo_steps(n as usize) {
+            Ok(()) => Ok(true),
+            Err(e) => {
+                self.wipe();
+                Err(e)
+            }
+        }
+    }
+
+    /// Applies a patch for good: nothing can be undone or done again after it. Costs the patch's edits.
+    ///
+    /// # Errors
+    /// Want of memory, and then nothing is changed.
+    pub fn settle(&mut self, patch: &Patch) -> Result<(), AllocError>
+        requires valid { Valid (λ b. done b) (λ b. undone b) self.old }
+        requires outside { (shown (λ b. done b) (λ b. undone b) self.old).group ≡ Outside }
+        requires stands { StandsBefore patch.now (shown (λ b. done b) (λ b. undone b) self.old).now }
+        requires sound { IsSound (after_of patch.now (shown (λ b. done b) (λ b. undone b) self.old).now) }
+        ensures valid { Valid (λ b. done b) (λ b. undone b) self.new }
+        ensures state { OnOk result (shown (λ b. done b) (λ b. undone b) self.new ≡ settled patch.now (shown (λ b. done b) (λ b. undone b) self.old)) }
+        ensures err { OnErr result (shown (λ b. done b) (λ b. undone b) self.new ≡ shown (λ b. done b) (λ b. undone b) self.old) }
+        ensures kinds { verbs_of (λ b. kind b) self.new ≡ verbs_of (λ b. kind b) self.old }
+    {
+        self.jobs.ds.apply(patch)?;
+        self.wipe();
+        Ok(())
+    }
+
+    /// Forgets all steps. The table stays.
+    fn wipe(&mut self)
+        ensures valid { Valid (λ b. done b) (λ b. undone b) self.new }
+        ensures state { shown (λ b. done b) (λ b. undone b) self.new ≡ fresh self.old.jobs.ds }
+        ensures wiped { IsWiped (shown (λ b. done b) (λ b. undone b) self.new) }
+        ensures dones { KeepNothing (patches_of (λ b. done b) self.new) }
+        ensures undones { KeepNothing (patches_of (λ b. undone b) self.new) }
+        ensures kinds { verbs_of (λ b. kind b) self.new ≡ verbs_of (λ b. kind b) self.old }
+    {
+        self.jobs.wipe();
+        self.counts.steps.clear();
+        self.counts.again.clear();
+        self.counts.waiting = 0;
+        self.counts.group = Group::Outside;
+    }
+
+    /// Runs a job in the i-th box. After an `Err` the caller wipes.
+    fn run_in(&mut self, i: usize, job: &Job, limit: u64) -> Result<Reply, AllocError>
+        requires valid { Valid (λ b. done b) (λ b. undone b) self.old }
+        requires first { IsFirst (verb_of job.now) (verbs_of (λ b. kind b) self.old) i }
+        requires formed { IsWellFormed job.now }
+        requires open { self.old.counts.group ≢ Refused }
+        ensures reply { IfOk result (λ r. r ≡ (plain job.now self.old.jobs.ds limit).reply) }
+        ensures valid { OnOk result (Valid (λ b. done b) (λ b. undone b) self.new) }
+        ensures state { IfOk result (λ r. shown (λ b. done b) (λ b. undone b) self.new ≡ ran r (plain job.now self.old.jobs.ds limit).table (shown (λ b. done b) (λ b. undone b) self.old)) }
+        ensures first { IfOk result (λ r. KeptByFirst r (verb_of job.now) (verbs_of (λ b. kind b) self.old) self.old.jobs.ds self.new.jobs.ds (patches_of (λ b. done b) self.old) (patches_of (λ b. done b) self.new)) }
+        ensures kinds { verbs_of (λ b. kind b) self.new ≡ verbs_of (λ b. kind b) self.old }
+    {
+        match self.jobs.run_job(i, job, limit)? {
+            Reply::Done(keys) => {
+                self.jobs.behind.fits();
+                self.counts.accept()?;
+                Ok(Reply::Done(keys))
+            }
+            Reply::Refused(refusal) => match self.counts.group {
+                Group::Running => {
+                    self.leave_group()?;
+                    Ok(Reply::Refused(refusal))
+                }
+                Group::Outside => Ok(Reply::Refused(refusal)),
+                Group::Refused => unreachable!(),
+            },
+        }
+    }
+
+    /// Undoes the jobs of the running group. After an `Err` the caller wipes.
+    fn leave_group(&mut self) -> Result<(), AllocError>
+        requires valid { Valid (λ b. done b) (λ b. undone b) self.old }
+        requires running { self.old.counts.group ≡ Running }
+        ensures valid { OnOk result (Valid (λ b. done b) (λ b. undone b) self.new) }
+        ensures state { OnOk result (shown (λ b. done b) (λ b. undone b) self.new ≡ gave_up (shown (λ b. done b) (λ b. undone b) self.old)) }
+        ensures kinds { verbs_of (λ b. kind b) self.new ≡ verbs_of (λ b. kind b) self.old }
+    {
+        let count = self.counts.waiting;
+        if count == 0 {
+            self.counts.group = Group::Refused;
+            return Ok(());
+        }
+        self.jobs.undo_jobs(count)?;
+        self.jobs.forget_undone();
+        self.counts.waiting = 0;
+        self.counts.group = Group::Refused;
+        Ok(())
+    }
+
+    /// Undoes the last n steps. After an `Err` the caller wipes.
+    fn undo_steps(&mut self, n: usize) -> Result<(), AllocError>
+        requires valid { Valid (λ b. done b) (λ b. undone b) self.old }
+        requires outside { self.old.counts.group ≡ Outside }
+        requires some { n ≤ length self.old.counts.steps }
+        ensures valid { OnOk result (Valid (λ b. done b) (λ b. undone b) self.new) }
+        ensures state { OnOk result (shown (λ b. done b) (λ b. undone b) self.new ≡ undo_n n (shown (λ b. done b) (λ b. undone b) self.old)) }
+        ensures kinds { verbs_of (λ b. kind b) self.new ≡ verbs_of (λ b. kind b) self.old }
+    {
+        let mut left = n;
+        while left > 0 {
+            self.undo_step()?;
+            left -= 1;
+        }
+        Ok(())
+    }
+
+    /// Undoes the last step. After an `Err` the caller wipes.
+    fn undo_step(&mut self) -> Result<(), AllocError>
+        requires valid { Valid (λ b. done b) (λ b. undone b) self.old }
+        requires outside { self.old.counts.group ≡ Outside }
+        requires some { 0 < length self.old.counts.steps }
+        ensures valid { OnOk result (Valid (λ b. done b) (λ b. undone b) self.new) }
+        ensures outside { OnOk result (self.new.counts.group ≡ Outside) }
+        ensures state { OnOk result (shown (λ b. done b) (λ b. undone b) self.new ≡ undo_1 (shown (λ b. done b) (λ b. undone b) self.old)) }
+        ensures left { OnOk result (length self.old.counts.steps ≡ length self.new.counts.steps + 1) }
+        ensures kinds { verbs_of (λ b. kind b) self.new ≡ verbs_of (λ b. kind b) self.old }
+    {
+        match self.counts.steps.pop() {
+            None => unreachable!(),
+            Some(count) => {
+                self.jobs.undo_jobs(count)?;
+                self.counts.again.push(count)?;
+                Ok(())
+            }
+        }
+    }
+
+    /// Does the next n undone steps again. After an `Err` the caller wipes.
+    fn redo_steps(&mut self, n: usize) -> Result<(), AllocError>
+        requires valid { Valid (λ b. done b) (λ b. undone b) self.old }
+        requires outside { self.old.counts.group ≡ Outside }
+        requires some { n ≤ length self.old.counts.again }
+        ensures valid { OnOk result (Valid (λ b. done b) (λ b. undone b) self.new) }
+        ensures state { OnOk result (shown (λ b. done b) (λ b. undone b) self.new ≡ redo_n n (shown (λ b. done b) (λ b. undone b) self.old)) }
+        ensures kinds { verbs_of (λ b. kind b) self.new ≡ verbs_of (λ b. kind b) self.old }
+    {
+        let mut left = n;
+        while left > 0 {
+            self.redo_step()?;
+            left -= 1;
+        }
+        Ok(())
+    }
+
+    /// Does the next undone step again. After an `Err` the caller wipes.
+    fn redo_step(&mut self) -> Result<(), AllocError>
+        requires valid { Valid (λ b. done b) (λ b. undone b) self.old }
+        requires outside { self.old.counts.group ≡ Outside }
+        requires some { 0 < length self.old.counts.again }
+        ensures valid { OnOk result (Valid (λ b. done b) (λ b. undone b) self.new) }
+        ensures outside { OnOk result (self.new.counts.group ≡ Outside) }
+        ensures state { OnOk result (shown (λ b. done b) (λ b. undone b) self.new ≡ redo_1 (shown (λ b. done b) (λ b. undone b) self.old)) }
+        ensures left { OnOk result (length self.old.counts.again ≡ length self.new.counts.again + 1) }
+        ensures kinds { verbs_of (λ b. kind b) self.new ≡ verbs_of (λ b. kind b) self.old }
+    {
+        match self.counts.again.pop() {
+            None => unreachable!(),
+            Some(count) => {
+                self.jobs.redo_jobs(count)?;
+                self.counts.steps.push(count)?;
+                Ok(())
+            }
+        }
+    }
+}
