@@ -1,13 +1,17 @@
 -- A reader that is fed a file by pieces.
-use Rattle.std.proofs.Common.{◌≡◌, ℕ, ◌+◌, ◌-◌, ◌<◌, ◌≤◌, List, [], ◌++◌, Option, None, Some, Err, IfSome, true, nat_lt, sym, ap, ◌∙◌, refl, arith, length, length-append}
+use Rattle.std.proofs.Common.{◌≡◌, ℕ, ◌+◌, ◌-◌, ◌<◌, ◌≤◌, List, [], ◌++◌, Option, None, Some, Result, Ok, Err, IfOk, IfSome, true, nat_lt, sym, ap, ◌∙◌, refl, arith, length, length-append, append_assoc}
 use Rattle.std.specs.Io.KnownBytes.{Consumes, IsAtEnd}
 use Rattle.std.proofs.lemmas.Grind.{common_steps}
 use Rattle.opl_line.specs.declared.mode.Mode.TheVariants.{Download}
+use Rattle.opl_line.specs.declared.object.OplObject.{OplObject}
+use Rattle.opl_file.specs.declared.fault.FileFault.{FileFault}
 use Rattle.opl_file.specs.declared.fault.FileFault.TheVariants.{FileTooLong}
 use Rattle.opl_file.specs.declared.reader.Reader.{Reader}
 use Rattle.opl_file.specs.Feeding.{reads_on}
 use Rattle.opl_file.specs.Reading.{objects_of}
-use Rattle.edit_session.specs.Load.{objects_in}
+use Rattle.download.proofs.Read.{read_tellable}
+use Rattle.edit_session.specs.declared.files.ReadError.{ReadError}
+use Rattle.edit_session.specs.Load.{objects_in, AreTold}
 
 -- the reader fed with the rest of the file gives what the whole file is, and so many bytes may come
 pub record FeedsOn (limit left : ℕ) (reader : Reader) (bytes rest : List ℕ) : Type 0 where
@@ -53,3 +57,21 @@ feeds-over limit left count reader (Some bytes) None new piece feeds more n over
 feeds-over limit left count reader (Some bytes) (Some middle) None piece feeds more n over = absurd more
 feeds-over limit left count reader (Some bytes) (Some middle) (Some rest) piece feeds more n over =
     over_limit limit bytes (omega (arith, feeds.count, ap length more, length-append piece rest))
+
+-- Whatever was fed, what comes of it may be told.
+
+-- a reader that was fed some bytes of a download
+abbrev pub WasFed : ℕ → Reader → Type 0
+WasFed limit reader = (fed : List ℕ) × ((more : List ℕ) → reads_on reader more ≡ objects_of Download limit (fed ++ more))
+
+pub fed_more : (limit : ℕ) (reader next : Reader) → WasFed limit reader → (piece : List ℕ) → ((more : List ℕ) → reads_on next more ≡ reads_on reader (piece ++ more)) → WasFed limit next
+fed_more limit reader next fed piece reads = (fed.0 ++ piece, λ more. reads more ∙ fed.1 (piece ++ more) ∙ ap (objects_of Download limit) (sym (append_assoc fed.0 piece more)))
+
+told_by : (limit : ℕ) (bytes : List ℕ) (read : Result (List OplObject) FileFault) → read ≡ objects_of Download limit bytes → AreTold (Some read)
+told_by limit bytes (Err fault) is = tt
+told_by limit bytes (Ok objects) is = read_tellable limit bytes objects (sym is)
+
+-- what its end gives may be told
+pub finished_tellable : (limit : ℕ) (reader : Reader) (result : Result (Result (List OplObject) FileFault) ReadError) → WasFed limit reader → IfOk result (λ read. read ≡ reads_on reader []) → IfOk result (λ read. AreTold (Some read))
+finished_tellable limit reader (Err e) fed is = tt
+finished_tellable limit reader (Ok read) fed is = told_by limit (fed.0 ++ []) read (is ∙ fed.1 [])

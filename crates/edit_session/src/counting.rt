@@ -4,8 +4,9 @@ ghost use Rattle.osm_base.specs.Extends.{Extends};
 ghost use Rattle.osm_table.specs.Table.{is_living};
 ghost use Rattle.edit_session.specs.Counted.{count_text, counts_text, kinds_text, states_text, counts_among, part, with_one, with_key, HasRoom, is_node, is_way, is_relation, is_incomplete, is_deleted, is_in_conflict};
 
+use dataset::DataSet;
 use osm_base::{Key, Kind, write_digits};
-use osm_table::{Entry, Table};
+use osm_table::Entry;
 use std::alloc::AllocError;
 
 /// How many entries of a table are so.
@@ -38,12 +39,12 @@ pub struct Counts {
 /// # Errors
 /// No memory was left; what stood in `out` stays at its front.
 #[tactic(auto, using(osm_base::proofs::ExtendLaws::extends_steps))]
-pub fn write_count(table: &Table, out: &mut Vec<u8>) -> Result<(), AllocError>
-    ensures written { OnOk result (out.new.items ≡ out.old.items ++ count_text table.now) }
+pub fn write_count(ds: &DataSet, out: &mut Vec<u8>) -> Result<(), AllocError>
+    ensures written { OnOk result (out.new.items ≡ out.old.items ++ count_text ds.now) }
     ensures kept { OnErr result (Extends out.old.items out.new.items) }
 {
-    let keys = table.ordered()?;
-    write_counts(counts_among(table, keys.as_slice()), out)
+    let keys = ds.ordered()?;
+    write_counts(counts_among(ds, keys.as_slice()), out)
 }
 
 #[tactic(auto, using(osm_base::proofs::ExtendLaws::extends_steps))]
@@ -89,8 +90,8 @@ fn write_part(name: &[u8], count: u64, out: &mut Vec<u8>) -> Result<(), AllocErr
     write_digits(count, out)
 }
 
-fn counts_among(table: &Table, keys: &[Key]) -> Counts
-    ensures { result ≡ counts_among table.now keys.now }
+fn counts_among(ds: &DataSet, keys: &[Key]) -> Counts
+    ensures { result ≡ counts_among ds.now keys.now }
 {
     let mut counts = Counts {
         nodes: 0,
@@ -102,18 +103,18 @@ fn counts_among(table: &Table, keys: &[Key]) -> Counts
         conflicts: 0,
     };
     for key in keys {
-        counts = counts.with_key(table, *key);
+        counts = counts.with_key(ds, *key);
     }
     counts
 }
 
 impl Counts {
     // The counts with the entry of one key more.
-    fn with_key(self, table: &Table, key: Key) -> Counts
+    fn with_key(self, ds: &DataSet, key: Key) -> Counts
         requires room { HasRoom self }
-        ensures { result ≡ with_key self table.now key }
+        ensures { result ≡ with_key self ds.now key }
     {
-        match table.get(key) {
+        match ds.entry(key) {
             None => self,
             Some(entry) => self.with_one(key.kind, entry),
         }

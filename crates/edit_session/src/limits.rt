@@ -1,8 +1,8 @@
-//! How much a session reads.
+//! How much a session reads and holds.
 ghost use Rattle.std.specs.Prelude.{◌≡◌};
 ghost use Rattle.edit_session.specs.Limits.{default_limits};
 
-/// The most bytes of a script, and of each file that a step reads.
+/// How much a session reads and holds.
 #[derive(Clone, Copy, Debug, PartialEq, Eq)]
 pub struct Limits {
     /// Bytes of a script.
@@ -10,6 +10,9 @@ pub struct Limits {
 
     /// Bytes of a file.
     pub file: u64,
+
+    /// Objects of the table.
+    pub objects: u64,
 }
 
 /// The limits where nobody asks for others.
@@ -19,5 +22,6 @@ pub fn default_limits() -> Limits
     Limits {
         script: 16_777_216,
         file: 268_435_456,
+        objects: 2_000_000,
     }
 }

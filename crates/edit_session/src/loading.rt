@@ -1,9 +1,9 @@
 //! The objects of a file of the shelf.
-ghost use Rattle.std.specs.Prelude.{◌≡◌, ◌<◌, [], List, ℕ, true, length, IfOk, IfSome, Ok, Err};
+ghost use Rattle.std.specs.Prelude.{◌≡◌, ◌<◌, [], Some, true, length, IfOk, IfSome};
 ghost use Rattle.osm_outside.specs.Outside.{held};
 ghost use Rattle.opl_file.specs.Feeding.{reads_on};
 ghost use Rattle.edit_session.specs.Fetch.{ReadCause};
-ghost use Rattle.edit_session.specs.Load.{file_read, objects_in, FinishCause};
+ghost use Rattle.edit_session.specs.Load.{file_read, objects_in, AreTold, FinishCause};
 
 use crate::files::ReadError;
 use opl_file::{FileAnswer, FileFault, Objects, Reader};
@@ -23,6 +23,7 @@ pub fn load<S: Shelf>(
 ) -> Result<Option<Result<Objects, FileFault>>, ReadError>
     ensures told { S.told shelf.new ≡ S.told shelf.old }
     ensures found { IfOk result (λ loaded. IfSome (S.told shelf.old) (λ files. loaded ≡ file_read limit (held files name.now))) }
+    ensures may_be_told { IfOk result AreTold }
     ensures cause { ReadCause (S.faults shelf.old) (S.faults shelf.new) result }
 {
     if !shelf.begin(name)? {
@@ -44,6 +45,7 @@ fn read_objects<S: Shelf>(
     requires room { 0 < length buffer.old }
     ensures told { S.told shelf.new ≡ S.told shelf.old }
     ensures found { IfOk result (λ read. IfSome (S.rest shelf.old) (λ bytes. read ≡ objects_in limit bytes)) }
+    ensures may_be_told { IfOk result (λ read. AreTold (Some read)) }
     ensures cause { ReadCause (S.faults shelf.old) (S.faults shelf.new) result }
 {
     let mut reader = Reader::new(alloc, Mode::Download, limit);

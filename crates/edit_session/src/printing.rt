@@ -5,9 +5,10 @@ ghost use Rattle.osm_base.specs.Meta.{empty_meta};
 ghost use Rattle.osm_table.specs.Table.{version_of};
 ghost use Rattle.edit_session.specs.Printed.{known_text, entry_text, entries_text, table_text, meta_of};
 
+use dataset::DataSet;
 use opl_line::write_line;
 use osm_base::{Content, Key, Meta};
-use osm_table::{Base, Entry, Table};
+use osm_table::{Base, Entry};
 use std::alloc::AllocError;
 
 /// Appends the text of `print`: each known object by rank in its written form, a line each. It sorts the keys once.
@@ -15,29 +16,29 @@ use std::alloc::AllocError;
 /// # Errors
 /// No memory was left; what stood in `out` stays at its front.
 #[tactic(auto, using(osm_base::proofs::ExtendLaws::extends_steps))]
-pub fn write_table(table: &Table, out: &mut Vec<u8>) -> Result<(), AllocError>
-    ensures written { OnOk result (out.new.items ≡ out.old.items ++ table_text table.now) }
+pub fn write_table(ds: &DataSet, out: &mut Vec<u8>) -> Result<(), AllocError>
+    ensures written { OnOk result (out.new.items ≡ out.old.items ++ table_text ds.now) }
     ensures kept { OnErr result (Extends out.old.items out.new.items) }
 {
     let unknown = Meta::empty(*out.allocator())?;
-    let keys = table.ordered()?;
-    write_entries(table, keys.as_slice(), &unknown, out)?;
+    let keys = ds.ordered()?;
+    write_entries(ds, keys.as_slice(), &unknown, out)?;
     Ok(())
 }
 
 #[tactic(auto, using(osm_base::proofs::ExtendLaws::extends_steps))]
 fn write_entries(
-    table: &Table,
+    ds: &DataSet,
     keys: &[Key],
     unknown: &Meta,
     out: &mut Vec<u8>,
 ) -> Result<(), AllocError>
     requires { unknown.now ≡ empty_meta }
-    ensures written { OnOk result (out.new.items ≡ out.old.items ++ entries_text table.now keys.now) }
+    ensures written { OnOk result (out.new.items ≡ out.old.items ++ entries_text ds.now keys.now) }
     ensures kept { OnErr result (Extends out.old.items out.new.items) }
 {
     for key in keys {
-        write_entry(table, *key, unknown, out)?;
+        write_entry(ds, *key, unknown, out)?;
     }
     Ok(())
 }
@@ -45,16 +46,16 @@ fn write_entries(
 /// Appends the line of the object with that key, and nothing where it isn't known.
 #[tactic(auto, using(osm_base::proofs::ExtendLaws::extends_steps))]
 pub fn write_entry(
-    table: &Table,
+    ds: &DataSet,
     key: Key,
     unknown: &Meta,
     out: &mut Vec<u8>,
 ) -> Result<(), AllocError>
     requires { unknown.now ≡ empty_meta }
-    ensures written { OnOk result (out.new.items ≡ out.old.items ++ entry_text table.now key) }
+    ensures written { OnOk result (out.new.items ≡ out.old.items ++ entry_text ds.now key) }
     ensures kept { OnErr result (Extends out.old.items out.new.items) }
 {
-    match table.get(key) {
+    match ds.entry(key) {
         Some(Entry::Known { base, mine, .. }) => write_known(key, base, mine, unknown, out),
         _ => Ok(()),
     }

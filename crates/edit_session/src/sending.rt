@@ -3,7 +3,7 @@ ghost use Rattle.std.specs.Prelude.{◌≡◌, ◌++◌, List, ℕ, OnOk, OnErr}
 ghost use Rattle.std.specs.Io.KnownBytes.{Appends};
 ghost use Rattle.osm_outside.specs.Outside.{AppendsFront, HasCause};
 ghost use Rattle.osm_base.specs.Meta.{empty_meta};
-ghost use Rattle.edit_session.specs.Reply.{reply_line};
+ghost use Rattle.edit_script.specs.Reply.{reply_line};
 ghost use Rattle.edit_session.specs.Printed.{entries_text, table_text};
 ghost use Rattle.edit_session.specs.Counted.{count_text};
 ghost use Rattle.edit_session.specs.Send.{WriteCause, Passes};
@@ -11,10 +11,10 @@ ghost use Rattle.edit_session.specs.declared.sending.WriteError.TheVariants.{Fau
 
 use crate::counting::write_count;
 use crate::printing::write_entry;
-use crate::reply::{StepReply, write_reply};
+use dataset::DataSet;
+use edit_script::{StepReply, write_reply};
 use osm_base::{Key, Meta};
 use osm_outside::{Failed, Sink};
-use osm_table::Table;
 use std::alloc::{AllocError, AllocFailed, Global};
 
 /// Why a text wasn't written to its end.
@@ -58,10 +58,10 @@ pub fn send_reply<K: Sink>(
     alloc: Global,
     out: &mut K,
     line: u64,
-    reply: StepReply,
+    reply: &StepReply,
 ) -> Result<(), WriteError>
-    ensures ok { OnOk result (Appends (K.taken out.old) (K.taken out.new) (reply_line line reply)) }
-    ensures err { OnErr result (AppendsFront (K.taken out.old) (K.taken out.new) (reply_line line reply)) }
+    ensures ok { OnOk result (Appends (K.taken out.old) (K.taken out.new) (reply_line line reply.now)) }
+    ensures err { OnErr result (AppendsFront (K.taken out.old) (K.taken out.new) (reply_line line reply.now)) }
     ensures cause { WriteCause (K.faults out.old) (K.faults out.new) result }
 {
     let mut text = Vec::new(alloc);
@@ -74,13 +74,13 @@ pub fn send_reply<K: Sink>(
 ///
 /// # Errors
 /// The sink failed, or no memory was left. A front of the text may have been written.
-pub fn send_count<K: Sink>(alloc: Global, out: &mut K, table: &Table) -> Result<(), WriteError>
-    ensures ok { OnOk result (Appends (K.taken out.old) (K.taken out.new) (count_text table.now)) }
-    ensures err { OnErr result (AppendsFront (K.taken out.old) (K.taken out.new) (count_text table.now)) }
+pub fn send_count<K: Sink>(alloc: Global, out: &mut K, ds: &DataSet) -> Result<(), WriteError>
+    ensures ok { OnOk result (Appends (K.taken out.old) (K.taken out.new) (count_text ds.now)) }
+    ensures err { OnErr result (AppendsFront (K.taken out.old) (K.taken out.new) (count_text ds.now)) }
     ensures cause { WriteCause (K.faults out.old) (K.faults out.new) result }
 {
     let mut text = Vec::new(alloc);
-    write_count(table, &mut text)?;
+    write_count(ds, &mut text)?;
     out.put(&text)?;
     Ok(())
 }
@@ -92,31 +92,31 @@ const FULL: usize = 32_768;
 ///
 /// # Errors
 /// The sink failed, or no memory was left. A front of the text may have been written.
-pub fn send_table<K: Sink>(alloc: Global, out: &mut K, table: &Table) -> Result<(), WriteError>
-    ensures ok { OnOk result (Appends (K.taken out.old) (K.taken out.new) (table_text table.now)) }
-    ensures err { OnErr result (AppendsFront (K.taken out.old) (K.taken out.new) (table_text table.now)) }
+pub fn send_table<K: Sink>(alloc: Global, out: &mut K, ds: &DataSet) -> Result<(), WriteError>
+    ensures ok { OnOk result (Appends (K.taken out.old) (K.taken out.new) (table_text ds.now)) }
+    ensures err { OnErr result (AppendsFront (K.taken out.old) (K.taken out.new) (table_text ds.now)) }
     ensures cause { WriteCause (K.faults out.old) (K.faults out.new) result }
 {
     let unknown = Meta::empty(alloc)?;
-    let keys = table.ordered()?;
-    send_entries(alloc, out, table, keys.as_slice(), &unknown)
+    let keys = ds.ordered()?;
+    send_entries(alloc, out, ds, keys.as_slice(), &unknown)
 }
 
 fn send_entries<K: Sink>(
     alloc: Global,
     out: &mut K,
-    table: &Table,
+    ds: &DataSet,
     keys: &[Key],
     unknown: &Meta,
 ) -> Result<(), WriteError>
     requires { unknown.now ≡ empty_meta }
-    ensures ok { OnOk result (Appends (K.taken out.old) (K.taken out.new) (entries_text table.now keys.now)) }
-    ensures err { OnErr result (AppendsFront (K.taken out.old) (K.taken out.new) (entries_text table.now keys.now)) }
+    ensures ok { OnOk result (Appends (K.taken out.old) (K.taken out.new) (entries_text ds.now keys.now)) }
+    ensures err { OnErr result (AppendsFront (K.taken out.old) (K.taken out.new) (entries_text ds.now keys.now)) }
     ensures cause { WriteCause (K.faults out.old) (K.faults out.new) result }
 {
     let mut piece = Vec::new(alloc);
     for key in keys {
-        write_entry(table, *key, unknown, &mut piece)?;
+        write_entry(ds, *key, unknown, &mut piece)?;
         pass_full(out, &mut piece)?;
     }
     out.put(&piece)?;

@@ -1,10 +1,11 @@
 //! How a session ends.
 ghost use Rattle.std.specs.Prelude.{◌≡◌, Some};
 ghost use Rattle.edit_session.specs.StopStatus.{status_of};
-ghost use Rattle.edit_session.specs.StatusText.{number_of, status_text};
+ghost use Rattle.edit_session.specs.StatusText.{number_of, status_text, verb_name};
 
 use crate::stop::Stop;
 use std::fmt;
+use tool_api::Verb;
 
 /// How a session ended.
 #[derive(Clone, Copy, Debug, PartialEq, Eq)]
@@ -22,6 +23,11 @@ pub enum Status {
     },
     /// The script has more than 16,777,216 bytes.
     ScriptTooLong,
+    /// A step needs the tool of that verb, the first that is missing.
+    NoTool {
+        /// Its verb.
+        verb: Verb,
+    },
     /// The shelf failed.
     ReadFault,
     /// The sink failed.
@@ -41,10 +47,29 @@ impl Status {
             Status::NoScript => 3,
             Status::BadScript { .. } => 4,
             Status::ScriptTooLong => 5,
+            Status::NoTool { .. } => 6,
             Status::ReadFault => 7,
             Status::WriteFault => 8,
             Status::Memory => 9,
         }
+    }
+}
+
+fn verb_name(verb: Verb) -> &'static str
+    ensures { result.now ≡ verb_name verb }
+{
+    match verb {
+        Verb::Add => "Add",
+        Verb::Tag => "Tag",
+        Verb::Move => "Move",
+        Verb::Change => "Change",
+        Verb::Delete => "Delete",
+        Verb::Erase => "Erase",
+        Verb::Purge => "Purge",
+        Verb::Split => "Split",
+        Verb::Combine => "Combine",
+        Verb::Reverse => "Reverse",
+        Verb::Merge => "Merge",
     }
 }
 
@@ -59,6 +84,7 @@ impl fmt::Display for Status {
             Status::NoScript => write!(f, "no script"),
             Status::BadScript { line } => write!(f, "bad script line {line}"),
             Status::ScriptTooLong => write!(f, "script too long"),
+            Status::NoTool { verb } => write!(f, "no tool {}", verb_name(*verb)),
             Status::ReadFault => write!(f, "read fault"),
             Status::WriteFault => write!(f, "write fault"),
             Status::Memory => write!(f, "out of memory"),

@@ -1,5 +1,5 @@
 use Rattle.std.proofs.Common.{◌≡◌, ◌≤◌, true}
-use Rattle.edit_session.proofs.Fed.{Feeds}
+use Rattle.edit_session.proofs.Fed.{Feeds, WasFed}
 use Rattle.edit_session.proofs.loading.read_objects.Given as goal
 
 abbrev pub invariant-loop-reader : goal.invariant-loop-reader
@@ -7,6 +7,7 @@ invariant-loop-reader g l = record {
   told : g.S.Shelf.told l.shelf ≡ g.S.Shelf.told l.fn.shelf;
   begun : g.S.Shelf.begun l.shelf ≡ true;
   later : g.S.Shelf.faults l.fn.shelf ≤ g.S.Shelf.faults l.shelf;
+  fed : WasFed l.limit l.reader;
   so_far : Feeds l.limit l.left l.reader (g.S.Shelf.rest l.fn.shelf) (g.S.Shelf.rest l.shelf);
 }
 

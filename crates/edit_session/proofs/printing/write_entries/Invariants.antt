@@ -4,4 +4,4 @@ use Rattle.edit_session.specs.Printed.{entry_text}
 use Rattle.edit_session.proofs.printing.write_entries.Given as goal
 
 abbrev pub invariant-loop-key : goal.invariant-loop-key
-invariant-loop-key l = l.out.items ≡ l.fn.out.items ++ flat_map (entry_text l.table) (take l.key-index l.keys)
+invariant-loop-key l = l.out.items ≡ l.fn.out.items ++ flat_map (entry_text l.ds) (take l.key-index l.keys)

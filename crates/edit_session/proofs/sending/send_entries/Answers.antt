@@ -14,12 +14,12 @@ none = record { kind = Node; id = pos 0 }
 pub returns-in_err-write_entry-clause-err : goal.returns-in_err-write_entry-clause-err
 returns-in_err-write_entry-clause-err g c =
     let p = err_from_is_err_and c.from_residual.result c.from_residual.ensures.1 in
-    rw p.1 (along-stop (g.K.Sink.taken c.args.out.now) (g.K.Sink.taken c.loop-key.out) (c.loop-key.piece.items ++ flat_map (entry_text c.args.table.now) (drop c.loop-key.key-index c.args.keys.now)) (entries_text c.args.table.now c.args.keys.now) c.loop-key.invariant.text)
+    rw p.1 (along-stop (g.K.Sink.taken c.args.out.now) (g.K.Sink.taken c.loop-key.out) (c.loop-key.piece.items ++ flat_map (entry_text c.args.ds.now) (drop c.loop-key.key-index c.args.keys.now)) (entries_text c.args.ds.now c.args.keys.now) c.loop-key.invariant.text)
 
 pub returns-in_err-pass_full-clause-err : goal.returns-in_err-pass_full-clause-err
 returns-in_err-pass_full-clause-err g c =
     let p = err_from_is_err_and c.from_residual-in_err-pass_full.result c.from_residual-in_err-pass_full.ensures.1 in
-    rw p.1 (piece_front (entry_text c.args.table.now) _ _ _ _ c.args.keys.now c.loop-key.key-index (get_or c.args.keys.now c.loop-key.key-index none) none _ _
+    rw p.1 (piece_front (entry_text c.args.ds.now) _ _ _ _ c.args.keys.now c.loop-key.key-index (get_or c.args.keys.now c.loop-key.key-index none) none _ _
     (omega arith) refl c.loop-key.invariant.text c.in_ok-write_entry.ensures.written c.in_err-pass_full.ensures.err)
 
 pub loop-key-preserved : goal.loop-key-preserved
@@ -27,15 +27,15 @@ loop-key-preserved g c =
     let passed = c.in_ok-pass_full.ensures in
     record {
       later = omega (arith, passed.cause.later);
-      text = piece_more (entry_text c.args.table.now) _ _ _ _ c.args.keys.now c.loop-key.key-index (get_or c.args.keys.now c.loop-key.key-index none) none _ _ _
+      text = piece_more (entry_text c.args.ds.now) _ _ _ _ c.args.keys.now c.loop-key.key-index (get_or c.args.keys.now c.loop-key.key-index none) none _ _ _
           (omega arith) refl c.loop-key.invariant.text c.in_ok-write_entry.ensures.written passed.ok;
     }
 
 pub returns-in_err-put-clause-err : goal.returns-in_err-put-clause-err
 returns-in_err-put-clause-err g c =
     let p = err_from_is_err_and c.from_residual-in_err-put.result c.from_residual-in_err-put.ensures.1 in
-    rw p.1 (along-front (g.K.Sink.taken c.args.out.now) (g.K.Sink.taken c.loop-key.out) (g.K.Sink.taken c.put.new.self) c.loop-key.piece.items (flat_map (entry_text c.args.table.now) (drop c.loop-key.key-index c.args.keys.now)) (entries_text c.args.table.now c.args.keys.now) c.loop-key.invariant.text (rw c.deref.ensures.value at c.in_err-put.ensures.err))
+    rw p.1 (along-front (g.K.Sink.taken c.args.out.now) (g.K.Sink.taken c.loop-key.out) (g.K.Sink.taken c.put.new.self) c.loop-key.piece.items (flat_map (entry_text c.args.ds.now) (drop c.loop-key.key-index c.args.keys.now)) (entries_text c.args.ds.now c.args.keys.now) c.loop-key.invariant.text (rw c.deref.ensures.value at c.in_err-put.ensures.err))
 
 pub returns-clause-ok : goal.returns-clause-ok
 returns-clause-ok g c =
-    piece_end (entry_text c.args.table.now) _ _ _ _ c.args.keys.now c.loop-key.key-index _ (omega arith) c.loop-key.invariant.text (rw c.deref.ensures.value at c.in_ok-put.ensures.ok)
+    piece_end (entry_text c.args.ds.now) _ _ _ _ c.args.keys.now c.loop-key.key-index _ (omega arith) c.loop-key.invariant.text (rw c.deref.ensures.value at c.in_ok-put.ensures.ok)

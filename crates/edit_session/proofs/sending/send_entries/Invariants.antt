@@ -6,5 +6,5 @@ use Rattle.edit_session.proofs.sending.send_entries.Given as goal
 abbrev pub invariant-loop-key : goal.invariant-loop-key
 invariant-loop-key g l = record {
   later : g.K.Sink.faults l.fn.out ≤ g.K.Sink.faults l.out;
-  text : Along (g.K.Sink.taken l.fn.out) (g.K.Sink.taken l.out) (l.piece.items ++ flat_map (entry_text l.table) (drop l.key-index l.keys)) (entries_text l.table l.keys);
+  text : Along (g.K.Sink.taken l.fn.out) (g.K.Sink.taken l.out) (l.piece.items ++ flat_map (entry_text l.ds) (drop l.key-index l.keys)) (entries_text l.ds l.keys);
 }

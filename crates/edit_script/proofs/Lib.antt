@@ -1,0 +1,5 @@
+pub mod Cutting
+mod Examples
+pub mod Lists
+pub mod Orderly
+pub mod Words

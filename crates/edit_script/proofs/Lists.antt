@@ -1,0 +1,54 @@
+-- What was read so far, and what is left.
+use Rattle.std.proofs.Common.{◌≡◌, ℕ, ◌+◌, Bool, true, List, [], ◌∷◌, ◌++◌, Option, Some, None, Result, Ok, Err, refl, ap, append_assoc, sym, ◌∙◌}
+use Rattle.opl_text.specs.Time.{◌>>=◌}
+use Rattle.edit_script.specs.declared.line.ScriptLine.TheVariants.{Asks}
+use Rattle.edit_script.specs.declared.step.Act.{Act}
+use Rattle.edit_script.specs.declared.step.Step.{Step}
+use Rattle.edit_script.specs.Items.{all_of}
+use Rattle.edit_script.specs.Order.{may_stand, inside_after}
+use Rattle.edit_script.specs.Script.{onto_steps, after_act, after_line, line_of, steps_from}
+
+-- items before the others, if there are others
+abbrev pub onto_items : {A : Type 0} → List A → Option (List A) → Option (List A)
+onto_items front None = None
+onto_items front (Some items) = Some (front ++ items)
+
+pub onto_items-nil : {A : Type 0} (items : Option (List A)) → onto_items [] items ≡ items
+onto_items-nil None = refl
+onto_items-nil (Some items) = refl
+
+more_items : {A : Type 0} (front : List A) (x : A) (items : Option (List A)) → onto_items front (items >>= λ xs. Some (x ∷ xs)) ≡ onto_items (front ++ x ∷ []) items
+more_items front x None = refl
+more_items front x (Some items) = ap Some (sym (append_assoc front (x ∷ []) items))
+
+-- one item more
+pub onto_items-more : {A : Type 0} (read : List ℕ → Option A) (front : List A) (x : A) (text : List ℕ) (texts : List (List ℕ)) → read text ≡ Some x → onto_items front (all_of read (text ∷ texts)) ≡ onto_items (front ++ x ∷ []) (all_of read texts)
+onto_items-more read front x text texts e = rw e (more_items front x (all_of read texts))
+
+-- a text that isn't read ends it
+pub onto_items-none : {A : Type 0} (read : List ℕ → Option A) (front : List A) (text : List ℕ) (texts : List (List ℕ)) → read text ≡ None → onto_items front (all_of read (text ∷ texts)) ≡ None
+onto_items-none read front text texts e = rw e refl
+
+-- steps before the others, unless there is a bad line
+abbrev pub onto_front : List Step → Result (List Step) ℕ → Result (List Step) ℕ
+onto_front front (Ok steps) = Ok (front ++ steps)
+onto_front front (Err line) = Err line
+
+pub onto_front-nil : (steps : Result (List Step) ℕ) → onto_front [] steps ≡ steps
+onto_front-nil (Ok steps) = refl
+onto_front-nil (Err line) = refl
+
+pub onto_front-more : (front : List Step) (step : Step) (steps : Result (List Step) ℕ) → onto_front front (onto_steps step steps) ≡ onto_front (front ++ step ∷ []) steps
+onto_front-more front step (Ok steps) = ap Ok (sym (append_assoc front (step ∷ []) steps))
+onto_front-more front step (Err line) = refl
+
+after_act-stands : (is_inside : Bool) (line : ℕ) (act : Act) (rest : Bool → Result (List Step) ℕ) → may_stand is_inside act ≡ true → after_act is_inside line act rest ≡ onto_steps (record { line = line; act = act }) (rest (inside_after is_inside act))
+after_act-stands is_inside line act rest stands = rw stands refl
+
+-- a line that asks for something adds its step
+pub onto_front-asks : (front : List Step) (is_inside : Bool) (line : ℕ) (act : Act) (text : List ℕ) (texts : List (List ℕ)) → line_of text ≡ Some (Asks act) → may_stand is_inside act ≡ true → onto_front front (steps_from is_inside line (text ∷ texts)) ≡ onto_front (front ++ record { line = line; act = act } ∷ []) (steps_from (inside_after is_inside act) (line + 1) texts)
+onto_front-asks front is_inside line act text texts asks stands =
+    let rest : Bool → Result (List Step) ℕ = λ inside. steps_from inside (line + 1) texts in
+    ap (λ kind. onto_front front (after_line is_inside line kind rest)) asks
+    ∙ ap (onto_front front) (after_act-stands is_inside line act rest stands)
+    ∙ onto_front-more front (record { line = line; act = act }) (rest (inside_after is_inside act))

@@ -1,0 +1,83 @@
+-- The words of a line, and what each of them spells.
+--
+-- For example `place n-1 x2.5 y0` has the words `place`, `n-1`, `x2.5` and `y0`.
+use Rattle.std.specs.Prelude.{ℕ, ℤ, Bool, ◌==◌, ◌&&◌, nat_le, nat_lt, if◌then◌else◌, List, [], ◌∷◌, length, filter, Option, Some, None}
+use Rattle.std.specs.List.{list_any}
+use Rattle.osm_base.specs.Coord.{coord_text}
+use Rattle.osm_base.specs.Number.{key_text, number_text}
+use Rattle.osm_base.specs.Place.{place_at}
+use Rattle.osm_base.specs.Tags.{Pair}
+use Rattle.osm_base.specs.declared.coord.Coord.{Coord}
+use Rattle.osm_base.specs.declared.key.Key.{Key}
+use Rattle.osm_base.specs.declared.members.Member.{Member}
+use Rattle.opl_text.specs.Time.{◌>>=◌}
+use Rattle.opl_line.specs.Cut.{split}
+use Rattle.opl_line.specs.Field.{is, tags_text, refs_text, members_text}
+use Rattle.opl_line.specs.Line.{is_blank}
+use Rattle.opl_line.specs.Spelling.{ok_of}
+
+abbrev pub has_byte : List ℕ → Bool
+has_byte piece = nat_lt 0 (length piece)
+
+-- the words of a line: what stands between its blanks
+abbrev pub words_of : List ℕ → List (List ℕ)
+words_of line = filter has_byte (split is_blank line)
+
+-- what stands behind the blanks at the front
+abbrev pub without_blanks : List ℕ → List ℕ
+without_blanks [] = []
+without_blanks (byte ∷ bytes) = if is_blank byte then without_blanks bytes else byte ∷ bytes
+
+-- what each text spells; none where one of them spells nothing
+abbrev pub all_of : {A : Type 0} → (List ℕ → Option A) → List (List ℕ) → Option (List A)
+all_of read [] = Some []
+all_of read (text ∷ texts) = do
+  x ← read text
+  xs ← all_of read texts
+  Some (x ∷ xs)
+
+-- one or more keys with `,` between them
+unfoldable pub keys_word : List ℕ → Option (List Key)
+keys_word word = all_of key_text (split (is 44) word)
+
+-- what stands behind the letter of a field
+abbrev pub behind : ℕ → List ℕ → Option (List ℕ)
+behind letter [] = None
+behind letter (byte ∷ text) = if byte == letter then Some text else None
+
+-- `T` and tags
+unfoldable pub tags_word : List ℕ → Option (List Pair)
+tags_word word = do
+  text ← behind 84 word
+  ok_of (tags_text text)
+
+-- a reference with a location has an `x` before it, and one without has none
+abbrev pub has_location : List ℕ → Bool
+has_location text = list_any (λ byte. byte == 120) text
+
+-- `N` and references without locations
+unfoldable pub refs_word : List ℕ → Option (List ℤ)
+refs_word word = do
+  text ← behind 78 word
+  if has_location text then None else ok_of (refs_text text)
+
+-- `M` and members
+unfoldable pub members_word : List ℕ → Option (List Member)
+members_word word = do
+  text ← behind 77 word
+  ok_of (members_text text)
+
+-- `x` and a longitude, `y` and a latitude
+unfoldable pub place_words : List ℕ → List ℕ → Option Coord
+place_words x y = do
+  lon_text ← behind 120 x
+  lat_text ← behind 121 y
+  lon ← coord_text lon_text
+  lat ← coord_text lat_text
+  place_at lon lat
+
+-- 1 to 7 digits of a number from 1 to 1,000,000
+unfoldable pub count_word : List ℕ → Option ℕ
+count_word word = do
+  n ← number_text 7 word
+  if nat_le 1 n && nat_le n 1000000 then Some n else None

@@ -1,0 +1,6 @@
+pub mod Answers
+pub mod Forms
+pub mod Items
+pub mod Order
+pub mod Reply
+pub mod Script

@@ -1,0 +1,41 @@
+-- The order of steps: groups are not nested, and nothing is undone or redone inside one.
+--
+-- For example `begin`, `print`, `end`, `undo 1` are in order, and `begin`, `undo 1`, `end` are not.
+use Rattle.std.specs.Prelude.{◌≡◌, ◌≤◌, Bool, true, false, List, [], ◌∷◌}
+use Rattle.tool_api.specs.Plain.{IsWellFormed}
+use Rattle.edit_script.specs.declared.line.ScriptLine.{ScriptLine}
+use Rattle.edit_script.specs.declared.line.ScriptLine.TheVariants.{Skipped, Asks}
+use Rattle.edit_script.specs.declared.step.Act.{Act}
+use Rattle.edit_script.specs.declared.step.Act.TheVariants.{Job, Begin, End, Undo, Redo}
+use Rattle.edit_script.specs.declared.step.Step.{Step}
+
+-- whether an act may stand where it does, inside a group or outside
+abbrev pub may_stand : (is_inside : Bool) → Act → Bool
+may_stand true Begin = false
+may_stand true (Undo n) = false
+may_stand true (Redo n) = false
+may_stand true act = true
+may_stand false End = false
+may_stand false act = true
+
+-- whether the next act stands inside a group
+abbrev pub inside_after : (is_inside : Bool) → Act → Bool
+inside_after is_inside Begin = true
+inside_after is_inside End = false
+inside_after is_inside act = is_inside
+
+-- A job names what it has to, and there is something to undo or redo.
+abbrev pub IsMeant : Act → Type 0
+IsMeant (Job job) = IsWellFormed job
+IsMeant (Undo n) = 1 ≤ n
+IsMeant (Redo n) = 1 ≤ n
+IsMeant act = Unit {0}
+
+abbrev pub IsMeantLine : ScriptLine → Type 0
+IsMeantLine Skipped = Unit {0}
+IsMeantLine (Asks act) = IsMeant act
+
+-- Each act is meant and may stand where it does; the first stands inside a group or outside.
+abbrev pub IsOrderly : (is_inside : Bool) → List Step → Type 0
+IsOrderly is_inside [] = Unit {0}
+IsOrderly is_inside (step ∷ steps) = IsMeant step.act × (may_stand is_inside step.act ≡ true) × IsOrderly (inside_after is_inside step.act) steps

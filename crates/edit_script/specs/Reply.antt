@@ -1,0 +1,80 @@
+-- The reply line of a step.
+--
+-- For example `7 ok w-1,w-2`, `8 refused 5 n1 w5` and `9 skipped`, each with its LF.
+use Rattle.std.specs.Prelude.{ℕ, List, [], ◌∷◌, ◌++◌, codes, decimal}
+use Rattle.osm_base.specs.Number.{key_written}
+use Rattle.osm_base.specs.declared.key.Key.{Key}
+use Rattle.opl_text.specs.Text.{escaped}
+use Rattle.opl_line.specs.Fault as line_fault
+use Rattle.opl_line.specs.Written.{listed}
+use Rattle.opl_file.specs.declared.fault.FileFault.{FileFault}
+use Rattle.opl_file.specs.declared.fault.FileFault.TheVariants.{Line, Twice, LineTooLong, FileTooLong}
+use Rattle.tool_api.specs.Refusals as refusals
+use Rattle.tool_api.specs.declared.refusal.Refusal.{Refusal}
+use Rattle.tool_api.specs.declared.refusal.Refusal.TheVariants.{Absent, IncompleteObject, DeletedObject, InConflict, InUse, WrongKind, Unfit, OutOfRange, NamedTwice, NotInWay, NothingToSplit, NotJoined, TagClash, MemberClash, TableFull, NotBuilt}
+use Rattle.edit_script.specs.declared.reply.StepRefusal.{StepRefusal}
+use Rattle.edit_script.specs.declared.reply.StepRefusal.TheVariants.{Tool, NoFile, BadFile, NothingToUndo, NothingToRedo}
+use Rattle.edit_script.specs.declared.reply.StepReply.{StepReply}
+use Rattle.edit_script.specs.declared.reply.StepReply.TheVariants.{Done, Refused, Skipped}
+
+-- The number by which a refusal is told. It never changes.
+abbrev pub number_of : StepRefusal → ℕ
+number_of (Tool refusal) = refusals.number_of refusal
+number_of NoFile = 19
+number_of (BadFile fault) = 20
+number_of NothingToUndo = 21
+number_of NothingToRedo = 22
+
+-- a key behind a space
+abbrev pub key_behind : Key → List ℕ
+key_behind key = 32 ∷ key_written key
+
+-- what the refusal of a job carries: the objects, or the tag's key
+abbrev pub job_carried : Refusal → List ℕ
+job_carried (Absent key) = key_behind key
+job_carried (IncompleteObject key) = key_behind key
+job_carried (DeletedObject key) = key_behind key
+job_carried (InConflict key) = key_behind key
+job_carried (InUse key user) = key_behind key ++ key_behind user
+job_carried (WrongKind key) = key_behind key
+job_carried (Unfit key) = key_behind key
+job_carried (OutOfRange key) = key_behind key
+job_carried (NamedTwice key) = key_behind key
+job_carried (NotInWay key) = key_behind key
+job_carried (NothingToSplit key) = key_behind key
+job_carried (NotJoined key) = key_behind key
+job_carried (TagClash text) = 32 ∷ escaped text
+job_carried (MemberClash key) = key_behind key
+job_carried TableFull = []
+job_carried (NotBuilt key) = key_behind key
+
+abbrev pub fault_text : FileFault → List ℕ
+fault_text (Line line fault) = codes " line " ++ (decimal line ++ (codes " fault " ++ decimal (line_fault.number_of fault)))
+fault_text (Twice line) = codes " twice " ++ decimal line
+fault_text (LineTooLong line) = codes " longline " ++ decimal line
+fault_text FileTooLong = codes " toolong"
+
+-- what a refusal carries
+abbrev pub carried : StepRefusal → List ℕ
+carried (Tool refusal) = job_carried refusal
+carried NoFile = []
+carried (BadFile fault) = fault_text fault
+carried NothingToUndo = []
+carried NothingToRedo = []
+
+abbrev pub refusal_text : StepRefusal → List ℕ
+refusal_text why = codes " refused " ++ (decimal (number_of why) ++ carried why)
+
+-- the keys that were made, if any
+abbrev pub made_text : List Key → List ℕ
+made_text [] = []
+made_text (key ∷ keys) = 32 ∷ listed key_written (key ∷ keys)
+
+abbrev pub reply_text : StepReply → List ℕ
+reply_text (Done made) = codes " ok" ++ made_text made
+reply_text (Refused why) = refusal_text why
+reply_text Skipped = codes " skipped"
+
+-- The reply line of the step in that line of the script.
+abbrev pub reply_line : ℕ → StepReply → List ℕ
+reply_line line reply = decimal line ++ (reply_text reply ++ codes "\n")

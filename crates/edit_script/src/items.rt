@@ -1,0 +1,140 @@
+//! The words of a line, and what each of them spells.
+ghost use Rattle.std.specs.Prelude.{◌≡◌, ◌∷◌, ◌<◌, ◌≤◌, [], length, MatchOption, IfOk};
+ghost use Rattle.opl_line.specs.Line.{is_blank};
+ghost use Rattle.osm_base.specs.Number.{key_text};
+ghost use Rattle.osm_base.specs.Coord.{coord_text};
+ghost use Rattle.edit_script.specs.Answers.{Gives};
+ghost use Rattle.edit_script.specs.Items.{words_of, without_blanks, has_location, keys_word, tags_word, refs_word, members_word, place_words, count_word};
+
+use crate::fault::Unread;
+use opl_line::{cut, is_blank, read_members, read_refs, read_tags};
+use osm_base::{
+    Coord, Key, Keys, Members, Pool, Refs, Tags, coord_of, read_coord, read_digits, read_key,
+};
+
+/// The first word of the bytes, and what stands behind it.
+pub fn next_word(bytes: &[u8]) -> Option<(&[u8], &[u8])>
+    ensures { MatchOption result (words_of bytes.now ≡ []) (λ found. words_of bytes.now ≡ found.0.now ∷ words_of found.1.now) }
+{
+    let rest = without_blanks(bytes);
+    if rest.is_empty() {
+        return None;
+    }
+    let (word, after) = cut(rest, b' ', b'\t');
+    match after {
+        None => Some((word, &[])),
+        Some(behind) => Some((word, behind)),
+    }
+}
+
+/// What stands behind the blanks at the front.
+fn without_blanks(bytes: &[u8]) -> &[u8]
+    ensures { result.now ≡ without_blanks bytes.now }
+{
+    let mut rest = bytes;
+    while !rest.is_empty() && is_blank(rest[0]) {
+        rest = rest.split_at(1).1;
+    }
+    rest
+}
+
+pub fn key_word(word: &[u8]) -> Result<Key, Unread>
+    ensures { Gives result (key_text word.now) }
+{
+    read_key(word).ok_or(Unread::Outside)
+}
+
+/// One or more keys with commas between them.
+#[tactic(auto, unfolding(crate::specs::Items::keys_word))]
+pub fn keys_word(pool: &Pool, word: &[u8]) -> Result<Keys, Unread>
+    ensures { Gives result (keys_word word.now) }
+{
+    let mut keys = Keys::new(pool.allocator());
+    let mut rest = word;
+    loop {
+        let (text, after) = cut(rest, b',', b',');
+        keys.push(key_word(text)?)?;
+        match after {
+            None => return Ok(keys),
+            Some(next) => rest = next,
+        }
+    }
+}
+
+/// `T` and tags.
+#[tactic(auto, unfolding(crate::specs::Items::tags_word))]
+pub fn tags_word(pool: &mut Pool, word: &[u8]) -> Result<Tags, Unread>
+    ensures { Gives result (tags_word word.now) }
+{
+    let [b'T', text @ ..] = word else {
+        return Err(Unread::Outside);
+    };
+    Ok(read_tags(pool, text)?)
+}
+
+/// Whether a reference has a location: only that has an `x`.
+fn has_location(text: &[u8]) -> bool
+    ensures { result ≡ has_location text.now }
+{
+    text.iter().any(|byte| *byte == b'x')
+}
+
+/// `N` and references without locations.
+#[tactic(auto, unfolding(crate::specs::Items::refs_word))]
+pub fn refs_word(pool: &mut Pool, word: &[u8]) -> Result<Refs, Unread>
+    ensures { Gives result (refs_word word.now) }
+{
+    let [b'N', text @ ..] = word else {
+        return Err(Unread::Outside);
+    };
+    if has_location(text) {
+        return Err(Unread::Outside);
+    }
+    Ok(read_refs(pool, text)?)
+}
+
+/// `M` and members.
+#[tactic(auto, unfolding(crate::specs::Items::members_word))]
+pub fn members_word(pool: &mut Pool, word: &[u8]) -> Result<Members, Unread>
+    ensures { Gives result (members_word word.now) }
+{
+    let [b'M', text @ ..] = word else {
+        return Err(Unread::Outside);
+    };
+    Ok(read_members(pool, text)?)
+}
+
+/// A distance in units of 10^-7 degree.
+pub fn coord_word(word: &[u8]) -> Result<i64, Unread>
+    ensures { Gives result (coord_text word.now) }
+{
+    read_coord(word).ok_or(Unread::Outside)
+}
+
+/// `x` and a longitude, `y` and a latitude.
+#[tactic(auto, unfolding(crate::specs::Items::place_words))]
+pub fn place_words(x: &[u8], y: &[u8]) -> Result<Coord, Unread>
+    ensures { Gives result (place_words x.now y.now) }
+{
+    let [b'x', lon @ ..] = x else {
+        return Err(Unread::Outside);
+    };
+    let [b'y', lat @ ..] = y else {
+        return Err(Unread::Outside);
+    };
+    let lon = coord_word(lon)?;
+    let lat = coord_word(lat)?;
+    coord_of(lon, lat).ok_or(Unread::Outside)
+}
+
+/// How often something is undone or redone.
+#[tactic(auto, unfolding(crate::specs::Items::count_word))]
+pub fn count_word(word: &[u8]) -> Result<u64, Unread>
+    ensures value { Gives result (count_word word.now) }
+    ensures some { IfOk result (λ n. 1 ≤ n) }
+{
+    match read_digits(word, 7) {
+        Some(n) if 1 <= n && n <= 1_000_000 => Ok(n),
+        _ => Err(Unread::Outside),
+    }
+}

@@ -1,0 +1,24 @@
+//! Scripts, read into steps, and the replies of steps, written as lines.
+//!
+//! `read_script` gives a script's steps or its first line outside the grammar, exactly as
+//! `specs/Script` says, and promises that the steps are in order: no group in a group, nothing
+//! undone inside one, each job well formed. `write_reply` appends the one text of a reply
+//! (`specs/Reply`). It stands on `opl_line` for tags, references and members, on `opl_file` for
+//! the cut into lines, and on `tool_api` for jobs and their refusals.
+//!
+//! A new line wants a definition in `specs/Forms` and a function of that name in `forms.rt`, both
+//! named by the group of lines with as many words, and an example in `proofs/Examples`.
+#![tactic(auto)]
+
+mod fault;
+mod forms;
+mod items;
+mod line;
+mod reply;
+mod script;
+mod step;
+
+pub use fault::ScriptFault;
+pub use reply::{StepRefusal, StepReply, write_reply};
+pub use script::read_script;
+pub use step::{Act, Step};

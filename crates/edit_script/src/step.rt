@@ -1,0 +1,69 @@
+//! The steps of a script, and where they may stand.
+ghost use Rattle.std.specs.Prelude.{◌≡◌};
+ghost use Rattle.edit_script.specs.Order.{may_stand, inside_after};
+
+use osm_base::Text;
+use tool_api::Job;
+
+/// What a step does.
+#[derive(Drop)]
+pub enum Act {
+    /// Runs a job.
+    Job(Job),
+    /// Takes the objects of a file into the table.
+    Download {
+        /// The name of the file.
+        name: Text,
+    },
+    /// Begins a group, whose steps are undone and redone as one.
+    Begin,
+    /// Ends the group.
+    End,
+    /// Takes back what was done last, as often as told: 1 to 1,000,000 times.
+    Undo {
+        /// How often.
+        n: u64,
+    },
+    /// Does again what was taken back last, as often as told: 1 to 1,000,000 times.
+    Redo {
+        /// How often.
+        n: u64,
+    },
+    /// Writes the objects of the table.
+    Print,
+    /// Writes how many objects the table has.
+    Count,
+}
+
+/// A line of a script that does something.
+#[derive(Drop)]
+pub struct Step {
+    /// The number of the line, from 1.
+    pub line: u64,
+    /// What it does.
+    pub act: Act,
+}
+
+impl Act {
+    /// Whether the act may stand there, inside a group or outside.
+    pub fn may_stand(&self, is_inside: bool) -> bool
+        ensures { result ≡ may_stand is_inside self.now }
+    {
+        match self {
+            Act::Begin | Act::Undo { .. } | Act::Redo { .. } => !is_inside,
+            Act::End => is_inside,
+            _ => true,
+        }
+    }
+
+    /// Whether the next act stands inside a group.
+    pub fn inside_after(&self, is_inside: bool) -> bool
+        ensures { result ≡ inside_after is_inside self.now }
+    {
+        match self {
+            Act::Begin => true,
+            Act::End => false,
+            _ => is_inside,
+        }
+    }
+}
