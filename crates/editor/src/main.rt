@@ -1,15 +1,25 @@
 //! An editor of OpenStreetMap data without screen or network: runs a script over files of the working folder.
 //!
-//! `main` alone speaks with the world: it hands the words, the files and standard output to
+//! `main` alone speaks with the world: it hands the words, one tool for each verb, the files and standard output to
 //! `run_session`, where all that is proved stands, tells the status on the error stream and ends
 //! with its number.
 #![tactic(auto)]
 
+ghost use Rattle.std.specs.Prelude.{◌≡◌, ◌↔◌, None, IfOk, map, string_bytes};
+ghost use Rattle.edit_session.specs.Session.{script_name};
+
+use edit_history::{add_box, no_boxes};
 use edit_session::{Status, run_session};
+use merge_tool::MergeTool;
 use osm_outside::{HostShelf, HostSink};
+use std::alloc::AllocError;
 use std::env;
 use std::io::{self, ErrorKind};
 use std::process::ExitCode;
+use tools_basic::{AddTool, ChangeTool, MoveTool, TagTool};
+use tools_delete::{DeleteTool, EraseTool, PurgeTool};
+use way_combine::{CombineTool, ReverseTool};
+use way_split::SplitTool;
 
 fn main(rt: HostRuntime) -> ExitCode {
     let status = run(&rt);
@@ -19,7 +29,7 @@ fn main(rt: HostRuntime) -> ExitCode {
 
 fn run(rt: &HostRuntime) -> Status {
     match words(rt) {
-        Ok(words) => run_with(rt, &words),
+        Ok(words) => run_with(rt, &words).unwrap_or(Status::Memory),
         Err(error) => match error.kind() {
             ErrorKind::OutOfMemory => Status::Memory,
             _ => Status::BadWords,
@@ -31,13 +41,26 @@ fn words(rt: &HostRuntime) -> io::Result<Vec<String>> {
     Ok(env::args(rt)?.collect(rt.alloc())?)
 }
 
-fn run_with(rt: &HostRuntime, words: &[String]) -> Status {
-    let Ok(files) = rt.clone() else {
-        return Status::Memory;
-    };
-    let mut shelf = HostShelf::new(files);
+// One tool for each verb, the files of the folder, and standard output.
+fn run_with(rt: &HostRuntime, words: &[String]) -> Result<Status, AllocError>
+    ensures words { IfOk result (λ status. (status ≡ Status.BadWords) ↔ (script_name (map string_bytes words.now) ≡ None)) }
+{
+    let alloc = rt.alloc();
+    let mut tools = no_boxes(alloc);
+    add_box(&mut tools, Box::new(alloc, AddTool::new(alloc))?)?;
+    add_box(&mut tools, Box::new(alloc, TagTool::new(alloc))?)?;
+    add_box(&mut tools, Box::new(alloc, MoveTool::new(alloc))?)?;
+    add_box(&mut tools, Box::new(alloc, ChangeTool::new(alloc))?)?;
+    add_box(&mut tools, Box::new(alloc, DeleteTool::new(alloc))?)?;
+    add_box(&mut tools, Box::new(alloc, EraseTool::new(alloc))?)?;
+    add_box(&mut tools, Box::new(alloc, PurgeTool::new(alloc))?)?;
+    add_box(&mut tools, Box::new(alloc, SplitTool::new(alloc))?)?;
+    add_box(&mut tools, Box::new(alloc, CombineTool::new(alloc))?)?;
+    add_box(&mut tools, Box::new(alloc, ReverseTool::new(alloc))?)?;
+    add_box(&mut tools, Box::new(alloc, MergeTool::new(alloc))?)?;
+    let mut shelf = HostShelf::new(rt.clone()?);
     let mut out = HostSink::new(io::writer(rt));
-    run_session(rt.alloc(), words, &mut shelf, &mut out)
+    Ok(run_session(alloc, words, tools, &mut shelf, &mut out))
 }
 
 fn tell(rt: &HostRuntime, status: Status) -> io::Result<()> {

@@ -1,6 +1,6 @@
 //! Reads the cases of a bundle.
 
-use crate::case::{Case, CaseFile};
+use crate::case::{Case, CaseFile, Tools};
 use anyhow::{Context, Result, bail};
 use std::alloc::Global;
 
@@ -22,6 +22,7 @@ fn direct(alloc: Global, cases: &mut Vec<Case>, directive: &str) -> Result<()> {
         cases.push(Case {
             name: String::from_str(alloc, value)?,
             words: Vec::new(alloc),
+            tools: Tools::All,
             files: Vec::new(alloc),
             shelf_calls: 0,
             sink_calls: 0,
@@ -36,6 +37,8 @@ fn direct(alloc: Global, cases: &mut Vec<Case>, directive: &str) -> Result<()> {
             bytes: Vec::new(alloc),
         })?,
         "fill" => fill(case, value.parse::<u64>()?)?,
+        "no-tools" => case.tools = Tools::None,
+        "poor" => case.tools = Tools::Poor,
         "shelf" => case.shelf_calls = value.parse::<u64>()?,
         "sink" => case.sink_calls = value.parse::<u64>()?,
         other => bail!("no directive {other}"),

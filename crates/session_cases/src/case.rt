@@ -10,6 +10,17 @@ pub struct CaseFile {
     pub bytes: Vec<u8>,
 }
 
+/// The tools that a session is run with.
+#[derive(Clone, Copy, Debug, PartialEq, Eq)]
+pub enum Tools {
+    /// One for each verb.
+    All,
+    /// None.
+    None,
+    /// Those for adding and tagging, and before them one for tagging that never finds memory.
+    Poor,
+}
+
 /// A session to run.
 #[derive(Debug, Drop)]
 pub struct Case {
@@ -18,6 +29,9 @@ pub struct Case {
 
     /// The words that it is run with; none for the usual ones.
     pub words: Vec<String>,
+
+    /// The tools that it is run with.
+    pub tools: Tools,
 
     /// The files of its shelf.
     pub files: Vec<CaseFile>,

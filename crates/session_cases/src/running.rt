@@ -4,11 +4,18 @@ ghost use Rattle.std.specs.Str.{bytes_eq};
 ghost use Rattle.osm_outside.specs.Outside.{held};
 ghost use Rattle.session_cases.specs.Named.{is_named, LacksUnnamed};
 
-use crate::case::{Case, CaseFile};
+use crate::case::{Case, CaseFile, Tools};
+use crate::poor::PoorTool;
 use anyhow::Result;
+use edit_history::{add_box, no_boxes};
 use edit_session::{Status, run_session};
+use merge_tool::MergeTool;
 use osm_outside::{Calls, Files, MemoryShelf, MemorySink};
 use std::alloc::{AllocError, Global};
+use tools_basic::{AddTool, ChangeTool, MoveTool, TagTool};
+use tools_delete::{DeleteTool, EraseTool, PurgeTool};
+use way_combine::{CombineTool, ReverseTool};
+use way_split::SplitTool;
 
 /// Runs the case, and again for each call that is to fail.
 pub fn run_case(rt: &HostRuntime, case: &Case) -> Result<()> {
@@ -43,12 +50,61 @@ fn run_words(
     sink: &mut MemorySink,
 ) -> Result<Status, AllocError> {
     if !case.words.is_empty() {
-        return Ok(run_session(alloc, &case.words, shelf, sink));
+        return run_with(alloc, case.tools, &case.words, shelf, sink);
     }
     let mut words = Vec::new(alloc);
     words.push(String::from_str(alloc, "editor")?)?;
     words.push(String::from_str(alloc, "script")?)?;
-    Ok(run_session(alloc, &words, shelf, sink))
+    run_with(alloc, case.tools, &words, shelf, sink)
+}
+
+fn run_with(
+    alloc: Global,
+    tools: Tools,
+    words: &[String],
+    shelf: &mut MemoryShelf,
+    sink: &mut MemorySink,
+) -> Result<Status, AllocError> {
+    match tools {
+        Tools::All => run_with_all(alloc, words, shelf, sink),
+        Tools::None => Ok(run_session(alloc, words, no_boxes(alloc), shelf, sink)),
+        Tools::Poor => run_with_poor(alloc, words, shelf, sink),
+    }
+}
+
+fn run_with_all(
+    alloc: Global,
+    words: &[String],
+    shelf: &mut MemoryShelf,
+    sink: &mut MemorySink,
+) -> Result<Status, AllocError> {
+    let mut tools = no_boxes(alloc);
+    add_box(&mut tools, Box::new(alloc, AddTool::new(alloc))?)?;
+    add_box(&mut tools, Box::new(alloc, TagTool::new(alloc))?)?;
+    add_box(&mut tools, Box::new(alloc, MoveTool::new(alloc))?)?;
+    add_box(&mut tools, Box::new(alloc, ChangeTool::new(alloc))?)?;
+    add_box(&mut tools, Box::new(alloc, DeleteTool::new(alloc))?)?;
+    add_box(&mut tools, Box::new(alloc, EraseTool::new(alloc))?)?;
+    add_box(&mut tools, Box::new(alloc, PurgeTool::new(alloc))?)?;
+    add_box(&mut tools, Box::new(alloc, SplitTool::new(alloc))?)?;
+    add_box(&mut tools, Box::new(alloc, CombineTool::new(alloc))?)?;
+    add_box(&mut tools, Box::new(alloc, ReverseTool::new(alloc))?)?;
+    add_box(&mut tools, Box::new(alloc, MergeTool::new(alloc))?)?;
+    Ok(run_session(alloc, words, tools, shelf, sink))
+}
+
+// With two tools for tagging, of which the first never finds memory.
+fn run_with_poor(
+    alloc: Global,
+    words: &[String],
+    shelf: &mut MemoryShelf,
+    sink: &mut MemorySink,
+) -> Result<Status, AllocError> {
+    let mut tools = no_boxes(alloc);
+    add_box(&mut tools, Box::new(alloc, PoorTool::new(alloc))?)?;
+    add_box(&mut tools, Box::new(alloc, TagTool::new(alloc))?)?;
+    add_box(&mut tools, Box::new(alloc, AddTool::new(alloc))?)?;
+    Ok(run_session(alloc, words, tools, shelf, sink))
 }
 
 fn calls(alloc: Global, number: u64) -> Result<Calls, AllocError> {
