@@ -11,14 +11,14 @@ ghost use Rattle.dataset.specs.Draft.{drafted};
 use crate::dataset::DataSet;
 use indexmap::IndexMap;
 use osm_base::Key;
-use osm_table::Entry;
+use osm_table::{Entry, SharedEntry};
 use std::alloc::{AllocError, Global};
 use std::marker::Model;
 
 /// New entries by key, where none takes the key away, and the number of the next new object.
 #[derive(Drop)]
 pub struct Draft {
-    puts: IndexMap<Key, Option<Entry>>,
+    puts: IndexMap<Key, Option<SharedEntry>>,
     next: u64,
 }
 
@@ -54,6 +54,7 @@ impl Draft {
         ensures ok { OnOk result (self.new ≡ record { puts = map.insert self.old.puts key after; next = self.old.next }) }
         ensures err { OnErr result (self.new ≡ self.old) }
     {
+        let after = share(*self.puts.allocator(), after)?;
         self.puts.insert(key, after)?;
         Ok(())
     }
@@ -73,7 +74,7 @@ impl Draft {
     }
 
     /// What it says of a key: nothing, or a new entry, or that the key goes.
-    pub fn get(&self, key: Key) -> Option<&Option<Entry>>
+    pub fn get(&self, key: Key) -> Option<&Option<SharedEntry>>
         ensures { option_copied result ≡ map.get self.now.puts key }
     {
         self.puts.get(&key)
@@ -84,7 +85,7 @@ impl Draft {
         ensures { option_copied result ≡ entry_of (drafted self.now ds.now) key }
     {
         match self.puts.get(&key) {
-            Some(after) => after.as_ref(),
+            Some(after) => entry_in(after),
             None => ds.entry(key),
         }
     }
@@ -103,7 +104,25 @@ impl Draft {
     }
 }
 
-fn keys(puts: &IndexMap<Key, Option<Entry>>) -> Result<Vec<Key>, AllocError>
+fn share(alloc: Global, entry: Option<Entry>) -> Result<Option<SharedEntry>, AllocError>
+    ensures { IfOk result (λ shared. shared ≡ entry) }
+{
+    match entry {
+        None => Ok(None),
+        Some(entry) => Ok(Some(SharedEntry::new(alloc, entry)?)),
+    }
+}
+
+fn entry_in(shared: &Option<SharedEntry>) -> Option<&Entry>
+    ensures { option_copied result ≡ shared.now }
+{
+    match shared {
+        None => None,
+        Some(entry) => Some(entry.as_entry()),
+    }
+}
+
+fn keys(puts: &IndexMap<Key, Option<SharedEntry>>) -> Result<Vec<Key>, AllocError>
     ensures listed { IfOk result (λ keys. keys.items ≡ keys_of puts.now.entries) }
     ensures unique { IfOk result (λ _. IsDistinct eq (keys_of puts.now.entries)) }
 {

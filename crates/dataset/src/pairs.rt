@@ -7,7 +7,7 @@ ghost use Rattle.dataset.specs.Writes.{side};
 
 use crate::edit::Edit;
 use osm_base::{Content, Key, Kind, Member};
-use osm_table::Entry;
+use osm_table::SharedEntry;
 use ref_index::Pair;
 use std::alloc::{AllocError, Global};
 
@@ -23,7 +23,7 @@ pub fn pairs(alloc: Global, edits: &[Edit], forth: bool) -> Result<Vec<Pair>, Al
 }
 
 /// One side of an edit: what comes with `forth`, else what was.
-pub fn side(edit: &Edit, forth: bool) -> &Option<Entry>
+pub fn side(edit: &Edit, forth: bool) -> &Option<SharedEntry>
     ensures { result.now ≡ side forth edit.now }
 {
     if forth { &edit.after } else { &edit.before }
@@ -45,11 +45,11 @@ fn keeps_refs(edit: &Edit) -> bool
 }
 
 /// The content that an entry has, if it lives.
-fn mine_at(entry: &Option<Entry>) -> Option<&Content>
+fn mine_at(entry: &Option<SharedEntry>) -> Option<&Content>
     ensures { option_copied result ≡ mine_at entry.now }
 {
     match entry {
-        Some(entry) => entry.mine(),
+        Some(entry) => entry.as_entry().mine(),
         None => None,
     }
 }
@@ -74,20 +74,16 @@ fn same_lists(a: Option<&Content>, b: Option<&Content>) -> bool
     }
 }
 
-fn push_pairs(pairs: &mut Vec<Pair>, user: Key, entry: &Option<Entry>) -> Result<(), AllocError>
+fn push_pairs(
+    pairs: &mut Vec<Pair>,
+    user: Key,
+    entry: &Option<SharedEntry>,
+) -> Result<(), AllocError>
     ensures { OnOk result (pairs.new.items ≡ pairs.old.items ++ pairs_of user entry.now) }
 {
-    match entry {
-        Some(
-            Entry::Known {
-                mine: Some(content),
-                ..
-            },
-        ) => {
-            push_content(pairs, user, content)?;
-            Ok(())
-        }
-        _ => Ok(()),
+    match mine_at(entry) {
+        Some(content) => push_content(pairs, user, content),
+        None => Ok(()),
     }
 }
 

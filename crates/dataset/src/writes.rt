@@ -9,18 +9,19 @@ ghost use Rattle.dataset.specs.Writes.{side, write_of, written, noted, unnoted, 
 use crate::edit::Edit;
 use crate::pairs::side;
 use osm_base::Key;
-use osm_table::{Entry, Table};
+use osm_table::{Entry, SharedEntry, Table};
 use std::alloc::{AllocError, Global};
 
 /// What a key gets, and whether the key is new.
 #[derive(Drop)]
 pub struct Write {
     pub key: Key,
-    pub entry: Option<Entry>,
+    pub entry: Option<SharedEntry>,
     pub fresh: bool,
 }
 
-pub fn copy_entry(entry: &Option<Entry>) -> Result<Option<Entry>, AllocError>
+/// The same entry, shared.
+pub fn copy_entry(entry: &Option<SharedEntry>) -> Result<Option<SharedEntry>, AllocError>
     ensures { IfOk result (λ copy. copy ≡ entry.now) }
 {
     match entry {
@@ -68,12 +69,13 @@ pub fn drop_keys(table: &mut Table, writes: &[Write])
     }
 }
 
-fn put_key(table: &mut Table, write: &Write) -> Result<(), AllocError>
+fn put_key(table: &mut Table, write: &Write, incomplete: &SharedEntry) -> Result<(), AllocError>
+    requires { incomplete.now ≡ Incomplete }
     ensures ok { OnOk result (table.new ≡ cond write.now.fresh (with_entry table.old write.now.key Incomplete) table.old) }
     ensures err { OnErr result (table.new ≡ table.old) }
 {
     if write.fresh {
-        table.set(write.key, Entry::Incomplete)?;
+        table.set(write.key, incomplete.copy()?)?;
     }
     Ok(())
 }
@@ -85,8 +87,9 @@ pub fn put_keys(table: &mut Table, writes: &[Write]) -> Result<(), AllocError>
     ensures back { unnoted writes.now table.new ≡ table.old }
     ensures err { OnErr result (table.new ≡ table.old) }
 {
+    let incomplete = SharedEntry::new(table.alloc(), Entry::Incomplete)?;
     for i in 0..writes.len() {
-        if let Err(e) = put_key(table, &writes[i]) {
+        if let Err(e) = put_key(table, &writes[i], &incomplete) {
             drop_keys(table, writes);
             return Err(e);
         }
@@ -95,7 +98,7 @@ pub fn put_keys(table: &mut Table, writes: &[Write]) -> Result<(), AllocError>
 }
 
 /// Sets an entry whose key is there, or removes it.
-fn place(table: &mut Table, key: Key, entry: Option<Entry>)
+fn place(table: &mut Table, key: Key, entry: Option<SharedEntry>)
     requires { IsSome entry → IsSome (entry_of table.old key) }
     ensures { table.new ≡ record { entries = placed table.old.entries key entry; next = table.old.next } }
 {

@@ -11,11 +11,13 @@
 #![tactic(auto)]
 
 mod entry;
+mod shared;
 mod table;
 mod told;
 mod told_map;
 
 pub use entry::{Base, Conflict, Entry, Why};
+pub use shared::SharedEntry;
 pub use table::Table;
 pub use told::Told;
 pub use told_map::ToldMap;

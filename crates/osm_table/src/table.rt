@@ -8,6 +8,7 @@ ghost use Rattle.osm_base.specs.KeyEq.{eq};
 ghost use Rattle.osm_table.specs.Table.{entry_of, with_entry, without_entry, keys_by_rank};
 
 use crate::entry::Entry;
+use crate::shared::SharedEntry;
 use indexmap::IndexMap;
 use osm_base::{Key, Keys};
 use std::alloc::{AllocError, Global};
@@ -16,7 +17,7 @@ use std::marker::Model;
 /// The entries of all objects, and the number of the next new one: its id is minus that number.
 #[derive(Drop)]
 pub struct Table {
-    entries: IndexMap<Key, Entry>,
+    entries: IndexMap<Key, SharedEntry>,
     next: u64,
 }
 
@@ -66,6 +67,16 @@ impl Table {
     pub fn get(&self, key: Key) -> Option<&Entry>
         ensures { option_copied result ≡ entry_of self.now key }
     {
+        match self.get_shared(key) {
+            None => None,
+            Some(entry) => Some(entry.as_entry()),
+        }
+    }
+
+    /// The entry of a key, to stand elsewhere too.
+    pub fn get_shared(&self, key: Key) -> Option<&SharedEntry>
+        ensures { option_copied result ≡ entry_of self.now key }
+    {
         self.entries.get(&key)
     }
 
@@ -73,7 +84,7 @@ impl Table {
     ///
     /// # Errors
     /// Answers want of memory, and then nothing has changed. It takes none where the key is there.
-    pub fn set(&mut self, key: Key, entry: Entry) -> Result<(), AllocError>
+    pub fn set(&mut self, key: Key, entry: SharedEntry) -> Result<(), AllocError>
         ensures ok { OnOk result (self.new ≡ with_entry self.old key entry) }
         ensures err { OnErr result (self.new ≡ self.old) }
         ensures present { IsSome (entry_of self.old key) → IsOk result }
@@ -83,7 +94,7 @@ impl Table {
     }
 
     /// Takes out the entry of a key.
-    pub fn remove(&mut self, key: Key) -> Option<Entry>
+    pub fn remove(&mut self, key: Key) -> Option<SharedEntry>
         ensures value { result ≡ entry_of self.old key }
         ensures removed { self.new ≡ without_entry self.old key }
     {
@@ -110,7 +121,7 @@ impl Table {
     }
 }
 
-fn keys(entries: &IndexMap<Key, Entry>) -> Result<Vec<Key>, AllocError>
+fn keys(entries: &IndexMap<Key, SharedEntry>) -> Result<Vec<Key>, AllocError>
     ensures listed { IfOk result (λ keys. keys.items ≡ keys_of entries.now.entries) }
     ensures unique { IfOk result (λ _. IsDistinct eq (keys_of entries.now.entries)) }
 {
@@ -153,7 +164,7 @@ mod tests {
         };
         let mut table = Table::new(rt.alloc());
         for key in [way, new, far, near, far] {
-            table.set(key, Entry::Incomplete)?;
+            table.set(key, SharedEntry::new(rt.alloc(), Entry::Incomplete)?)?;
         }
         assert_eq!(rt; table.len(), 4);
         assert_eq!(rt;
