@@ -1,7 +1,7 @@
 -- Bytes that a writer appended to, one write after the other.
 use Rattle.std.proofs.Common.{◌≡◌, ℕ, ◌≤◌, List, [], ◌++◌, length, take, sym, ◌∙◌, ap, arith, length-append, Result, Ok, Err, OnErr}
 use Rattle.std.proofs.Math.Seq.{take-append_seam}
-use Rattle.std.proofs.lemmas.List.{append-nil, take-take}
+use Rattle.std.proofs.lemmas.List.{append-nil, take-take, length-take, take-append-le}
 use Rattle.osm_base.specs.Extends.{Extends}
 
 -- nothing was written
@@ -17,6 +17,12 @@ pub extends_more : (old mid new more : List ℕ) → mid ≡ old ++ more → tak
 extends_more old mid new more e h =
     let longer : length old ≤ length mid = omega (arith, ap length e, length-append old more) in
     sym (take-take (length old) (length mid) new longer) ∙ ap (take (length old)) h ∙ extends_appended old mid more e
+
+-- something more was written
+pub extends_on : (old mid new more : List ℕ) → take (length old) mid ≡ old → new ≡ mid ++ more → take (length old) new ≡ old
+extends_on old mid new more h e =
+    let within : length old ≤ length mid = omega (arith, ap length h, length-take (length old) mid) in
+    ap (take (length old)) e ∙ take-append-le (length old) mid more within ∙ h
 
 pub ruleset extends_steps = (extends_itself, extends_appended, extends_more)
 

@@ -2,11 +2,11 @@
 use Rattle.std.proofs.Common.{◌≡◌, true, false, pos, negsuc, Some, None, List, [], ◌∷◌, refl}
 use Rattle.std.specs.Prelude.{codes}
 use Rattle.std.specs.Str.{chars}
-use Rattle.osm_base.specs.Tags.{Pair, are_tags, value_of, with_tag, without_tag, has_tag}
-use Rattle.osm_base.specs.Content.{refers, node, text_fits, fits}
+use Rattle.osm_base.specs.Tags.{Pair, are_tags, value_of, with_tag, without_tag}
+use Rattle.osm_base.specs.Content.{refers, node, fits}
 use Rattle.osm_base.specs.Same.{same_tags, same_content}
 use Rattle.osm_base.specs.declared.key.Kind.TheVariants as kind
-use Rattle.osm_base.specs.declared.content.Content.TheVariants.{Node, Way, Relation}
+use Rattle.osm_base.specs.declared.content.Content.TheVariants.{Way, Relation}
 
 -- a footpath, its keys in order
 abbrev path : List Pair

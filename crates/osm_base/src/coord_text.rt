@@ -118,25 +118,24 @@ fn write_size(size: u64, out: &mut Vec<u8>) -> Result<(), AllocError>
     let part = size % UNIT;
     if part != 0 {
         out.push(b'.')?;
-        write_places(7, part, out)?;
+        write_places(part, out)?;
     }
     Ok(())
 }
 
-// The digits after the point, from the first to the last that isn't 0.
-#[tactic(auto, using(crate::proofs::Places::places_steps, crate::proofs::ExtendLaws::extends_steps))]
-fn write_places(places: u32, part: u64, out: &mut Vec<u8>) -> Result<(), AllocError>
-    requires places { places ≤ 7 }
-    requires part { part < 10 ^ places }
-    ensures written { OnOk result (out.new.items ≡ out.old.items ++ places_of places part) }
+// The digits after the point, from the first to the last that isn't 0. Each step divides by one constant, which is
+// cheap: what is left moves up a place in place of the point moving down.
+#[tactic(auto, using(crate::proofs::ExtendLaws::extends_steps))]
+fn write_places(part: u64, out: &mut Vec<u8>) -> Result<(), AllocError>
+    requires { part < 10 ^ 7 }
+    ensures written { OnOk result (out.new.items ≡ out.old.items ++ places_of 7 part) }
     ensures kept { OnErr result (Extends out.old.items out.new.items) }
 {
-    if part == 0 {
-        return Ok(());
+    let mut left = part;
+    while left != 0 {
+        out.push(b'0' + (left * 10 / UNIT) as u8)?;
+        left = left * 10 % UNIT;
     }
-    let unit = 10u64.pow(places - 1);
-    out.push(b'0' + (part / unit) as u8)?;
-    write_places(places - 1, part % unit, out)?;
     Ok(())
 }
 

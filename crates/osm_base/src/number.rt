@@ -11,6 +11,7 @@ ghost use Rattle.std.specs.Char.{is_ascii_digit};
 ghost use Rattle.osm_base.specs.Number.{number_test, number_text};
 ghost use Rattle.osm_base.specs.Extends.{Extends};
 
+use itoa::Buffer;
 use std::alloc::AllocError;
 
 /// The number that a text of decimal digits spells, leading zeros allowed.
@@ -61,15 +62,12 @@ fn value_of(text: &[u8]) -> u64
 /// # Errors
 ///
 /// Where `out` can't grow; what stood there stays at its front.
-#[tactic(auto, using(crate::proofs::ExtendLaws::extends_steps))]
 pub fn write_digits(number: u64, out: &mut Vec<u8>) -> Result<(), AllocError>
     ensures written { OnOk result (out.new.items ≡ out.old.items ++ decimal number) }
     ensures kept { OnErr result (Extends out.old.items out.new.items) }
 {
-    if number >= 10 {
-        write_digits(number / 10, out)?;
-    }
-    out.push(b'0' + (number % 10) as u8)?;
+    let mut buffer = Buffer::new();
+    out.extend_from_slice(buffer.format(number).as_bytes())?;
     Ok(())
 }
 
