@@ -1,19 +1,17 @@
 //! The change that joins ways, as a draft.
-ghost use Rattle.std.specs.Prelude.{◌≡◌, ◌<◌, not, length, Some, IfOk, OnOk};
+ghost use Rattle.std.specs.Prelude.{◌≡◌, ◌<◌, not, length, Some, IfOk};
 ghost use Rattle.std.specs.List.{filter, find};
 ghost use Rattle.std.specs.Option.{unwrap_or};
 ghost use Rattle.osm_base.specs.Rank.{is_key};
 ghost use Rattle.dataset.specs.Draft.{drafted};
-ghost use Rattle.tool_api.specs.Changes.{changed, delete, deleted};
 ghost use Rattle.tool_api.specs.Combine.{combined, united, all_tags, relations_among, kept_way, is_positive};
 ghost use Rattle.tool_api.specs.Upkeep.{folded};
 
 use dataset::{DataSet, Draft};
 use osm_base::{Content, Key, Members, Refs, Tags, same_key};
-use osm_table::{Base, Entry};
 use relation_upkeep::fold_members;
 use std::alloc::{AllocError, Global};
-use tool_api::{EditContent, edit_all, edited_draft};
+use tool_api::{EditContent, delete_all, edit_all, edited_draft};
 
 /// What becomes of a relation: each run of the ways is the kept way.
 #[derive(Drop)]
@@ -72,44 +70,6 @@ impl EditContent for AsWay {
             refs: self.refs.copy()?,
         })
     }
-}
-
-/// What is left of an entry whose object is deleted.
-fn deleted(entry: Entry) -> Option<Entry>
-    ensures { result ≡ deleted entry }
-{
-    match entry {
-        Entry::Incomplete => Some(Entry::Incomplete),
-        Entry::Known {
-            base: Base::New,
-            ..
-        } => None,
-        Entry::Known { base, conflict, .. } => Some(Entry::Known {
-            base,
-            mine: None,
-            conflict,
-        }),
-    }
-}
-
-fn deleted_at(ds: &DataSet, key: Key) -> Result<Option<Entry>, AllocError>
-    ensures { IfOk result (λ after. after ≡ delete ds.now key) }
-{
-    match ds.entry(key) {
-        None => Ok(None),
-        Some(entry) => Ok(deleted(entry.copy()?)),
-    }
-}
-
-/// Deletes each of the keys.
-fn delete_all(ds: &DataSet, keys: &[Key], draft: &mut Draft) -> Result<(), AllocError>
-    ensures { OnOk result (drafted draft.new ds.now ≡ changed (drafted draft.old ds.now) (delete ds.now) keys.now) }
-{
-    for key in keys {
-        let after = deleted_at(ds, *key)?;
-        draft.put(*key, after)?;
-    }
-    Ok(())
 }
 
 fn other_ways(alloc: Global, ways: &[Key], kept: Key) -> Result<Vec<Key>, AllocError>

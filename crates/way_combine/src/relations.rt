@@ -1,31 +1,18 @@
 //! The relations that ways are members of.
 ghost use Rattle.std.specs.Prelude.{◌≡◌, Some, None, [], IfOk};
-ghost use Rattle.std.specs.List.{find, flat_map};
+ghost use Rattle.std.specs.List.{find};
 ghost use Rattle.std.specs.Option.{option_copied};
 ghost use Rattle.osm_base.specs.declared.content.Content.TheVariants.{Relation};
-ghost use Rattle.osm_table.specs.Table.{users};
 ghost use Rattle.tool_api.specs.Changes.{content_of};
 ghost use Rattle.tool_api.specs.Combine.{clashes, member_test, relations_among};
 ghost use Rattle.tool_api.specs.Tests.{first_of, target_test};
 ghost use Rattle.tool_api.specs.declared.kinds.Kinds.TheVariants.{Ways};
 
-use crate::ways::content_of;
 use dataset::DataSet;
 use osm_base::{Content, Key, Members};
 use relation_upkeep::fold_members;
 use std::alloc::{AllocError, Global};
-use tool_api::{Refusal, ranked};
-
-/// The users of all the ways, one after the other.
-fn all_users(ds: &DataSet, ways: &[Key]) -> Result<Vec<Key>, AllocError>
-    ensures { IfOk result (λ keys. keys.items ≡ flat_map (users ds.now) ways.now) }
-{
-    let mut keys = Vec::new(ds.alloc());
-    for way in ways {
-        keys.extend_from_slice(ds.users(*way))?;
-    }
-    Ok(keys)
-}
+use tool_api::{Refusal, all_users, content_of, ranked};
 
 /// The living relations with a member among the ways, by rank. They are the users of the ways; it sorts those once.
 ///

@@ -1,5 +1,5 @@
 -- Steps of the loops that cut a way and number its pieces.
-use Rattle.std.proofs.Common.{◌≡◌, ℕ, ℤ, zero, suc, pos, ◌+◌, ◌-◌, ◌<◌, ◌≤◌, ◌&&◌, ◌||◌, Bool, true, false, cond, not, nat_lt, nat_le, List, [], ◌∷◌, ◌++◌, length, drop, take, get_or, slice_get, Option, Some, None, refl, sym, ap, ◌∙◌, subst, drop-cons, add-one, length-drop, append_assoc, arith}
+use Rattle.std.proofs.Common.{◌≡◌, ℕ, ℤ, zero, suc, pos, ◌+◌, ◌-◌, ◌<◌, ◌≤◌, ◌&&◌, ◌||◌, Bool, true, false, cond, not, nat_lt, nat_le, List, [], ◌∷◌, ◌++◌, length, map, drop, take, get_or, slice_get, Option, Some, None, refl, sym, ap, ◌∙◌, subst, drop-cons, add-one, length-drop, append_assoc, arith}
 use Rattle.std.proofs.lemmas.Bool.Decides.{nat_tests, Decides-int_eq}
 use Rattle.std.proofs.lemmas.Option.{slice_get-get_or}
 use Rattle.std.proofs.lemmas.List.Folds.{list_any-append}
@@ -60,29 +60,10 @@ at_end (x ∷ xs) (suc i) h = at_end xs i (omega arith)
 same_node : (a b : ℤ) → is_key (node a) (node b) ≡ int_eq a b
 same_node a b = sym (rank_ties (node a) (node b))
 
-named_more : (set : List Key) (k q : Key) → is_named (set ++ k ∷ []) q ≡ (is_named set q || (is_key q k || false))
-named_more set k q = list_any-append (is_key q) set (k ∷ [])
-
-or_grouped : (a b c : Bool) → ((a || (b || false)) || c) ≡ (a || (b || c))
-or_grouped true b c = refl
-or_grouped false true c = refl
-or_grouped false false c = refl
-
-same_id : (a b : ℤ) → int_eq a b ≡ true → a ≡ b
-same_id a b e = (Decides-int_eq a b).0 e
-
-set_cases : (set set₁ : List Key) (x id : ℤ) (rest : Bool) (b c : Bool) → is_named set (node x) ≡ b → int_eq id x ≡ c → set₁ ≡ cond b set (set ++ node x ∷ []) → (is_named set₁ (node id) || rest) ≡ (is_named set (node id) || (c || rest))
-set_cases set set₁ x id rest true true there is put = let named : is_named set (node id) ≡ true = ap (λ n. is_named set (node n)) (same_id id x is) ∙ there in ap (λ (ks : List Key). is_named ks (node id) || rest) put ∙ ap (λ b. b || rest) named ∙ sym (ap (λ b. b || true) named)
-set_cases set set₁ x id rest true false there is put = ap (λ (ks : List Key). is_named ks (node id) || rest) put
-set_cases set set₁ x id rest false c there is put =
-    ap (λ (ks : List Key). is_named ks (node id) || rest) put ∙ ap (λ b. b || rest) (named_more set (node x) (node id) ∙ ap (λ b. is_named set (node id) || (b || false)) (same_node id x ∙ is))
-    ∙ or_grouped (is_named set (node id)) c rest
-
-pub set_step : (ids : List ℤ) (i : ℕ) (k : Key) (set set₁ : List Key) (id : ℤ) (all : Bool) → i < length ids → k ≡ node (get_or ids i (pos 0)) → set₁ ≡ cond (is_named set k) set (set ++ k ∷ [])
-    → (is_named set (node id) || is_among (drop i ids) id) ≡ all → (is_named set₁ (node id) || is_among (drop (i + 1) ids) id) ≡ all
-set_step ids i k set set₁ id all lt is put before =
-    set_cases set set₁ (get_or ids i (pos 0)) id (is_among (drop (i + 1) ids) id) _ _ refl refl (put ∙ (λ j. cond (is_named set (is j)) set (set ++ is j ∷ [])))
-    ∙ (let e : drop i ids ≡ get_or ids i (pos 0) ∷ drop (i + 1) ids = rw add-one (drop-cons ids i (pos 0) lt) in sym (ap (λ (xs : List ℤ). is_named set (node id) || is_among xs id) e)) ∙ before
+-- a node is among the keys of nodes where its id is among the ids
+pub named_nodes : (ids : List ℤ) (id : ℤ) → is_named (map node ids) (node id) ≡ is_among ids id
+named_nodes [] id = refl
+named_nodes (x ∷ ids) id = λ i. same_node id x i || named_nodes ids id i
 
 -- The tests of the named nodes.
 

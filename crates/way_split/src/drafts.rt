@@ -1,7 +1,7 @@
 //! The draft of a split: the relations, the way, the new ways.
 ghost use Rattle.std.specs.Prelude.{◌≡◌, ◌+◌, ◌≤◌, ◌<◌, ◌^◌, false, map, IfOk, OnOk};
 ghost use Rattle.std.specs.List.{filter};
-ghost use Rattle.std.specs.Option.{option_map_or, option_copied};
+ghost use Rattle.std.specs.Option.{option_map_or};
 ghost use Rattle.osm_base.specs.declared.content.Content.{Content};
 ghost use Rattle.osm_base.specs.declared.content.Content.TheVariants.{Way};
 ghost use Rattle.osm_table.specs.Table.{TableValue};
@@ -19,17 +19,7 @@ use osm_base::{Content, Key, Members, Refs, Tags, same_key};
 use osm_table::{Base, Entry};
 use relation_upkeep::{Piece, replace_member};
 use std::alloc::{AllocError, Global};
-use tool_api::{EditContent, edit_all};
-
-/// The living content of a key.
-pub fn living(ds: &DataSet, key: Key) -> Option<&Content>
-    ensures { option_copied result ≡ content_of ds.now key }
-{
-    match ds.entry(key) {
-        None => None,
-        Some(entry) => entry.mine(),
-    }
-}
+use tool_api::{EditContent, content_of, edit_all};
 
 fn with_members(content: Content, new: Members) -> Content
     ensures { result ≡ with_members (λ _. new) content }
@@ -91,7 +81,7 @@ impl EditContent for KeepRefs {
 fn is_relation(ds: &DataSet, key: Key) -> bool
     ensures { result ≡ option_map_or is_relation (content_of ds.now key) false }
 {
-    match living(ds, key) {
+    match content_of(ds, key) {
         Some(Content::Relation { .. }) => true,
         _ => false,
     }
@@ -112,7 +102,7 @@ fn relations_of(ds: &DataSet, way: Key) -> Result<Vec<Key>, AllocError>
 fn tags_at(ds: &DataSet, key: Key) -> Result<Tags, AllocError>
     ensures { IfOk result (λ tags. tags ≡ tags_at ds.now key) }
 {
-    match living(ds, key) {
+    match content_of(ds, key) {
         None => Ok(Tags::new(ds.alloc())),
         Some(content) => content.tags().copy(),
     }
