@@ -1,5 +1,4 @@
 pub mod Among
-pub mod Bools
 pub mod Combines
 pub mod Ends
 pub mod Joints

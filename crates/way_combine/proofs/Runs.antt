@@ -9,7 +9,7 @@ use Rattle.osm_base.specs.declared.key.Key.{Key}
 use Rattle.osm_base.specs.declared.members.Member.{Member}
 use Rattle.tool_api.specs.Tests.{is_named}
 use Rattle.tool_api.specs.Upkeep.{is_run, folded_from, folded}
-use Rattle.way_combine.proofs.Bools.{or_true}
+use Rattle.tool_api.proofs.Bools.{or_true}
 
 -- whether a member is the key
 abbrev pub has_member : List Member → Key → Bool
