@@ -1,9 +1,10 @@
 //! The living contents of a data set, lent.
-ghost use Rattle.std.specs.Prelude.{◌≡◌};
-ghost use Rattle.std.specs.Option.{option_copied, option_and_then};
+ghost use Rattle.std.specs.Prelude.{◌≡◌, false};
+ghost use Rattle.std.specs.Option.{option_copied, option_and_then, option_map_or};
 ghost use Rattle.osm_table.specs.Table.{mine_of};
 ghost use Rattle.tool_api.specs.Changes.{content_of};
 ghost use Rattle.tool_api.specs.Combine.{refs_at};
+ghost use Rattle.tool_api.specs.Gone.{is_relation};
 ghost use Rattle.tool_api.specs.Split.{way_refs};
 
 use dataset::DataSet;
@@ -25,6 +26,16 @@ pub fn content_of(ds: &DataSet, key: Key) -> Option<&Content>
     ensures { option_copied result ≡ content_of ds.now key }
 {
     content(ds.entry(key))
+}
+
+/// Whether the key's object lives as a relation. One look-up.
+pub fn is_relation(ds: &DataSet, key: Key) -> bool
+    ensures { result ≡ option_map_or is_relation (content_of ds.now key) false }
+{
+    match content_of(ds, key) {
+        Some(Content::Relation { .. }) => true,
+        _ => false,
+    }
 }
 
 fn way_refs(content: Option<&Content>) -> &[i64]

@@ -28,7 +28,7 @@ mod uses;
 mod verb;
 
 pub use closing::{accept, closing_tests, finish, room_test};
-pub use contents::{content_of, refs_at};
+pub use contents::{content_of, is_relation, refs_at};
 pub use deletion::delete_all;
 pub use edits::{EditContent, edit_all, edited_draft};
 pub use job::Job;

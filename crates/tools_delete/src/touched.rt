@@ -14,22 +14,13 @@ use dataset::DataSet;
 use osm_base::{Content, Key};
 use osm_table::Entry;
 use std::alloc::{AllocError, Global};
-use tool_api::{KeySet, all_users, content_of, distinct, node_key};
+use tool_api::{KeySet, all_users, content_of, distinct, is_relation, node_key};
 
 fn is_way(ds: &DataSet, key: Key) -> bool
     ensures { result ≡ lives_as_way ds.now key }
 {
     match content_of(ds, key) {
         Some(Content::Way { .. }) => true,
-        _ => false,
-    }
-}
-
-fn is_relation(ds: &DataSet, key: Key) -> bool
-    ensures { result ≡ lives_as_relation ds.now key }
-{
-    match content_of(ds, key) {
-        Some(Content::Relation { .. }) => true,
         _ => false,
     }
 }

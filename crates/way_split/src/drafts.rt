@@ -1,14 +1,10 @@
 //! The draft of a split: the relations, the way, the new ways.
-ghost use Rattle.std.specs.Prelude.{◌≡◌, ◌+◌, ◌≤◌, ◌<◌, ◌^◌, false, map, IfOk, OnOk};
-ghost use Rattle.std.specs.List.{filter};
-ghost use Rattle.std.specs.Option.{option_map_or};
-ghost use Rattle.osm_base.specs.declared.content.Content.{Content};
+ghost use Rattle.std.specs.Prelude.{◌≡◌, ◌+◌, ◌≤◌, ◌<◌, ◌^◌, map, IfOk, OnOk};
 ghost use Rattle.osm_base.specs.declared.content.Content.TheVariants.{Way};
 ghost use Rattle.osm_table.specs.Table.{TableValue};
 ghost use Rattle.dataset.specs.Draft.{drafted};
 ghost use Rattle.tool_api.specs.Basic.{with_members, with_refs};
-ghost use Rattle.tool_api.specs.Changes.{added, all_added, content_of};
-ghost use Rattle.tool_api.specs.Gone.{is_relation};
+ghost use Rattle.tool_api.specs.Changes.{added, all_added};
 ghost use Rattle.tool_api.specs.Split.{kept_refs, others, relations_of, tags_at, split_table};
 ghost use Rattle.tool_api.specs.Upkeep.{replaced};
 ghost use Rattle.relation_upkeep.specs.Replace.{piece_values};
@@ -18,8 +14,8 @@ use dataset::{DataSet, Draft};
 use osm_base::{Content, Key, Members, Refs, Tags, same_key};
 use osm_table::{Base, Entry};
 use relation_upkeep::{Piece, replace_member};
-use std::alloc::{AllocError, Global};
-use tool_api::{EditContent, content_of, edit_all};
+use std::alloc::AllocError;
+use tool_api::{EditContent, content_of, edit_all, is_relation};
 
 fn with_members(content: Content, new: Members) -> Content
     ensures { result ≡ with_members (λ _. new) content }
@@ -75,15 +71,6 @@ impl EditContent for KeepRefs {
             }),
             other => Ok(other),
         }
-    }
-}
-
-fn is_relation(ds: &DataSet, key: Key) -> bool
-    ensures { result ≡ option_map_or is_relation (content_of ds.now key) false }
-{
-    match content_of(ds, key) {
-        Some(Content::Relation { .. }) => true,
-        _ => false,
     }
 }
 
