@@ -1,7 +1,7 @@
 use Rattle.std.proofs.Common.{◌≡◌, ◌∙◌, ap}
 use Rattle.tool_api.specs.Distinct.{distinct}
 use Rattle.tool_api.proofs.Distincts.{finds_distinct}
-use Rattle.tool_api.proofs.key_set.KeySet.new.Goals as goal
+use Rattle.tool_api.proofs.key_set.KeySet.from_vec.Goals as goal
 
 pub invariant_of-result : goal.invariant_of-result
 invariant_of-result c =
