@@ -10,7 +10,7 @@ use Rattle.osm_table.specs.declared.told.Told.{Told}
 use Rattle.osm_table.specs.declared.told.Told.TheVariants.{Mentioned}
 use Rattle.osm_table.specs.Told.{ToldValue, told_at, with_told}
 use Rattle.opl_line.specs.declared.object.OplObject.{OplObject}
-use Rattle.download.specs.Tell.{refs_of_side, told_of_object, nothing, mentions, tellings, all_told, told_of, telling, is_mentioned, told_by}
+use Rattle.download.specs.Tell.{refs_of_side, told_of_object, nothing, places, mentions, tellings, all_told, told_of, telling, is_mentioned, told_by}
 
 -- the last of a key among these
 abbrev last_of : List (Key × Told) → Key → Option Told
@@ -73,12 +73,29 @@ any_ref (o ∷ os) k =
     any_append (is_key k) (refs_of_side o.side) (flat_map (λ (o : OplObject). refs_of_side o.side) os)
     ∙ ap (λ b. list_any (is_key k) (refs_of_side o.side) || b) (any_ref os k)
 
+placed_at : (a : Option Told) (x : Told) (here rest b : Bool) → option_or a (mention_if (rest || b)) ≡ option_or a (mention_if b)
+    → option_or (option_or a (cond here (Some x) None)) (mention_if ((here || rest) || b)) ≡ option_or (option_or a (cond here (Some x) None)) (mention_if b)
+placed_at (Some y) x here rest b e = refl
+placed_at None x true rest b e = refl
+placed_at None x false rest b e = e
+
+-- that an object is mentioned by its own key tells nothing beside what it tells itself
+placed : (os : List OplObject) (k : Key) (b : Bool)
+    → option_or (telling os k) (mention_if (list_any (is_key k) (map (λ (o : OplObject). o.key) os) || b)) ≡ option_or (telling os k) (mention_if b)
+placed [] k b = refl
+placed (o ∷ os) k b = placed_at (telling os k) (told_of_object o) (is_key k o.key) (list_any (is_key k) (map (λ (o : OplObject). o.key) os)) b (placed os k b)
+
 -- What a file tells of a key.
 pub told_at_key : (os : List OplObject) (k : Key) → told_at (told_of os) k ≡ told_by os k
 told_at_key os k =
-    told_all (mentions os ++ tellings os) nothing k
-    ∙ ap (option_or (last_of (mentions os ++ tellings os) k)) (fin.get-empty rank_cmp k)
-    ∙ or_none (last_of (mentions os ++ tellings os) k)
-    ∙ last_append (mentions os) (tellings os) k
-    ∙ ap (λ o. option_or o (last_of (mentions os) k)) (last_telling os k)
-    ∙ ap (option_or (telling os k)) (last_mention (flat_map (λ (o : OplObject). refs_of_side o.side) os) k ∙ ap mention_if (any_ref os k))
+    let front = places os ++ mentions os in
+    let refs = flat_map (λ (o : OplObject). refs_of_side o.side) os in
+    let keys = map (λ (o : OplObject). o.key) os in
+    told_all (front ++ tellings os) nothing k
+    ∙ ap (option_or (last_of (front ++ tellings os) k)) (fin.get-empty rank_cmp k)
+    ∙ or_none (last_of (front ++ tellings os) k)
+    ∙ last_append front (tellings os) k
+    ∙ ap (λ o. option_or o (last_of front k)) (last_telling os k)
+    ∙ ap (option_or (telling os k)) (last_append (places os) (mentions os) k ∙ (λ i. option_or (last_mention refs k i) (last_mention keys k i)) ∙ mention_or (list_any (is_key k) refs) (list_any (is_key k) keys))
+    ∙ placed os k (list_any (is_key k) refs)
+    ∙ ap (λ b. option_or (telling os k) (mention_if b)) (any_ref os k)

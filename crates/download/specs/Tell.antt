@@ -33,9 +33,17 @@ told_of_object o = told_side o.version o.side o.meta
 abbrev pub nothing : ToldValue
 nothing = record { told = fin.empty; order = [] }
 
+-- keys, mentioned
+abbrev pub mentioned : List Key → List (Key × Told)
+mentioned keys = map (λ key. (key, Mentioned)) keys
+
+-- the objects, mentioned in their order
+abbrev pub places : List OplObject → List (Key × Told)
+places objects = mentioned (map (λ o. o.key) objects)
+
 -- each reference of the objects, mentioned
 abbrev pub mentions : List OplObject → List (Key × Told)
-mentions objects = map (λ r. (r, Mentioned)) (flat_map (λ o. refs_of_side o.side) objects)
+mentions objects = mentioned (flat_map (λ o. refs_of_side o.side) objects)
 
 -- each object, told as it stands
 abbrev pub tellings : List OplObject → List (Key × Told)
@@ -45,9 +53,10 @@ tellings objects = map (λ o. (o.key, told_of_object o)) objects
 abbrev pub all_told : ToldValue → List (Key × Told) → ToldValue
 all_told m tells = fold (λ so_far t. with_told so_far t.0 t.1) m tells
 
--- What a file tells: each reference is mentioned, and then each object told as it stands.
+-- What a file tells: each object, and then each reference, is mentioned, and then each object told as it stands. So the
+-- keys stand in the order of the file, and behind them those that are only referred to.
 abbrev pub told_of : List OplObject → ToldValue
-told_of objects = all_told nothing (mentions objects ++ tellings objects)
+told_of objects = all_told nothing (places objects ++ mentions objects ++ tellings objects)
 
 -- The object may be told of: it has a positive id, and the version and the content of a server.
 abbrev pub IsTellable : OplObject → Type 0

@@ -6,7 +6,7 @@ ghost use Rattle.osm_base.specs.declared.key.Key.{Key};
 ghost use Rattle.osm_table.specs.Table.{IsPositive};
 ghost use Rattle.osm_table.specs.Told.{with_told};
 ghost use Rattle.osm_table.specs.declared.told.Told.TheVariants.{Mentioned};
-ghost use Rattle.download.specs.Tell.{refs_of_side, told_of_object, mentions, tellings, all_told, told_of, IsTellable, AreTellable};
+ghost use Rattle.download.specs.Tell.{refs_of_side, told_of_object, places, mentions, tellings, all_told, told_of, IsTellable, AreTellable};
 
 use opl_file::Objects;
 use opl_line::OplObject;
@@ -23,10 +23,22 @@ pub fn tell(alloc: Global, objects: Objects) -> Result<ToldMap, AllocError>
     ensures { IfOk result (λ told. told ≡ told_of objects) }
 {
     let objects = objects.into_vec();
-    let mut told = ToldMap::new(alloc);
+    let mut told = ToldMap::with_capacity(alloc, objects.len())?;
+    place_all(&mut told, &objects)?;
     mention_all(&mut told, &objects)?;
     tell_all(&mut told, objects)?;
     Ok(told)
+}
+
+// Gives each object its place. In the order of the file what follows finds its neighbours near.
+fn place_all(told: &mut ToldMap, objects: &[OplObject]) -> Result<(), AllocError>
+    requires { AreTellable objects.now }
+    ensures { OnOk result (told.new ≡ all_told told.old (places objects.now)) }
+{
+    for object in objects {
+        told.put(object.key, Told::Mentioned)?;
+    }
+    Ok(())
 }
 
 fn mention_all(told: &mut ToldMap, objects: &[OplObject]) -> Result<(), AllocError>

@@ -22,7 +22,7 @@ use Rattle.tool_api.specs.declared.reply.Reply.TheVariants.{Done, Refused}
 use Rattle.tool_api.specs.Closing.{room_test}
 use Rattle.tool_api.specs.Plain.{answered}
 use Rattle.tool_api.specs.Merged.{lesser, least, references, is_news, is_deleted, unbuilt, taken, completed, merged, merge}
-use Rattle.tool_api.proofs.Looks.{entry_changed, next_changed}
+use Rattle.tool_api.proofs.Looks.{entry_changed, next_changed, either}
 use Rattle.merge_tool.specs.Intake.{SoFar, tell, tell_next, refer_at, refer}
 
 -- What is told.
@@ -68,12 +68,6 @@ told_maybe s k q old None has =
     let same : entry_of s.table k ≡ taken old None = either_way _ _ (subst (λ e. OldOrNew s.table k e (taken old None)) (sym (taken_none old)) has) in
     stays s.table k q (is_key q k) (taken old None) refl same
 told_maybe s k q old (Some news) has = told_one s k q old news has
-
-either : (g : Key → Option Entry) (q k : Key) (a b : Bool) (old : Option Entry) → is_key q k ≡ b → cond a (g q) (cond b (g k) old) ≡ cond (b || a) (g q) old
-either g q k true true old e = refl
-either g q k true false old e = refl
-either g q k false true old e = sym (ap g (one_key q k e))
-either g q k false false old e = refl
 
 -- after one step each key still has its old entry, or the one that it gets
 goes_on : (g : Key → Option Entry) (u v : TableValue) (old : Option Entry) (j k : Key) (b : Bool) → is_key j k ≡ b → entry_of v j ≡ cond b (g k) (entry_of u j) → OldOrNew u j old (g j) → OldOrNew v j old (g j)

@@ -27,6 +27,7 @@ use Rattle.tool_api.specs.Merged.{lesser, least, told_refs, references, is_delet
 use Rattle.tool_api.proofs.Looks.{entry_changed}
 use Rattle.tool_api.proofs.Sounds.{next_is}
 use Rattle.merge_tool.proofs.Ends.{taken_at, told_into, completed_at}
+use Rattle.tool_api.proofs.Bools.{or_right, or_left, either_is}
 
 -- Nothing keeps it out.
 
@@ -60,10 +61,6 @@ none_deleted t told r none named =
 
 -- What is referred to.
 
-either_is : (a b : Bool) → (a || b) ≡ true → (a ≡ true) ⊎ (b ≡ true)
-either_is true b e = inl refl
-either_is false b e = inr e
-
 all_positive : (ks : List Key) (q : Key) → AllByRecursion (λ r. IsPositive r.id) ks → is_named ks q ≡ true → IsPositive q.id
 all_positive [] q all e = cc
 all_positive (k ∷ ks) q all e = elim (either_is (is_key q k) (is_named ks q) e) [
@@ -86,14 +83,6 @@ refs_positive told (k ∷ ks) q all e =
       | inl here ↦ told_positive k q (told_at told k) (λ news is. all k news is) here
       | inr there ↦ refs_positive told ks q all there
     ]
-
-or_left : (a b : Bool) → a ≡ true → (a || b) ≡ true
-or_left true b e = refl
-or_left false b e = cc
-
-or_right : (a b : Bool) → b ≡ true → (a || b) ≡ true
-or_right true b e = refl
-or_right false b e = e
 
 -- what a told object refers to is among all that is referred to
 among : (told : ToldValue) (ks : List Key) (k r : Key) → is_named ks k ≡ true → is_named (told_refs (told_at told k)) r ≡ true → is_named (flat_map (λ k. told_refs (told_at told k)) ks) r ≡ true

@@ -29,9 +29,6 @@ last_is t u ps qs e = ap last_patch e ∙ last_pushed ps (diff t u)
 pub last_leads : (t u : TableValue) (ps qs : List PatchValue) → Pushed t u ps qs → Leads (last_patch qs) t u
 last_leads t u ps qs e = subst (λ (p : PatchValue). Leads p t u) (sym (last_is t u ps qs e)) (diff_leads t u (diff t u) (diff_is t u))
 
-pub some_done : (t u : TableValue) (ps qs : List PatchValue) → Pushed t u ps qs → 0 < length qs
-some_done t u ps qs e = let l : length qs ≡ length ps + 1 = ap (λ (qs : List PatchValue). length qs) e ∙ length-append ps (diff t u ∷ []) in omega (arith, l)
-
 pub undo_sound : (t u : TableValue) (ps qs : List PatchValue) → Pushed t u ps qs → IsSound t → IsSound (before_of (last_patch qs) u)
 undo_sound t u ps qs e s = subst IsSound (last_leads t u ps qs e).back s
 

@@ -1,5 +1,5 @@
 //! What a download tells of the objects.
-ghost use Rattle.std.specs.Prelude.{◌≡◌, ◌<◌, [], Some, OnOk, OnErr, length, slice_get, is_some};
+ghost use Rattle.std.specs.Prelude.{◌≡◌, ◌<◌, [], Some, IfOk, OnOk, OnErr, length, slice_get, is_some};
 ghost use Rattle.std.specs.Option.{option_copied};
 ghost use Rattle.std.specs.List.{list_any, IsDistinct};
 ghost use Rattle.std.specs.FinMap as map;
@@ -46,6 +46,18 @@ impl ToldMap {
         ToldMap {
             entries: IndexMap::new(alloc),
         }
+    }
+
+    /// A map that tells nothing, with room for so many keys.
+    ///
+    /// # Errors
+    /// Answers want of memory.
+    pub fn with_capacity(alloc: Global, keys: usize) -> Result<Self, AllocError>
+        ensures { IfOk result (λ told. told ≡ record { told = map.empty; order = [] }) }
+    {
+        Ok(ToldMap {
+            entries: IndexMap::with_capacity(alloc, keys)?,
+        })
     }
 
     /// Sets what is told of a key.

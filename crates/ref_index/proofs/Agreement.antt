@@ -150,10 +150,19 @@ same_count (Some a) (Some b) g h e = ap Some e
 pub same_bag : (bag new : Bag) → ((p : Pair) → map.get bag p ≢ Some 0) → ((p : Pair) → map.get new p ≢ Some 0) → ((p : Pair) → count new p ≡ count bag p) → new ≡ bag
 same_bag bag new g h e = map.same_map pair_total pair_exact new bag (λ p. same_count (map.get bag p) (map.get new p) (g p) (h p) (e p))
 
--- the forms in which the code has them: the new maps by equations
-pub add_first_count : (bag new : Bag) (p : Pair) → new ≡ map.insert bag p 1 → count bag p ≡ 0 → (q : Pair) → count new q ≡ cond (is_pair q p) 1 0 + count bag q
-add_first_count bag new p e none q = ap (λ (b : Bag). count b q) e ∙ count_more bag p 0 q none
+taken_case : (b : Bool) (n : ℕ) (o : Option ℕ) → (b ≡ true → o ≡ None) → cond b None (cond b (Some n) o) ≡ o
+taken_case true n o h = sym (h refl)
+taken_case false n o h = refl
 
+-- a pair that wasn't there, put in and taken out again
+pub taken_again : (bag one new : Bag) (p : Pair) (n : ℕ) → ((q : Pair) → map.get bag q ≢ Some 0) → count bag p ≡ 0 → one ≡ map.insert bag p n → new ≡ map.remove one p → new ≡ bag
+taken_again bag one new p n proper none e f = map.same_map pair_total pair_exact new bag (λ q.
+    ap (λ (b : Bag). map.get b q) (f ∙ ap (λ (b : Bag). map.remove b p) e)
+    ∙ map.get-remove pair_total (map.insert bag p n) p q
+    ∙ ap (cond (is_pair q p) None) (map.get-insert pair_total bag p n q)
+    ∙ taken_case (is_pair q p) n (map.get bag q) (λ b. ap (map.get bag) (one_pair q p b) ∙ none_counted (map.get bag p) (proper p) none))
+
+-- the forms in which the code has them: the new maps by equations
 pub add_again_count : (bag new : Bag) (p : Pair) (n : ℕ) → new ≡ map.insert bag p (n + 1) → n ≡ count bag p → (q : Pair) → count new q ≡ cond (is_pair q p) 1 0 + count bag q
 add_again_count bag new p n e is q = ap (λ (b : Bag). count b q) e ∙ count_more bag p n q (sym is)
 
@@ -165,6 +174,12 @@ take_again_count bag new p n e is more q = ap (λ (b : Bag). cond (is_pair q p) 
 
 pub take_last_count : (bag new : Bag) (p : Pair) → new ≡ map.remove bag p → count bag p ≡ 1 → (q : Pair) → cond (is_pair q p) 1 0 + count new q ≡ count bag q
 take_last_count bag new p e one q = ap (λ (b : Bag). cond (is_pair q p) 1 0 + count b q) e ∙ count_last bag p q one
+
+pub first_agrees : (bag new : Bag) (old lists : Lists) (p : Pair) → Agree bag old → new ≡ map.insert bag p 1 → SetsList old lists p.of (with_key p.user (users_of old p.of)) → Agree new lists
+first_agrees bag new old lists p a e sets = subst (λ (b : Bag). Agree b lists) (sym e) (agree_first bag old lists p a sets)
+
+pub same_agrees : (bag new : Bag) (old lists : Lists) → Agree bag old → new ≡ bag → ((q : Key) → users_of lists q ≡ users_of old q) → Agree new lists
+same_agrees bag new old lists a e same = subst (λ (b : Bag). Agree b lists) (sym e) (agree_same bag old lists a same)
 
 pub last_agrees : (bag new : Bag) (old lists : Lists) (p : Pair) → Agree bag old → new ≡ map.remove bag p → SetsList old lists p.of (without_key p.user (users_of old p.of)) → Agree new lists
 last_agrees bag new old lists p a e sets = subst (λ (b : Bag). Agree b lists) (sym e) (agree_last bag old lists p a sets)

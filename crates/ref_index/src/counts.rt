@@ -1,7 +1,7 @@
 //! How often each pair is there. A pair that isn't there has no count.
-ghost use Rattle.std.specs.Prelude.{◌≡◌, ◌<◌, Some, false, OnOk, OnErr, IsSome, IsOk};
+ghost use Rattle.std.specs.Prelude.{◌≡◌, ◌+◌, ◌<◌, Some, false, IfOk, OnErr, IsSome};
 ghost use Rattle.std.specs.FinMap as map;
-ghost use Rattle.indexmap.specs.IndexMap.{get, spare};
+ghost use Rattle.indexmap.specs.IndexMap.{get};
 ghost use Rattle.ref_index.specs.declared.pair.Pair.{Pair};
 ghost use Rattle.ref_index.specs.Bag.{count, pair_eq};
 ghost use Rattle.ref_index.specs.Users.{bag_of};
@@ -19,23 +19,23 @@ pub fn count_in(counts: &IndexMap<Pair, u64>, pair: Pair) -> u64
     }
 }
 
-/// Makes room for one pair more.
-pub fn make_room(counts: &mut IndexMap<Pair, u64>) -> Result<(), AllocError>
-    ensures same { bag_of counts.new.entries ≡ bag_of counts.old.entries }
-    ensures ok { OnOk result (0 < spare counts.new) }
-{
-    counts.reserve(1)?;
-    Ok(())
-}
-
-/// Counts a pair once. Where there is room it can't fail.
-pub fn count_first(counts: &mut IndexMap<Pair, u64>, pair: Pair) -> Result<(), AllocError>
-    ensures ok { OnOk result (bag_of counts.new.entries ≡ map.insert (bag_of counts.old.entries) pair 1) }
+/// Counts a pair once more, and answers how often it was there before. Costs one look-up by hash.
+///
+/// # Errors
+///
+/// Where no memory is found, or where the pair would be there 2^64 times. Then nothing changes.
+pub fn count_once(counts: &mut IndexMap<Pair, u64>, pair: Pair) -> Result<u64, AllocError>
+    ensures before { IfOk result (λ before. before ≡ count (bag_of counts.old.entries) pair) }
+    ensures ok { IfOk result (λ before. bag_of counts.new.entries ≡ map.insert (bag_of counts.old.entries) pair (before + 1)) }
     ensures err { OnErr result (bag_of counts.new.entries ≡ bag_of counts.old.entries) }
-    ensures room { 0 < spare counts.old → IsOk result }
 {
-    counts.insert(pair, 1)?;
-    Ok(())
+    let there = counts.entry(pair)?.or_insert(0);
+    let before = *there;
+    if before == u64::MAX {
+        return Err(AllocError);
+    }
+    *there = before + 1;
+    Ok(before)
 }
 
 /// Gives a pair that is there another count.

@@ -4,10 +4,10 @@ ghost use Rattle.std.specs.FinMap as map;
 ghost use Rattle.osm_base.specs.declared.key.Key.{Key};
 ghost use Rattle.ref_index.specs.declared.pair.Pair.{Pair};
 ghost use Rattle.ref_index.specs.Bag.{count, times, is_pair};
-ghost use Rattle.osm_base.specs.RisingKeys.{rises, is_in};
-ghost use Rattle.ref_index.specs.Users.{Agree, bag_of, lists_of};
+ghost use Rattle.osm_base.specs.RisingKeys.{rises, is_in, with_key};
+ghost use Rattle.ref_index.specs.Users.{Agree, SetsList, bag_of, lists_of, users_of};
 
-use crate::counts::{count_again, count_first, count_in, count_none, make_room};
+use crate::counts::{count_again, count_in, count_none, count_once};
 use crate::lists::{list_at, put_user, take_user};
 use crate::pair::Pair;
 use crate::users::Users;
@@ -52,9 +52,10 @@ impl RefIndex {
 
     /// Takes the pairs of `gone` out and puts those of `come` in, each as often as it is named.
     ///
-    /// One pair costs a look-up by hash and, where it is the first or the last of its kind, a
-    /// place in the list of one key: with u users about log u comparisons and one move of the keys
-    /// behind it.
+    /// A pair that comes costs one look-up by hash, and one more where it is the first of its kind.
+    /// A pair that goes costs two, and where it is the last of its kind two more, or three where its
+    /// key has no other user. The first and the last of a kind also cost a place in the list of one
+    /// key: with u users about log u comparisons and one move of the keys behind it.
     ///
     /// # Errors
     ///
@@ -109,7 +110,8 @@ fn take_all(counts: &mut IndexMap<Pair, u64>, lists: &mut IndexMap<Key, Users>, 
     }
 }
 
-/// Adds a pair, or leaves the bag as it was.
+/// Adds a pair, or leaves the bag as it was. A pair that is there already costs one look-up by hash,
+/// a new one two.
 fn add(
     counts: &mut IndexMap<Pair, u64>,
     lists: &mut IndexMap<Key, Users>,
@@ -120,32 +122,29 @@ fn add(
     ensures ok { OnOk result ((q : Pair) → count (bag_of counts.new.entries) q ≡ (if is_pair q pair then 1 else 0) + count (bag_of counts.old.entries) q) }
     ensures err { OnErr result (bag_of counts.new.entries ≡ bag_of counts.old.entries) }
 {
-    let count = count_in(counts, pair);
-    if count == 0 {
-        add_first(counts, lists, pair)?;
-    } else if count == u64::MAX {
-        return Err(AllocError);
-    } else {
-        count_again(counts, pair, count + 1);
+    let before = count_once(counts, pair)?;
+    if before == 0 {
+        list_user(counts, lists, pair)?;
     }
     Ok(())
 }
 
-/// The room for the count comes first, so that nothing can fail once the list has changed.
-fn add_first(
+/// Lists the user of a pair that was counted for the first time. Where no memory is found for that,
+/// the pair goes out of the counts again, which takes none.
+fn list_user(
     counts: &mut IndexMap<Pair, u64>,
     lists: &mut IndexMap<Key, Users>,
     pair: Pair,
 ) -> Result<(), AllocError>
-    requires agree { Agree (bag_of counts.old.entries) (lists_of lists.old.entries) }
-    requires absent { count (bag_of counts.old.entries) pair ≡ 0 }
-    ensures agree { Agree (bag_of counts.new.entries) (lists_of lists.new.entries) }
-    ensures ok { OnOk result (bag_of counts.new.entries ≡ map.insert (bag_of counts.old.entries) pair 1) }
-    ensures err { OnErr result (bag_of counts.new.entries ≡ bag_of counts.old.entries) }
+    ensures ok { OnOk result (SetsList (lists_of lists.old.entries) (lists_of lists.new.entries) pair.of (with_key pair.user (users_of (lists_of lists.old.entries) pair.of))) }
+    ensures counted { OnOk result (bag_of counts.new.entries ≡ bag_of counts.old.entries) }
+    ensures err { OnErr result ((q : Key) → users_of (lists_of lists.new.entries) q ≡ users_of (lists_of lists.old.entries) q) }
+    ensures uncounted { OnErr result (bag_of counts.new.entries ≡ map.remove (bag_of counts.old.entries) pair) }
 {
-    make_room(counts)?;
-    put_user(lists, pair.of, pair.user)?;
-    count_first(counts, pair)?;
+    if let Err(e) = put_user(lists, pair.of, pair.user) {
+        count_none(counts, pair);
+        return Err(e);
+    }
     Ok(())
 }
 

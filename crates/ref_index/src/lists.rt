@@ -20,16 +20,16 @@ pub fn list_at(lists: &IndexMap<Key, Users>, of: Key) -> &[Key]
     }
 }
 
-/// Puts a user into the list of a key, or leaves all as it was.
+/// Puts a user into the list of a key, or leaves all as it was. Costs one look-up by hash.
+///
+/// A key without a list gets one. Its first user takes no block, so an empty list never stays.
 pub fn put_user(lists: &mut IndexMap<Key, Users>, of: Key, user: Key) -> Result<(), AllocError>
     ensures ok { OnOk result (SetsList (lists_of lists.old.entries) (lists_of lists.new.entries) of (with_key user (users_of (lists_of lists.old.entries) of))) }
     ensures err { OnErr result ((q : Key) → users_of (lists_of lists.new.entries) q ≡ users_of (lists_of lists.old.entries) q) }
 {
-    if lists.contains_key(&of) {
-        put_there(lists, of, user)?;
-    } else {
-        put_first(lists, of, user)?;
-    }
+    let alloc = *lists.allocator();
+    let users = lists.entry(of)?.or_insert(Users::new(alloc));
+    users.put(user)?;
     Ok(())
 }
 
@@ -39,27 +39,6 @@ pub fn take_user(lists: &mut IndexMap<Key, Users>, of: Key, user: Key)
 {
     take_there(lists, of, user);
     drop_empty(lists, of);
-}
-
-fn put_there(lists: &mut IndexMap<Key, Users>, of: Key, user: Key) -> Result<(), AllocError>
-    ensures ok { OnOk result ((old : List Key) → get eq lists.old of ≡ Some old → get eq lists.new of ≡ Some (with_key user old)) }
-    ensures others { (q : Key) → eq of q ≡ false → get eq lists.new q ≡ get eq lists.old q }
-    ensures err { OnErr result ((q : Key) → get eq lists.new q ≡ get eq lists.old q) }
-{
-    if let Some(users) = lists.get_mut(&of) {
-        users.put(user)?;
-    }
-    Ok(())
-}
-
-fn put_first(lists: &mut IndexMap<Key, Users>, of: Key, user: Key) -> Result<(), AllocError>
-    ensures ok { OnOk result ((q : Key) → get eq lists.new q ≡ cond (eq of q) (Some (with_key user [])) (get eq lists.old q)) }
-    ensures err { OnErr result ((q : Key) → get eq lists.new q ≡ get eq lists.old q) }
-{
-    let mut users = Users::new(*lists.allocator());
-    users.put(user)?;
-    lists.insert(of, users)?;
-    Ok(())
 }
 
 fn take_there(lists: &mut IndexMap<Key, Users>, of: Key, user: Key)

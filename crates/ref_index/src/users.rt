@@ -1,32 +1,44 @@
 //! The users of one key: distinct keys that rise by rank.
 //!
 //! A place is found by halving, so a list of u keys costs about log u comparisons for each key put
-//! in or taken out, and one move of the keys behind it.
-ghost use Rattle.std.specs.Prelude.{◌≡◌, ◌≤◌, ◌&&◌, [], length, OnOk, OnErr, T, nat_lt, slice_index_or};
+//! in or taken out, and one move of the keys behind it. Most keys have one user, who takes no block.
+ghost use Rattle.std.specs.Prelude.{◌≡◌, ◌≤◌, ◌<◌, ◌&&◌, [], length, OnOk, OnErr, T, nat_lt, slice_index_or};
+ghost use Rattle.std.specs.List.{insert, remove};
 ghost use Rattle.std.specs.Ordering.{is_lt};
 ghost use Rattle.osm_base.specs.Rank.{rank_cmp, is_key};
 ghost use Rattle.osm_base.specs.RisingKeys.{rises, with_key, without_key, place_in};
+ghost use Rattle.ref_index.specs.Listed.{listed};
 
 use osm_base::{Key, rank, same_key};
 use std::alloc::{AllocError, Global};
 use std::marker::Model;
+use std::slice;
 
 /// Keys that rise by rank, each once.
 #[derive(Drop)]
 pub struct Users {
-    items: Vec<Key>,
+    alloc: Global,
+    items: Items,
+}
+
+/// One key without a block, or a list.
+#[derive(Drop)]
+enum Items {
+    One(Key),
+    List(Vec<Key>),
 }
 
 impl Model for Users {
     ghost use Rattle.std.specs.Prelude.{List, T};
     ghost use Rattle.osm_base.specs.declared.key.Key.{Key};
     ghost use Rattle.osm_base.specs.RisingKeys.{rises};
+    ghost use Rattle.ref_index.specs.Listed.{listed};
 
     ghost Value = { List Key };
 
-    ghost view = { λ u. u.items.items };
+    ghost view = { λ u. listed u.items };
 
-    ghost invariant = { λ u. T (rises u.items.items) };
+    ghost invariant = { λ u. T (rises (listed u.items)) };
 }
 
 impl Users {
@@ -34,7 +46,8 @@ impl Users {
         ensures { result ≡ [] }
     {
         Users {
-            items: Vec::new(alloc),
+            alloc,
+            items: Items::List(Vec::new(alloc)),
         }
     }
 
@@ -43,7 +56,7 @@ impl Users {
         ensures value { result.now ≡ self.now }
         ensures rises { T (rises self.now) }
     {
-        self.items.as_slice()
+        listed(&self.items)
     }
 
     /// Puts the key into its place. Where it stands already nothing changes.
@@ -55,7 +68,7 @@ impl Users {
         ensures ok { OnOk result (self.new ≡ with_key key self.old) }
         ensures err { OnErr result (self.new ≡ self.old) }
     {
-        put_item(&mut self.items, key)?;
+        put_item(self.alloc, &mut self.items, key)?;
         Ok(())
     }
 
@@ -63,29 +76,67 @@ impl Users {
     pub fn take(&mut self, key: Key)
         ensures { self.new ≡ without_key key self.old }
     {
-        take_item(&mut self.items, key);
+        take_item(self.alloc, &mut self.items, key);
     }
 }
 
-fn put_item(items: &mut Vec<Key>, key: Key) -> Result<(), AllocError>
-    requires { T (rises items.old.items) }
-    ensures ok { OnOk result (items.new.items ≡ with_key key items.old.items) }
-    ensures err { OnErr result (items.new.items ≡ items.old.items) }
+fn listed(items: &Items) -> &[Key]
+    ensures { result.now ≡ listed items.now }
 {
-    let at = place(items, key);
-    if !stands_at(items, at, key) {
-        items.insert(at, key)?;
+    match items {
+        Items::One(key) => slice::from_ref(key),
+        Items::List(keys) => keys.as_slice(),
+    }
+}
+
+fn put_item(alloc: Global, items: &mut Items, key: Key) -> Result<(), AllocError>
+    requires { T (rises (listed items.old)) }
+    ensures ok { OnOk result (listed items.new ≡ with_key key (listed items.old)) }
+    ensures err { OnErr result (listed items.new ≡ listed items.old) }
+{
+    let at = place(listed(items), key);
+    if !stands_at(listed(items), at, key) {
+        insert_at(alloc, items, at, key)?;
     }
     Ok(())
 }
 
-fn take_item(items: &mut Vec<Key>, key: Key)
-    requires { T (rises items.old.items) }
-    ensures { items.new.items ≡ without_key key items.old.items }
+fn insert_at(alloc: Global, items: &mut Items, at: usize, key: Key) -> Result<(), AllocError>
+    requires { at ≤ length (listed items.old) }
+    ensures ok { OnOk result (listed items.new ≡ insert (listed items.old) at key) }
+    ensures err { OnErr result (listed items.new ≡ listed items.old) }
 {
-    let at = place(items, key);
-    if stands_at(items, at, key) {
-        items.remove(at);
+    match items {
+        Items::One(first) => {
+            let mut keys = Vec::from_slice(alloc, slice::from_ref(first))?;
+            keys.insert(at, key)?;
+            *items = Items::List(keys);
+        }
+        Items::List(keys) if keys.is_empty() => *items = Items::One(key),
+        Items::List(keys) => keys.insert(at, key)?,
+    }
+    Ok(())
+}
+
+fn take_item(alloc: Global, items: &mut Items, key: Key)
+    requires { T (rises (listed items.old)) }
+    ensures { listed items.new ≡ without_key key (listed items.old) }
+{
+    let at = place(listed(items), key);
+    if stands_at(listed(items), at, key) {
+        remove_at(alloc, items, at);
+    }
+}
+
+fn remove_at(alloc: Global, items: &mut Items, at: usize)
+    requires { at < length (listed items.old) }
+    ensures { listed items.new ≡ remove (listed items.old) at }
+{
+    match items {
+        Items::One(_) => *items = Items::List(Vec::new(alloc)),
+        Items::List(keys) => {
+            keys.remove(at);
+        }
     }
 }
 

@@ -13,6 +13,7 @@ use Rattle.osm_table.specs.Table.{TableValue}
 use Rattle.tool_api.specs.Upkeep.{PieceValue, ends, is_among, restricted_piece, first_in, stand_ins, replaced_from, touches, is_backward, in_order, first_node, last_node}
 use Rattle.relation_upkeep.specs.declared.replace.Piece.{Piece}
 use Rattle.relation_upkeep.specs.Replace.{piece_value, piece_values, turn_of, stood}
+use Rattle.tool_api.proofs.Lasts.{last_got}
 
 append_nil : {A : Type 0} (xs : List A) → xs ++ [] ≡ xs
 append_nil [] = refl
@@ -27,20 +28,12 @@ next_at {A = A} (y ∷ xs) (suc i) x e = next_at xs i x e
 next_item : {A : Type 0} (xs : List A) (i : ℕ) (x : A) → slice_get xs i ≡ Some x → drop i xs ≡ x ∷ drop (i + 1) xs
 next_item xs i x e = rw add-one (next_at xs i x e)
 
--- the last of a list
-last_from : {A : Type 0} (x : A) (xs : List A) → last_or (Some x) xs ≡ slice_get (x ∷ xs) (length xs)
-last_from x [] = refl
-last_from x (y ∷ xs) = last_from y xs
-
-last_got : {A : Type 0} (x : A) (xs : List A) → slice_get (x ∷ xs) (suc (length xs) - 1) ≡ last_or (Some x) xs
-last_got {A = A} x xs = (let e : suc (length xs) - 1 ≡ length xs = omega arith in ap (λ n. slice_get (x ∷ xs) n) e) ∙ sym (last_from x xs)
-
 -- the ends of a way by its first and last reference
 pub ends_got : (ids : List ℤ) (a b : ℤ) → Some a ≡ slice_get ids 0 → Some b ≡ slice_get ids (length ids - 1) → a ∷ b ∷ [] ≡ ends (content.Way [] ids)
 ends_got [] a b first last = cc
 ends_got (n ∷ ns) a b first last =
     let x : a ≡ n = ap (λ (o : Option ℤ). unwrap_or o a) first in
-    let y : b ≡ unwrap_or (last_or (Some n) ns) n = ap (λ (o : Option ℤ). unwrap_or o n) (last ∙ last_got n ns) in
+    let y : b ≡ unwrap_or (last_or (Some n) ns) n = ap (λ (o : Option ℤ). unwrap_or o n) (last ∙ last_got (n ∷ ns)) in
     λ i. x i ∷ y i ∷ []
 
 last_piece : (p : Piece) (ps : List Piece) → last_node (piece_values (p ∷ ps)) ≡ option_map_or (λ (p : Piece). p.last) (last_or (Some p) ps) (pos 0)
@@ -49,7 +42,7 @@ last_piece p (q ∷ ps) = last_piece q ps
 
 pub last_node_got : (ps : List Piece) (p : Piece) → Some p ≡ slice_get ps (length ps - 1) → p.last ≡ last_node (piece_values ps)
 last_node_got [] p e = cc
-last_node_got (q ∷ ps) p e = ap (λ (o : Option Piece). option_map_or (λ (p : Piece). p.last) o (pos 0)) (e ∙ last_got q ps) ∙ sym (last_piece q ps)
+last_node_got (q ∷ ps) p e = ap (λ (o : Option Piece). option_map_or (λ (p : Piece). p.last) o (pos 0)) (e ∙ last_got (q ∷ ps)) ∙ sym (last_piece q ps)
 
 -- a search among pieces
 found_step : (b : Bool) (p : Piece) (o : Option Piece) (v : Option PieceValue) → option_map piece_value o ≡ v → option_map piece_value (cond b (Some p) o) ≡ cond b (Some (piece_value p)) v

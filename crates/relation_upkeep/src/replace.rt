@@ -11,6 +11,7 @@ ghost use Rattle.relation_upkeep.specs.Replace.{piece_value, piece_values, membe
 use dataset::DataSet;
 use osm_base::{Content, Key, Kind, Member, Members, Tags, Text, same_key};
 use std::alloc::{AllocError, Global};
+use tool_api::content_of;
 
 /// A piece of a way that was split.
 #[derive(Clone, Copy, Debug, PartialEq, Eq)]
@@ -29,16 +30,6 @@ fn same_bytes(a: &[u8], b: &[u8]) -> bool
     ensures { result ≡ same_text a.now b.now }
 {
     a == b
-}
-
-/// The living content of a key.
-fn living(ds: &DataSet, key: Key) -> Option<&Content>
-    ensures { option_copied result ≡ content_of ds.now key }
-{
-    match ds.entry(key) {
-        None => None,
-        Some(entry) => entry.mine(),
-    }
 }
 
 fn ends_of(ids: &[i64]) -> Option<(i64, i64)>
@@ -67,7 +58,7 @@ fn ends_beside(ds: &DataSet, way: Key, key: Key) -> Option<(i64, i64)>
     if same_key(way, key) {
         return None;
     }
-    match living(ds, key) {
+    match content_of(ds, key) {
         None => None,
         Some(content) => ends(content),
     }

@@ -55,3 +55,10 @@ one_step seen seen₁ keys all i none lt is before =
 -- a loop that inserts each key: what is left to do leads to the same list
 pub one_new : (seen seen₁ keys all : List Key) (i : ℕ) (none : Key) → i < length keys → seen₁ ≡ insert_key eq seen (get_or keys i none) → with_new seen (drop i keys) ≡ all → with_new seen₁ (drop (i + 1) keys) ≡ all
 one_new seen seen₁ keys all i none lt is before = rw add-one (one_step seen seen₁ keys all i none lt is before)
+
+-- a new key that is put at the end of a list and into a set of the same keys: they are still the same
+pub still_found : (ks ks₁ found found₁ : List Key) (k : Key) → ((q : Key) → list_any (eq q) found ≡ is_named ks q) → is_named ks k ≡ false → found₁ ≡ insert_key eq found k → ks₁ ≡ ks ++ k ∷ []
+    → (q : Key) → list_any (eq q) found₁ ≡ is_named ks₁ q
+still_found ks ks₁ found found₁ k same new put pushed q =
+    ap (list_any (eq q)) (put ∙ ap (λ b. if b then found else found ++ k ∷ []) (same k ∙ new)) ∙ list_any-append (eq q) found (k ∷ [])
+    ∙ (λ i. same q i || found_named (k ∷ []) q i) ∙ sym (ap (λ xs. is_named xs q) pushed ∙ list_any-append (is_key q) ks (k ∷ []))

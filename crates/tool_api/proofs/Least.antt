@@ -45,7 +45,7 @@ not_third true false true e = refl
 not_third false b true e = refl
 not_third a b false e = cc
 
-conflict_some : (o : Option Entry) → in_conflict o ≡ true → is_some o ≡ true
+pub conflict_some : (o : Option Entry) → in_conflict o ≡ true → is_some o ≡ true
 conflict_some None e = cc
 conflict_some (Some e) h = refl
 

@@ -1,7 +1,9 @@
+pub mod Bools
 pub mod Bridge
 pub mod Distincts
 pub mod Ends
 pub mod Examples
+pub mod Lasts
 pub mod Least
 pub mod Looks
 pub mod Passed

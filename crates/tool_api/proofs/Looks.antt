@@ -22,7 +22,7 @@ pub next_placed : (t : TableValue) (k : Key) (o : Option Entry) → (placed t k 
 next_placed t k None = refl
 next_placed t k (Some e) = refl
 
-either : (g : Key → Option Entry) (q k : Key) (a b : Bool) (old : Option Entry) → is_key q k ≡ b → cond a (g q) (cond b (g k) old) ≡ cond (b || a) (g q) old
+pub either : (g : Key → Option Entry) (q k : Key) (a b : Bool) (old : Option Entry) → is_key q k ≡ b → cond a (g q) (cond b (g k) old) ≡ cond (b || a) (g q) old
 either g q k true true old e = refl
 either g q k true false old e = refl
 either g q k false true old e = sym (ap g (one_key q k e))

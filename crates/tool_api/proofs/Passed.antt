@@ -81,7 +81,7 @@ pub none_passes : (p : Key → Bool) (ks : List Key) (q : Key) → find p ks ≡
 none_passes p [] q none has = cc
 none_passes p (k ∷ ks) q none has = none_at p q k ks (find p ks) (p k) (is_key q k) refl refl none has (none_passes p ks q)
 
-none_in : (o : Option Key) (f : Key → Refusal) → option_map f o ≡ None → o ≡ None
+pub none_in : (o : Option Key) (f : Key → Refusal) → option_map f o ≡ None → o ≡ None
 none_in None f e = refl
 none_in (Some x) f e = cc
 

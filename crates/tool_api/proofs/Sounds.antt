@@ -71,6 +71,9 @@ edit_there f (Some (Known base (Some c) conflict)) true h = refl
 edit_there f (Some (Known base None conflict)) true h = h
 edit_there f None true h = h
 
+pub edited_there : (f : Content → Content) (o : Option Entry) → IsThere o → IsThere (option_map (with_mine f) o)
+edited_there f o h = edit_there f o true h
+
 pub stays_there : (t : TableValue) (f : Content → Content) (ks : List Key) (r : Key) → IsThere (entry_of t r) → IsThere (entry_of (changed t (edit t f) ks) r)
 stays_there t f ks r h = subst IsThere (sym (entry_changed t (edit t f) ks r)) (edit_there f (entry_of t r) (is_named ks r) h)
 
@@ -117,7 +120,7 @@ absent_case t k (Some e) s is = absurd (no_new t.next k e s.number.0 (s.entries 
 pub new_absent : (t : TableValue) (k : Kind) → IsSound t → entry_of t (new_key k t.next) ≡ None
 new_absent t k s = absent_case t k _ s refl
 
-only_fits : (c : Content) → (fits c ≡ true) ⊎ (◌≡◌ {A = Option Content} None (Some c)) → fits c ≡ true
+pub only_fits : (c : Content) → (fits c ≡ true) ⊎ (◌≡◌ {A = Option Content} None (Some c)) → fits c ≡ true
 only_fits c (inl fit) = fit
 only_fits c (inr same) = cc
 

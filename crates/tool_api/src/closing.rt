@@ -4,10 +4,10 @@
 //! draft doesn't name is as it was.
 ghost use Rattle.std.specs.Prelude.{◌≡◌, None, IfOk, OnOk, OnErr, is_some};
 ghost use Rattle.std.specs.List.{find, count_by};
-ghost use Rattle.std.specs.Option.{option_copied, option_and_then};
+ghost use Rattle.std.specs.Option.{option_copied};
 ghost use Rattle.std.specs.FinMap as map;
 ghost use Rattle.osm_table.specs.Same.{same_mine};
-ghost use Rattle.osm_table.specs.Table.{entry_of, mine_of};
+ghost use Rattle.osm_table.specs.Table.{entry_of};
 ghost use Rattle.dataset.specs.Diff.{same_at};
 ghost use Rattle.dataset.specs.Draft.{drafted};
 ghost use Rattle.dataset.specs.Sound.{IsSound};
@@ -17,6 +17,7 @@ ghost use Rattle.tool_api.specs.Patches.{Kept};
 ghost use Rattle.tool_api.specs.Plain.{answered};
 ghost use Rattle.tool_api.specs.declared.reply.Reply.TheVariants.{Done};
 
+use crate::contents::content;
 use crate::refusal::Refusal;
 use crate::reply::Reply;
 use crate::steps::Steps;
@@ -73,15 +74,6 @@ fn disturb_test(ds: &DataSet, draft: &Draft, named: &[Key], keys: &[Key]) -> Opt
     match disturbed(ds, draft, named, keys) {
         None => None,
         Some(key) => Some(Refusal::InConflict(key)),
-    }
-}
-
-fn content(found: Option<&Entry>) -> Option<&Content>
-    ensures { option_copied result ≡ option_and_then mine_of (option_copied found.entry) }
-{
-    match found {
-        None => None,
-        Some(entry) => entry.mine(),
     }
 }
 

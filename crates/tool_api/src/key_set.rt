@@ -1,5 +1,5 @@
 //! Lists of keys in which a key is found without a walk.
-ghost use Rattle.std.specs.Prelude.{◌≡◌, [], IfOk};
+ghost use Rattle.std.specs.Prelude.{◌≡◌, ◌++◌, ◌∷◌, [], if◌then◌else◌, IfOk, OnOk, OnErr};
 ghost use Rattle.tool_api.specs.Tests.{is_named};
 ghost use Rattle.tool_api.specs.Distinct.{distinct};
 
@@ -32,11 +32,21 @@ impl Model for KeySet {
 }
 
 impl KeySet {
+    /// No keys. It takes no memory.
+    pub fn new(alloc: Global) -> KeySet
+        ensures { result ≡ [] }
+    {
+        KeySet {
+            keys: Vec::new(alloc),
+            index: IndexSet::new(alloc),
+        }
+    }
+
     /// These keys. The vector is kept as it is, and each key hashed once.
     ///
     /// # Errors
     /// No memory was left.
-    pub fn new(keys: Vec<Key>) -> Result<KeySet, AllocError>
+    pub fn from_vec(keys: Vec<Key>) -> Result<KeySet, AllocError>
         ensures { IfOk result (λ set. set ≡ keys.items) }
     {
         let index = index_of(*keys.allocator(), &keys)?;
@@ -50,7 +60,12 @@ impl KeySet {
     pub fn from_slice(alloc: Global, keys: &[Key]) -> Result<KeySet, AllocError>
         ensures { IfOk result (λ set. set ≡ keys.now) }
     {
-        KeySet::new(Vec::from_slice(alloc, keys)?)
+        KeySet::from_vec(Vec::from_slice(alloc, keys)?)
+    }
+
+    /// The allocator that it takes its memory from.
+    pub fn alloc(&self) -> Global {
+        *self.keys.allocator()
     }
 
     /// Whether the key is one of those. One look-up.
@@ -58,6 +73,25 @@ impl KeySet {
         ensures { result ≡ is_named self.now key }
     {
         self.index.contains(&key)
+    }
+
+    /// Puts a key at the end, unless it is one of those already. One look-up, and one more to put it.
+    ///
+    /// # Errors
+    /// No memory was left, and nothing has changed.
+    pub fn put(&mut self, key: Key) -> Result<(), AllocError>
+        ensures ok { OnOk result (self.new ≡ (if is_named self.old key then self.old else self.old ++ key ∷ [])) }
+        ensures err { OnErr result (self.new ≡ self.old) }
+    {
+        if self.contains(key) {
+            return Ok(());
+        }
+        self.keys.reserve(1)?;
+        self.index.insert(key)?;
+        match self.keys.push(key) {
+            Ok(()) => Ok(()),
+            Err(_) => unreachable!(),
+        }
     }
 
     /// The keys, in order.

@@ -11,10 +11,13 @@
 #![tactic(auto)]
 
 mod closing;
+mod contents;
+mod deletion;
 mod edits;
 mod job;
 mod key_set;
 mod kinds;
+mod nodes;
 mod order;
 mod refusal;
 mod reply;
@@ -25,15 +28,20 @@ mod uses;
 mod verb;
 
 pub use closing::{accept, closing_tests, finish, room_test};
+pub use contents::{content_of, is_relation, refs_at};
+pub use deletion::delete_all;
 pub use edits::{EditContent, edit_all, edited_draft};
 pub use job::Job;
 pub use key_set::{KeySet, distinct};
 pub use kinds::Kinds;
+pub use nodes::{node_key, node_keys};
 pub use order::ranked;
 pub use refusal::Refusal;
 pub use reply::Reply;
 pub use steps::Steps;
-pub use tests::{is_named, list_tests, reference_tests, target_test, target_tests, twice_test};
+pub use tests::{
+    complete_test, is_named, list_tests, reference_tests, target_test, target_tests, twice_test,
+};
 pub use tool::Tool;
-pub use uses::{use_test, use_tests};
+pub use uses::{all_users, use_test, use_tests};
 pub use verb::Verb;

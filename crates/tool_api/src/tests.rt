@@ -1,10 +1,14 @@
 //! The tests that jobs share. Each gives the first refusal in the fixed order, or none.
 ghost use Rattle.std.specs.Prelude.{◌≡◌, [], IfOk};
+ghost use Rattle.std.specs.List.{find};
 ghost use Rattle.std.specs.Option.{option_copied};
+ghost use Rattle.osm_base.specs.Content.{node};
 ghost use Rattle.osm_table.specs.Table.{entry_of};
+ghost use Rattle.tool_api.specs.Split.{complete_test, is_incomplete};
 ghost use Rattle.tool_api.specs.Tests.{is_named, entry_test, target_test, twice_test, list_tests, ref_entry_test, ref_tests, first_of};
 
 use crate::kinds::Kinds;
+use crate::nodes::node_key;
 use crate::refusal::Refusal;
 use dataset::DataSet;
 use indexmap::IndexSet;
@@ -107,4 +111,31 @@ pub fn reference_tests(ds: &DataSet, refs: &[Key]) -> Option<Refusal>
         }
     }
     None
+}
+
+fn is_incomplete(found: Option<&Entry>) -> bool
+    ensures { result ≡ is_incomplete (option_copied found.entry) }
+{
+    match found {
+        Some(Entry::Incomplete) => true,
+        _ => false,
+    }
+}
+
+fn first_incomplete(ds: &DataSet, refs: &[i64]) -> Option<i64>
+    ensures { result ≡ find (λ n. is_incomplete (entry_of ds.now (node n))) refs.now }
+{
+    refs.iter()
+        .copied()
+        .find(|id| is_incomplete(ds.entry(node_key(*id))))
+}
+
+/// IncompleteObject with the first of a way's nodes that is Incomplete. A look-up each.
+pub fn complete_test(ds: &DataSet, refs: &[i64]) -> Option<Refusal>
+    ensures { result ≡ complete_test ds.now refs.now }
+{
+    match first_incomplete(ds, refs) {
+        None => None,
+        Some(id) => Some(Refusal::IncompleteObject(node_key(id))),
+    }
 }

@@ -1,12 +1,14 @@
-//! The test of who uses the objects that a job takes away.
-ghost use Rattle.std.specs.Prelude.{◌≡◌, not};
-ghost use Rattle.std.specs.List.{find};
+//! Who uses objects, and the test of it for those that a job takes away.
+ghost use Rattle.std.specs.Prelude.{◌≡◌, not, IfOk};
+ghost use Rattle.std.specs.List.{find, flat_map};
+ghost use Rattle.osm_table.specs.Table.{users};
 ghost use Rattle.tool_api.specs.Tests.{is_named, use_test, first_of};
 
 use crate::key_set::KeySet;
 use crate::refusal::Refusal;
 use dataset::DataSet;
 use osm_base::Key;
+use std::alloc::AllocError;
 
 fn first_other(users: &[Key], named: &KeySet) -> Option<Key>
     ensures { result ≡ find (λ u. not (is_named named.now u)) users.now }
@@ -34,4 +36,18 @@ pub fn use_tests(ds: &DataSet, named: &KeySet, keys: &[Key]) -> Option<Refusal>
         }
     }
     None
+}
+
+/// The users of each of the keys, one after the other. It costs them all.
+///
+/// # Errors
+/// No memory was left.
+pub fn all_users(ds: &DataSet, keys: &[Key]) -> Result<Vec<Key>, AllocError>
+    ensures { IfOk result (λ all. all.items ≡ flat_map (users ds.now) keys.now) }
+{
+    let mut all = Vec::new(ds.alloc());
+    for key in keys {
+        all.extend_from_slice(ds.users(*key))?;
+    }
+    Ok(all)
 }

@@ -23,6 +23,7 @@ use Rattle.tool_api.specs.Tests.{first_of, is_named, takes, entry_test, target_t
 use Rattle.tool_api.proofs.Bridge.{ranked_filter, named_ranked}
 use Rattle.tool_api.proofs.Passed.{both_none}
 use Rattle.tools_basic.specs.Moves.{moved_with, all_moved_with}
+use Rattle.tool_api.proofs.Bools.{by_either, or_true, false_between}
 
 -- what is there has an entry
 there_some : (o : Option Entry) → IsThere o → is_some o ≡ true
@@ -42,33 +43,25 @@ node_kind q (id ∷ ids) h = node_step q id (is_key q (node id)) (is_named (map 
 abbrev moves_with : TableValue → Key → Key → Option Content → Bool
 moves_with t q k o = (takes Nodes q.kind && (is_key q k || option_map_or (λ c. refers c q) o false)) && is_some (entry_of t q)
 
-off : (x y : Bool) → false ≡ ((x && false) && y)
-off true y = refl
-off false y = refl
-
 by_itself : (t : TableValue) (q k : Key) (b : Bool) → is_key q k ≡ b → k.kind ≡ kind.Node → is_some (entry_of t k) ≡ true → (b || false) ≡ ((takes Nodes q.kind && (b || false)) && is_some (entry_of t q))
 by_itself t q k true is node some =
     let one = one_key q k is in
     let takes_it : takes Nodes q.kind ≡ true = ap (λ (j : Key). takes Nodes j.kind) one ∙ ap (takes Nodes) node in
     let has : is_some (entry_of t q) ≡ true = ap (λ (j : Key). is_some (entry_of t j)) one ∙ some in
     rw (takes_it, has) refl
-by_itself t q k false is node some = off (takes Nodes q.kind) (is_some (entry_of t q))
-
-either_way : (b : Bool) → (b || true) ≡ true
-either_way true = refl
-either_way false = refl
+by_itself t q k false is node some = false_between (takes Nodes q.kind) (is_some (entry_of t q))
 
 not_itself : (q k : Key) (b y : Bool) → is_key q k ≡ b → k.kind ≡ kind.Way → false ≡ ((takes Nodes q.kind && (b || false)) && y)
 not_itself q k true y is way =
     let refuses : takes Nodes q.kind ≡ false = ap (λ (j : Key). takes Nodes j.kind) (one_key q k is) ∙ ap (takes Nodes) way in
     rw refuses refl
-not_itself q k false y is way = off (takes Nodes q.kind) y
+not_itself q k false y is way = false_between (takes Nodes q.kind) y
 
 by_way : (t : TableValue) (q k : Key) (r : Bool) → k.kind ≡ kind.Way → (r ≡ true → q.kind ≡ kind.Node) → (r ≡ true → IsThere (entry_of t q)) → r ≡ ((takes Nodes q.kind && (is_key q k || r)) && is_some (entry_of t q))
 by_way t q k true way node there =
     let takes_it : takes Nodes q.kind ≡ true = ap (takes Nodes) (node refl) in
     let has = there_some (entry_of t q) (there refl) in
-    let or = either_way (is_key q k) in
+    let or = or_true (is_key q k) in
     rw (takes_it, has, or) refl
 by_way t q k false way node there = not_itself q k (is_key q k) (is_some (entry_of t q)) refl way
 
@@ -110,7 +103,7 @@ together true false false false false false = refl
 
 -- the nodes that move with objects that passed their tests
 named_moved : (t : TableValue) (keys : List Key) (q : Key) → IsSound t → first_of (target_test t NodesAndWays) keys ≡ None → is_named (all_moved_with t keys) q ≡ (is_moved t keys q && is_some (entry_of t q))
-named_moved t [] q s passed = off (takes Nodes q.kind) (is_some (entry_of t q))
+named_moved t [] q s passed = false_between (takes Nodes q.kind) (is_some (entry_of t q))
 named_moved t (k ∷ ks) q s passed =
     let p = both_none (target_test t NodesAndWays k) (first_of (target_test t NodesAndWays) ks) passed in
     list_any-append (is_key q) (moved_with k (option_and_then mine_of (entry_of t k))) (all_moved_with t ks)
@@ -141,14 +134,10 @@ entry_there t q k (Some Incomplete) s is h = cc
 entry_there t q k (Some (Known base None conflict)) s is h = cc
 entry_there t q k (Some (Known base (Some c) conflict)) s is h = content_there t q k c (subst IsThere (sym is) refl) (s.closed k _ is q) h
 
-one_of : (P : Type 0) (a b : Bool) → (a || b) ≡ true → (a ≡ true → P) → (b ≡ true → P) → P
-one_of P true b h f g = f refl
-one_of P false b h f g = g h
-
 collected_there : (t : TableValue) (keys : List Key) (q : Key) → IsSound t → is_named (all_moved_with t keys) q ≡ true → IsThere (entry_of t q)
 collected_there t [] q s h = cc
 collected_there t (k ∷ ks) q s h =
-    one_of (IsThere (entry_of t q)) _ _ (sym (list_any-append (is_key q) (moved_with k (option_and_then mine_of (entry_of t k))) (all_moved_with t ks)) ∙ h)
+    by_either (IsThere (entry_of t q)) _ _ (sym (list_any-append (is_key q) (moved_with k (option_and_then mine_of (entry_of t k))) (all_moved_with t ks)) ∙ h)
     (entry_there t q k (entry_of t k) s refl) (collected_there t ks q s)
 
 pub moved_there : (t : TableValue) (keys : List Key) (q : Key) → IsSound t → list_tests t NodesAndWays keys ≡ None → is_named (moved_nodes t keys) q ≡ true → IsThere (entry_of t q)

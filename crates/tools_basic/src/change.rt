@@ -5,11 +5,13 @@ ghost use Rattle.tool_api.specs.Patches.{Kept};
 ghost use Rattle.tool_api.specs.Plain.{answered};
 
 use crate::edit::edit_each;
-use crate::references::{member_keys, node_keys};
+use crate::references::member_keys;
 use dataset::{DataSet, Patch};
 use osm_base::{Content, Coord, Key, Members, Refs};
 use std::alloc::{AllocError, Global};
-use tool_api::{EditContent, Job, Kinds, Reply, Steps, Tool, Verb, reference_tests, target_test};
+use tool_api::{
+    EditContent, Job, Kinds, Reply, Steps, Tool, Verb, node_keys, reference_tests, target_test,
+};
 
 /// Puts a node at another place.
 #[derive(Drop)]

@@ -1,24 +1,10 @@
 //! The references that an object would have.
 ghost use Rattle.std.specs.Prelude.{◌≡◌, map, IfOk};
-ghost use Rattle.osm_base.specs.Content.{refs_of, node};
+ghost use Rattle.osm_base.specs.Content.{refs_of};
 
-use osm_base::{Content, Key, Kind, Member};
+use osm_base::{Content, Key, Member};
 use std::alloc::{AllocError, Global};
-
-/// The keys of nodes.
-///
-/// # Errors
-/// No memory was left.
-pub fn node_keys(alloc: Global, ids: &[i64]) -> Result<Vec<Key>, AllocError>
-    ensures { IfOk result (λ keys. keys.items ≡ map node ids.now) }
-{
-    ids.iter()
-        .map(|id| Key {
-            kind: Kind::Node,
-            id: *id,
-        })
-        .collect(alloc)
-}
+use tool_api::node_keys;
 
 /// The keys of members.
 ///

@@ -10,14 +10,13 @@ ghost use Rattle.tool_api.specs.Plain.{answered};
 ghost use Rattle.tool_api.specs.Tests.{first_of, list_tests};
 ghost use Rattle.tools_basic.specs.Moves.{moved_with, all_moved_with};
 
-use crate::references::node_keys;
 use dataset::{DataSet, Patch};
 use osm_base::{Content, Coord, Key, Keys, shift};
 use osm_table::Entry;
 use std::alloc::{AllocError, Global};
 use tool_api::{
-    EditContent, Job, Kinds, Refusal, Reply, Steps, Tool, Verb, edited_draft, finish, list_tests,
-    ranked,
+    EditContent, Job, Kinds, Refusal, Reply, Steps, Tool, Verb, content_of, edited_draft, finish,
+    list_tests, node_keys, ranked,
 };
 
 /// How far nodes are moved to the east and to the north, in units of 10^-7 degree.
@@ -53,7 +52,7 @@ impl EditContent for Offset {
 fn push_moved(ds: &DataSet, key: Key, nodes: &mut Vec<Key>) -> Result<(), AllocError>
     ensures { OnOk result (nodes.new.items ≡ nodes.old.items ++ moved_with key (content_of ds.now key)) }
 {
-    match ds.entry(key).and_then(Entry::mine) {
+    match content_of(ds, key) {
         Some(Content::Node { .. }) => nodes.push(key)?,
         Some(Content::Way { refs, .. }) => {
             let of_way = node_keys(ds.alloc(), refs.as_slice())?;

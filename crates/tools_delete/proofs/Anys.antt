@@ -9,10 +9,8 @@ use Rattle.osm_base.proofs.RisingKeys.{one_key, key_itself}
 use Rattle.osm_base.specs.declared.key.Key.{Key}
 use Rattle.tool_api.specs.declared.refusal.Refusal.{Refusal}
 use Rattle.tool_api.specs.Tests.{is_named}
-
-or_right : (a b : Bool) → b ≡ true → (a || b) ≡ true
-or_right true b e = refl
-or_right false b e = e
+use Rattle.tool_api.proofs.Bools.{or_right, both, and_left, and_right, by_either, and_false}
+use Rattle.tool_api.proofs.Passed.{none_in}
 
 -- a key of a list that passes is one that passes
 any_case : (p : Key → Bool) (q k : Key) (b rest c : Bool) → is_key q k ≡ b → (b || c) ≡ true → p q ≡ true → (c ≡ true → rest ≡ true) → (p k || rest) ≡ true
@@ -37,21 +35,10 @@ pub passing : (p : Key → Bool) (ks : List Key) → list_any p ks ≡ true → 
 passing p [] any = cc
 passing p (k ∷ ks) any = first_passing p k ks (p k) refl any (passing p ks)
 
-both : (a b : Bool) → a ≡ true → b ≡ true → (a && b) ≡ true
-both a b e f = rw (e, f) refl
-
-pub fore : (a b : Bool) → (a && b) ≡ true → a ≡ true
-fore true b e = refl
-fore false b e = cc
-
-pub aft : (a b : Bool) → (a && b) ≡ true → b ≡ true
-aft true b e = e
-aft false b e = cc
-
 half : (r : Key → Bool) (xs ys : List Key) → list_any (λ k. is_named ys k && r k) xs ≡ true → list_any (λ k. is_named xs k && r k) ys ≡ true
 half r xs ys any =
     let p = passing (λ k. is_named ys k && r k) xs any in
-    any_passes (λ k. is_named xs k && r k) p.key ys (fore (is_named ys p.key) (r p.key) p.passes) (both _ _ p.among (aft (is_named ys p.key) (r p.key) p.passes))
+    any_passes (λ k. is_named xs k && r k) p.key ys (and_left (is_named ys p.key) (r p.key) p.passes) (both _ _ p.among (and_right (is_named ys p.key) (r p.key) p.passes))
 
 -- two lists have a key in common that passes, from whichever side one looks
 pub common_passing : (r : Key → Bool) (xs ys : List Key) → list_any (λ k. is_named ys k && r k) xs ≡ list_any (λ k. is_named xs k && r k) ys
@@ -68,10 +55,6 @@ pub named_flat : (f : Key → List Key) (ks : List Key) (q : Key) → is_named (
 named_flat f [] q = refl
 named_flat f (k ∷ ks) q = list_any-append (is_key q) (f k) (flat_map f ks) ∙ ap (λ b. is_named (f k) q || b) (named_flat f ks q)
 
-pub none_in : (o : Option Key) (f : Key → Refusal) → option_map f o ≡ None → o ≡ None
-none_in None f e = refl
-none_in (Some x) f e = cc
-
 -- where none is found, none passes
 none_found : (k : Key) (b : Bool) (found : Option Key) (rest : Bool) → cond b (Some k) found ≡ None → (found ≡ None → rest ≡ false) → (b || rest) ≡ false
 none_found k true found rest e h = cc
@@ -84,11 +67,7 @@ none_any p (k ∷ ks) e = none_found k (p k) (find p ks) (list_any p ks) e (none
 -- where one doesn't pass, not all do
 fails_case : (p : Key → Bool) (q k : Key) (b rest c : Bool) → is_key q k ≡ b → (b || c) ≡ true → p q ≡ false → (c ≡ true → rest ≡ false) → (p k && rest) ≡ false
 fails_case p q k true rest c is has fails there = ap (λ x. p x && rest) (sym (one_key q k is)) ∙ ap (λ b. b && rest) fails
-fails_case p q k false rest c is has fails there = and_right (p k) rest (there has)
-  where
-    and_right : (a b : Bool) → b ≡ false → (a && b) ≡ false
-    and_right true b e = e
-    and_right false b e = refl
+fails_case p q k false rest c is has fails there = and_false (p k) rest (there has)
 
 pub not_all : (p : Key → Bool) (q : Key) (ks : List Key) → is_named ks q ≡ true → p q ≡ false → list_all p ks ≡ false
 not_all p q [] has fails = cc
@@ -128,10 +107,6 @@ module _ {X : Type 0} (p : X → Bool) (same : X → X → Bool) where
 
 -- lists of anything
 
-gives_case : (P : Type 0) (b c : Bool) → (b || c) ≡ true → (b ≡ true → P) → (c ≡ true → P) → P
-gives_case P true c e here there = here refl
-gives_case P false c e here there = there e
-
 or_weaker : (a b c d : Bool) → (a ≡ true → c ≡ true) → (b ≡ true → d ≡ true) → (a || b) ≡ true → (c || d) ≡ true
 or_weaker true b c d f g e = ap (λ x. x || d) (f refl)
 or_weaker false b c d f g e = or_right c d (g e)
@@ -149,7 +124,7 @@ module _ {X : Type 0} where
   -- what each that passes gives, a list gives in which one passes
   pub any_gives : (P : Type 0) (p : X → Bool) (xs : List X) → list_any p xs ≡ true → ((x : X) → p x ≡ true → P) → P
   any_gives P p [] any each = cc
-  any_gives P p (x ∷ xs) any each = gives_case P (p x) (list_any p xs) any (each x) (λ there. any_gives P p xs there each)
+  any_gives P p (x ∷ xs) any each = by_either P (p x) (list_any p xs) any (each x) (λ there. any_gives P p xs there each)
 
   pub any_weaker : (p q : X → Bool) (xs : List X) → ((x : X) → p x ≡ true → q x ≡ true) → list_any p xs ≡ true → list_any q xs ≡ true
   any_weaker p q [] each any = any

@@ -22,9 +22,8 @@ use Rattle.tool_api.specs.Gone.{delete_all}
 use Rattle.tool_api.specs.declared.reply.Reply.TheVariants.{Done}
 use Rattle.tool_api.specs.Plain.{Answer, answered}
 use Rattle.tool_api.proofs.Looks.{entry_changed}
-use Rattle.tool_api.proofs.Passed.{Lives, lives, named_lives, both_none, passes, none_passes}
+use Rattle.tool_api.proofs.Passed.{Lives, lives, named_lives, both_none, passes, none_passes, none_in}
 use Rattle.tool_api.proofs.Sounds.{each_changed, next_is}
-use Rattle.tools_delete.proofs.Anys.{none_in}
 
 -- What is left of a deleted entry.
 

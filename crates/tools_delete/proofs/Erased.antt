@@ -19,6 +19,7 @@ use Rattle.tool_api.specs.Gone.{erased, falls, goes, gone_keys, is_bare, is_left
 use Rattle.tool_api.proofs.Looks.{entry_changed, next_changed}
 use Rattle.tools_delete.specs.Touched.{falls_short, has_gone, is_left_by, lives_as_relation, lives_as_way, loses_members}
 use Rattle.tools_delete.proofs.Anys.{whole}
+use Rattle.tool_api.proofs.Bools.{and_false, or_none}
 
 -- an entry that goes, is mended, or loses members
 abbrev pub touched : Bool → Bool → Bool → (Content → Content) → (Content → Content) → Option Entry → Option Entry
@@ -115,16 +116,9 @@ same_edited : (going : List Key) (o : Option Entry) → option_map_or is_relatio
 same_edited going None is none = cc
 same_edited going (Some e) is none = ap Some (relation_case going e is none)
 
-and_false : (a b : Bool) → b ≡ false → (a && b) ≡ false
-and_false true b e = e
-and_false false b e = refl
-
 and_no : (b : Bool) → (b && false) ≡ false
 and_no true = refl
 and_no false = refl
-
-or_no : (a b : Bool) → a ≡ false → b ≡ false → (a || b) ≡ false
-or_no a b e f = rw (e, f) refl
 
 -- where a relation stays and has no member that goes, nothing changes
 fewer_case : (f g : Content → Content) (going mending falls rel has : Bool) (o : Option Entry)
@@ -148,7 +142,7 @@ fewer t named going f q =
     fewer_case f (with_members (members_without (is_named going))) (goes t named q) (mends t named q) (falls t named q) (lives_as_relation t q) (option_map_or (has_gone going) (content_of t q) false) (entry_of t q)
     (same_edited going (entry_of t q))
     (λ rel. ap (λ b. b && not (falls t named q)) (and_false (not (is_named named q)) _ (not_mended named (content_of t q) rel)))
-    (λ rel stays. or_no (falls t named q) (is_left t named q) stays (ap (λ b. b && list_any (λ u. falls t named u && lives_as_way t u) (users t q) && list_all (falls t named) (users t q)) (not_bare (entry_of t q) rel)))
+    (λ rel stays. or_none (falls t named q) (is_left t named q) stays (ap (λ b. b && list_any (λ u. falls t named u && lives_as_way t u) (users t q) && list_all (falls t named) (users t q)) (not_bare (entry_of t q) rel)))
     (has_relation going (content_of t q))
 
 and_turned : (a b : Bool) → (a && b) ≡ (b && a)

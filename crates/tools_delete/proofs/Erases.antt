@@ -30,12 +30,13 @@ use Rattle.tool_api.specs.Closing.{closing, closing_tests, disturbs, in_conflict
 use Rattle.tool_api.specs.Gone.{erase, erased, falls, goes, is_bare, is_left, is_mended, is_mended_content, is_relation, is_short, is_way, members_without, mended}
 use Rattle.tool_api.specs.Plain.{Answer, answered}
 use Rattle.tool_api.proofs.Least.{disturbs_at, has_key}
-use Rattle.tool_api.proofs.Passed.{Lives, lives, named_lives, both_none, passed_tests, unspoiled, fits_or_stays, none_passes}
-use Rattle.tool_api.proofs.Sounds.{content_edited}
+use Rattle.tool_api.proofs.Passed.{Lives, lives, named_lives, both_none, passed_tests, unspoiled, fits_or_stays, none_passes, none_in}
+use Rattle.tool_api.proofs.Sounds.{content_edited, edited_there}
 use Rattle.tools_delete.specs.Touched.{lives_as_relation, lives_as_way}
-use Rattle.tools_delete.proofs.Anys.{aft, any_dedup, any_filter, any_gives, any_weaker, fore, none_in, not_all}
+use Rattle.tools_delete.proofs.Anys.{any_dedup, any_filter, any_gives, any_weaker, not_all}
 use Rattle.tools_delete.proofs.Deletes.{by_name, either, is_user, left_from, left_refers, left_sound, never}
 use Rattle.tools_delete.proofs.Erased.{entry_erased, loss, mends, next_erased, stays_related, touched}
+use Rattle.tool_api.proofs.Bools.{and_false, or_none, none_of_two, and_right, and_left}
 
 -- What the closing tests let pass.
 
@@ -68,12 +69,12 @@ left_members gone r members has =
 pub member_stays : (gone : Key → Bool) (r : Key) (members : List Member) → is_named (map (λ (m : Member). m.key) (members_without gone members)) r ≡ true → gone r ≡ false
 member_stays gone r members has =
     any_gives (gone r ≡ false) (λ (m : Member). not (gone m.key) && is_key r m.key) members (left_members gone r members has)
-    (λ m e. ap gone (one_key r m.key (aft (not (gone m.key)) (is_key r m.key) e)) ∙ not_false (gone m.key) (fore (not (gone m.key)) (is_key r m.key) e))
+    (λ m e. ap gone (one_key r m.key (and_right (not (gone m.key)) (is_key r m.key) e)) ∙ not_false (gone m.key) (and_left (not (gone m.key)) (is_key r m.key) e))
 
 pub member_was : (gone : Key → Bool) (r : Key) (members : List Member) → is_named (map (λ (m : Member). m.key) (members_without gone members)) r ≡ true → is_named (map (λ (m : Member). m.key) members) r ≡ true
 member_was gone r members has =
     list_any_map (is_key r) (λ (m : Member). m.key) members
-    ∙ any_weaker (λ (m : Member). not (gone m.key) && is_key r m.key) (λ (m : Member). is_key r m.key) members (λ m e. aft (not (gone m.key)) (is_key r m.key) e) (left_members gone r members has)
+    ∙ any_weaker (λ (m : Member). not (gone m.key) && is_key r m.key) (λ (m : Member). is_key r m.key) members (λ m e. and_right (not (gone m.key)) (is_key r m.key) e) (left_members gone r members has)
 
 -- references that stay were there, and aren't named
 left_ids : (named : List Key) (r : Key) (refs : List ℤ) → is_named (map node (mended named refs)) r ≡ true → list_any (λ n. not (is_named named (node n)) && is_key r (node n)) refs ≡ true
@@ -84,12 +85,12 @@ left_ids named r refs has =
 pub ref_stays : (named : List Key) (r : Key) (refs : List ℤ) → is_named (map node (mended named refs)) r ≡ true → is_named named r ≡ false
 ref_stays named r refs has =
     any_gives (is_named named r ≡ false) (λ n. not (is_named named (node n)) && is_key r (node n)) refs (left_ids named r refs has)
-    (λ n e. ap (is_named named) (one_key r (node n) (aft (not (is_named named (node n))) (is_key r (node n)) e)) ∙ not_false (is_named named (node n)) (fore (not (is_named named (node n))) (is_key r (node n)) e))
+    (λ n e. ap (is_named named) (one_key r (node n) (and_right (not (is_named named (node n))) (is_key r (node n)) e)) ∙ not_false (is_named named (node n)) (and_left (not (is_named named (node n))) (is_key r (node n)) e))
 
 pub ref_was : (named : List Key) (r : Key) (refs : List ℤ) → is_named (map node (mended named refs)) r ≡ true → is_named (map node refs) r ≡ true
 ref_was named r refs has =
     list_any_map (is_key r) node refs
-    ∙ any_weaker (λ n. not (is_named named (node n)) && is_key r (node n)) (λ n. is_key r (node n)) refs (λ n e. aft (not (is_named named (node n))) (is_key r (node n)) e) (left_ids named r refs has)
+    ∙ any_weaker (λ n. not (is_named named (node n)) && is_key r (node n)) (λ n. is_key r (node n)) refs (λ n e. and_right (not (is_named named (node n))) (is_key r (node n)) e) (left_ids named r refs has)
 
 -- a way that isn't mended has no named node
 unnamed_ref : (named : List Key) (r : Key) (refs : List ℤ) → list_any (λ n. is_named named (node n)) refs ≡ false → is_named (map node refs) r ≡ true → is_named named r ≡ false
@@ -117,28 +118,15 @@ mine_kind n k None s = tt
 mine_kind n k (Some Incomplete) s = tt
 mine_kind n k (Some (Known base mine conflict)) s = (s (Known base mine conflict) refl).kinds.1
 
-and_no : (a b : Bool) → b ≡ false → (a && b) ≡ false
-and_no true b e = e
-and_no false b e = refl
-
-or_no : (a b : Bool) → a ≡ false → b ≡ false → (a || b) ≡ false
-or_no a b e f = rw (e, f) refl
-
 -- a node that isn't named, of a way that doesn't fall, stays
 node_stays : (t : TableValue) (named : List Key) (k r : Key) (refs : List ℤ) → IsSound t → is_named (users t r) k ≡ true → falls t named k ≡ false → is_named (map node refs) r ≡ true → is_named named r ≡ false → goes t named r ≡ false
 node_stays t named k r refs s used stays has unnamed =
-    let unmended : is_mended t named r ≡ false = and_no (not (is_named named r)) _ (no_way named r.kind (content_of t r) (mine_kind t.next r (entry_of t r) (s.entries r)) (node_kind r refs has)) in
-    let upright : falls t named r ≡ false = or_no (is_named named r) _ unnamed (ap (λ b. b && option_map_or (is_short named) (content_of t r) false) unmended) in
-    or_no (falls t named r) (is_left t named r) upright
-    (and_no (is_bare (entry_of t r) && list_any (λ u. falls t named u && lives_as_way t u) (users t r)) _ (not_all (falls t named) k (users t r) used stays))
+    let unmended : is_mended t named r ≡ false = and_false (not (is_named named r)) _ (no_way named r.kind (content_of t r) (mine_kind t.next r (entry_of t r) (s.entries r)) (node_kind r refs has)) in
+    let upright : falls t named r ≡ false = or_none (is_named named r) _ unnamed (ap (λ b. b && option_map_or (is_short named) (content_of t r) false) unmended) in
+    or_none (falls t named r) (is_left t named r) upright
+    (and_false (is_bare (entry_of t r) && list_any (λ u. falls t named u && lives_as_way t u) (users t r)) _ (not_all (falls t named) k (users t r) used stays))
 
 -- what is there stays there, unless it goes
-edited_there : (f : Content → Content) (o : Option Entry) → IsThere o → IsThere (option_map (with_mine f) o)
-edited_there f None h = h
-edited_there f (Some Incomplete) h = tt
-edited_there f (Some (Known base None conflict)) h = h
-edited_there f (Some (Known base (Some c) conflict)) h = refl
-
 there_touched : (mending losing : Bool) (f g : Content → Content) (o : Option Entry) → IsThere o → IsThere (touched false mending losing f g o)
 there_touched true true f g o there = edited_there g o there
 there_touched false true f g o there = edited_there g o there
@@ -180,10 +168,6 @@ entry_refers P named (Known base (Some (content.Node tags at)) conflict) r used 
 entry_refers P named (Known base (Some (content.Way tags refs)) conflict) r used way relation = way refs used refl
 entry_refers P named (Known base (Some (content.Relation tags members)) conflict) r used way relation = relation refl
 
-none_of_two : (a b : Bool) → (a || b) ≡ false → (a ≡ false) × (b ≡ false)
-none_of_two true b e = cc
-none_of_two false b e = (refl, e)
-
 -- a way that is neither named nor mended
 unmended : (named falls m : Bool) → ((not named && m) && not falls) ≡ false → named ≡ false → falls ≡ false → m ≡ false
 unmended true falls m e n f = cc
@@ -200,7 +184,7 @@ module _ (t : TableValue) (named : List Key) (s : IsSound t) (k r : Key) where
   related_there : (e : Entry) → stays_related t named k ≡ true → option_map (with_mine (loss t named)) (entry_of t k) ≡ Some e → uses e r ≡ true → IsThere (entry_of (erased t named) r)
   related_there e is new used =
       edited_from _ (loss t named) e (entry_of t k) new (λ x old same.
-      let rel : option_map_or is_relation (mine_of x) false ≡ true = ap (λ (o : Option Entry). option_map_or is_relation (option_and_then mine_of o) false) (sym old) ∙ aft (not (falls t named k)) (lives_as_relation t k) is in
+      let rel : option_map_or is_relation (mine_of x) false ≡ true = ap (λ (o : Option Entry). option_map_or is_relation (option_and_then mine_of o) false) (sym old) ∙ and_right (not (falls t named k)) (lives_as_relation t k) is in
       let p = loss_refers (goes t named) x r rel (ap (λ y. uses y r) same ∙ used) in
       stays_there t named r p.0 (s.closed k x old r p.1))
 
@@ -208,10 +192,10 @@ module _ (t : TableValue) (named : List Key) (s : IsSound t) (k r : Key) where
   mended_there : (e : Entry) → mends t named k ≡ true → option_map (with_mine (with_refs (mended named))) (entry_of t k) ≡ Some e → uses e r ≡ true → IsThere (entry_of (erased t named) r)
   mended_there e is new used =
       edited_from _ (with_refs (mended named)) e (entry_of t k) new (λ x old same.
-      let way : option_map_or (is_mended_content named) (mine_of x) false ≡ true = ap (λ (o : Option Entry). option_map_or (is_mended_content named) (option_and_then mine_of o) false) (sym old) ∙ aft (not (is_named named k)) _ (fore (is_mended t named k) (not (falls t named k)) is) in
+      let way : option_map_or (is_mended_content named) (mine_of x) false ≡ true = ap (λ (o : Option Entry). option_map_or (is_mended_content named) (option_and_then mine_of o) false) (sym old) ∙ and_right (not (is_named named k)) _ (and_left (is_mended t named k) (not (falls t named k)) is) in
       mend_refers _ named x r way (ap (λ y. uses y r) same ∙ used) (λ refs has unnamed was.
       stays_there t named r
-      (node_stays t named k r refs s (is_user t k r x old was) (not_false (falls t named k) (aft (is_mended t named k) (not (falls t named k)) is)) has unnamed)
+      (node_stays t named k r refs s (is_user t k r x old was) (not_false (falls t named k) (and_right (is_mended t named k) (not (falls t named k)) is)) has unnamed)
       (s.closed k x old r was)))
 
   -- anything else that stays
@@ -282,7 +266,7 @@ going_case false false short false way left P e unnamed m b = cc
 some_going : (t : TableValue) (named : List Key) (k : Key) → goes t named k ≡ true → is_named named k ≡ false → is_some (content_of t k) ≡ true
 some_going t named k gone unnamed =
     going_case (is_named named k) (is_mended t named k) (option_map_or (is_short named) (content_of t k) false) (is_bare (entry_of t k)) (list_any (λ u. falls t named u && lives_as_way t u) (users t k)) (list_all (falls t named) (users t k)) _ gone unnamed
-    (λ mend. some_mended named (content_of t k) (aft (not (is_named named k)) _ mend))
+    (λ mend. some_mended named (content_of t k) (and_right (not (is_named named k)) _ mend))
     (some_bare (entry_of t k))
 
 module _ (t : TableValue) (named : List Key) (limit : ℕ) (s : IsSound t) (passed : closing_tests t limit named (erased t named) ≡ None) (k : Key) (e : Entry) (has : entry_of (erased t named) k ≡ Some e) where
@@ -313,9 +297,9 @@ entries_erased t named limit s listed passed k e has =
     let f = with_refs (mended named) in
     let free = λ (upright : falls t named k ≡ false). (none_of_two (is_named named k) (is_mended t named k && option_map_or (is_short named) (content_of t k) false) upright).0 in
     either _ (stays_related t named k) (option_map (with_mine (loss t named)) o) (cond (mends t named k) (option_map (with_mine f) o) (cond (goes t named k) (option_and_then deleted o) o)) e (sym (entry_erased t named k) ∙ has)
-    (λ is new. edit_sound t named limit s passed k e has (loss t named) (members_kind (members_without (goes t named))) (free (not_false (falls t named k) (fore (not (falls t named k)) (lives_as_relation t k) is))) new)
+    (λ is new. edit_sound t named limit s passed k e has (loss t named) (members_kind (members_without (goes t named))) (free (not_false (falls t named k) (and_left (not (falls t named k)) (lives_as_relation t k) is))) new)
     (λ unrelated_k rest. either _ (mends t named k) (option_map (with_mine f) o) (cond (goes t named k) (option_and_then deleted o) o) e rest
-    (λ is new. edit_sound t named limit s passed k e has f (refs_kind (mended named)) (free (not_false (falls t named k) (aft (is_mended t named k) (not (falls t named k)) is))) new)
+    (λ is new. edit_sound t named limit s passed k e has f (refs_kind (mended named)) (free (not_false (falls t named k) (and_right (is_mended t named k) (not (falls t named k)) is))) new)
     (λ unmended_k rest. either _ (goes t named k) (option_and_then deleted o) o e rest
     (λ gone left. going_sound t named limit s passed k e has listed gone left)
     (λ stays old. s.entries k e old)))

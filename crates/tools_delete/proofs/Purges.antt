@@ -15,10 +15,10 @@ use Rattle.tool_api.specs.Changes.{changed}
 use Rattle.tool_api.specs.Gone.{is_used, purge}
 use Rattle.tool_api.specs.Plain.{Answer, answered}
 use Rattle.tool_api.proofs.Looks.{entry_changed}
-use Rattle.tool_api.proofs.Passed.{passes}
+use Rattle.tool_api.proofs.Passed.{passes, none_in}
 use Rattle.tool_api.proofs.Sounds.{each_changed, next_is}
 use Rattle.tools_delete.specs.Purged.{new_use_test, purged}
-use Rattle.tools_delete.proofs.Anys.{any_passes, none_any, none_in}
+use Rattle.tools_delete.proofs.Anys.{any_passes, none_any}
 use Rattle.tools_delete.proofs.Deletes.{is_user, either, unchanged_there, by_name, never}
 
 -- where the test of uses passed, nothing else uses the key

@@ -6,11 +6,12 @@ ghost use Rattle.tool_api.specs.Gone.{delete_all};
 ghost use Rattle.tool_api.specs.Patches.{Kept};
 ghost use Rattle.tool_api.specs.Plain.{answered};
 
-use crate::deletion::delete_all;
 use dataset::{DataSet, Draft, Patch};
 use osm_base::{Key, Keys};
 use std::alloc::{AllocError, Global};
-use tool_api::{Job, KeySet, Kinds, Reply, Steps, Tool, Verb, accept, list_tests, use_tests};
+use tool_api::{
+    Job, KeySet, Kinds, Reply, Steps, Tool, Verb, accept, delete_all, list_tests, use_tests,
+};
 
 fn deleted_draft(ds: &DataSet, keys: &[Key]) -> Result<Draft, AllocError>
     ensures { IfOk result (λ draft. drafted draft ds.now ≡ changed ds.now (delete ds.now) keys.now) }

@@ -9,13 +9,14 @@ ghost use Rattle.tool_api.specs.Patches.{Kept};
 ghost use Rattle.tool_api.specs.Plain.{answered};
 ghost use Rattle.tool_api.specs.Tests.{is_named};
 
-use crate::deletion::delete_all;
 use crate::mending::{Lose, Mend};
 use crate::touched::{falling, going, losing_relations, mended_ways};
 use dataset::{DataSet, Draft, Patch};
 use osm_base::{Key, Keys};
 use std::alloc::{AllocError, Global};
-use tool_api::{Job, KeySet, Kinds, Reply, Steps, Tool, Verb, edit_all, finish, list_tests};
+use tool_api::{
+    Job, KeySet, Kinds, Reply, Steps, Tool, Verb, delete_all, edit_all, finish, list_tests,
+};
 
 fn others(alloc: Global, keys: &[Key], without: &KeySet) -> Result<Vec<Key>, AllocError>
     ensures { IfOk result (λ left. left.items ≡ filter (λ k. not (is_named without.now k)) keys.now) }

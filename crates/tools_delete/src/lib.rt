@@ -9,7 +9,6 @@
 #![tactic(auto)]
 
 mod delete;
-mod deletion;
 mod erase;
 mod mending;
 mod purge;

@@ -6,18 +6,15 @@ ghost use Rattle.tool_api.specs.Basic.{with_refs, with_members};
 ghost use Rattle.tool_api.specs.Gone.{mended, members_without};
 ghost use Rattle.tool_api.specs.Tests.{is_named};
 
-use osm_base::{Content, Key, Kind, Refs};
+use osm_base::{Content, Refs};
 use relation_upkeep::drop_members;
 use std::alloc::{AllocError, Global};
-use tool_api::{EditContent, KeySet};
+use tool_api::{EditContent, KeySet, node_key};
 
 fn names_node(named: &KeySet, id: i64) -> bool
     ensures { result ≡ is_named named.now (node id) }
 {
-    named.contains(Key {
-        kind: Kind::Node,
-        id,
-    })
+    named.contains(node_key(id))
 }
 
 fn other_ids(alloc: Global, named: &KeySet, ids: &[i64]) -> Result<Vec<i64>, AllocError>

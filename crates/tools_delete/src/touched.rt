@@ -4,7 +4,6 @@ ghost use Rattle.std.specs.List.{filter, flat_map, list_all};
 ghost use Rattle.std.specs.Option.{option_copied};
 ghost use Rattle.osm_base.specs.Content.{node};
 ghost use Rattle.osm_base.specs.declared.key.Key.{Key};
-ghost use Rattle.osm_table.specs.Table.{users};
 ghost use Rattle.tool_api.specs.Changes.{content_of};
 ghost use Rattle.tool_api.specs.Gone.{is_bare, is_mended};
 ghost use Rattle.tool_api.specs.Tests.{is_named};
@@ -12,47 +11,18 @@ ghost use Rattle.tools_delete.specs.Touched.{falls_short, is_free, is_left_by, i
 
 use crate::mending::mended_ids;
 use dataset::DataSet;
-use osm_base::{Content, Key, Kind};
+use osm_base::{Content, Key};
 use osm_table::Entry;
 use std::alloc::{AllocError, Global};
-use tool_api::{KeySet, distinct};
-
-fn content_at(ds: &DataSet, key: Key) -> Option<&Content>
-    ensures { option_copied result ≡ content_of ds.now key }
-{
-    match ds.entry(key) {
-        None => None,
-        Some(entry) => entry.mine(),
-    }
-}
+use tool_api::{KeySet, all_users, content_of, distinct, is_relation, node_key};
 
 fn is_way(ds: &DataSet, key: Key) -> bool
     ensures { result ≡ lives_as_way ds.now key }
 {
-    match content_at(ds, key) {
+    match content_of(ds, key) {
         Some(Content::Way { .. }) => true,
         _ => false,
     }
-}
-
-fn is_relation(ds: &DataSet, key: Key) -> bool
-    ensures { result ≡ lives_as_relation ds.now key }
-{
-    match content_at(ds, key) {
-        Some(Content::Relation { .. }) => true,
-        _ => false,
-    }
-}
-
-/// The users of each of the keys, in turn.
-fn all_users(ds: &DataSet, keys: &[Key]) -> Result<Vec<Key>, AllocError>
-    ensures { IfOk result (λ all. all.items ≡ flat_map (users ds.now) keys.now) }
-{
-    let mut all = Vec::new(ds.alloc());
-    for key in keys {
-        all.extend_from_slice(ds.users(*key))?;
-    }
-    Ok(all)
 }
 
 fn other_ways(ds: &DataSet, named: &KeySet, keys: &[Key]) -> Result<Vec<Key>, AllocError>
@@ -79,7 +49,7 @@ pub fn mended_ways(ds: &DataSet, named: &KeySet) -> Result<Vec<Key>, AllocError>
 fn falls_short(ds: &DataSet, named: &KeySet, way: Key) -> Result<bool, AllocError>
     ensures { IfOk result (λ short. short ≡ falls_short ds.now named.now way) }
 {
-    match content_at(ds, way) {
+    match content_of(ds, way) {
         Some(Content::Way { refs, .. }) => {
             let ids = mended_ids(ds.alloc(), named, refs.as_slice())?;
             Ok(ids.len() < 2)
@@ -106,7 +76,7 @@ fn joined(alloc: Global, keys: &[Key], more: &[Key]) -> Result<KeySet, AllocErro
 {
     let mut all = Vec::from_slice(alloc, keys)?;
     all.extend_from_slice(more)?;
-    KeySet::new(all)
+    KeySet::from_vec(all)
 }
 
 /// The named objects, and those of the ways that fall short without their named nodes. It costs the nodes of the ways.
@@ -124,10 +94,7 @@ fn push_nodes(nodes: &mut Vec<Key>, ids: &[i64]) -> Result<(), AllocError>
     ensures { OnOk result (nodes.new.items ≡ nodes.old.items ++ map node ids.now) }
 {
     for id in ids {
-        nodes.push(Key {
-            kind: Kind::Node,
-            id: *id,
-        })?;
+        nodes.push(node_key(*id))?;
     }
     Ok(())
 }
@@ -147,7 +114,7 @@ fn all_nodes(ds: &DataSet, keys: &[Key]) -> Result<Vec<Key>, AllocError>
 {
     let mut nodes = Vec::new(ds.alloc());
     for key in keys {
-        push_way_nodes(&mut nodes, content_at(ds, *key))?;
+        push_way_nodes(&mut nodes, content_of(ds, *key))?;
     }
     Ok(nodes)
 }

@@ -31,7 +31,7 @@ use Rattle.tool_api.proofs.Bridge.{ranked_filter}
 use Rattle.tool_api.proofs.Least.{has_key}
 use Rattle.tool_api.proofs.Passed.{passes}
 use Rattle.way_combine.proofs.Runs.{has_member, folds_alike, unfolded_names}
-use Rattle.way_combine.proofs.Bools.{or_true}
+use Rattle.tool_api.proofs.Bools.{false_between, or_true}
 
 -- What passed the target tests of ways is a way.
 
@@ -101,12 +101,8 @@ in_users : (t : TableValue) (ways : List Key) (k : Key) → is_in k (flat_map (u
 in_users t [] k = refl
 in_users t (w ∷ ways) k = list_any-append (is_key k) (users t w) (flat_map (users t) ways) ∙ ap (λ b. is_named (users t w) k || b) (in_users t ways k)
 
-false_both : (a c : Bool) → false ≡ ((a && false) && c)
-false_both true c = refl
-false_both false c = refl
-
 is_among : (t : TableValue) (ways : List Key) (k : Key) (b : Bool) → uses_one t ways k ≡ b → first_of (target_test t Ways) ways ≡ None → b ≡ ((option_map_or is_relation (content_of t k) false && b) && is_in k (keys_by_rank t))
-is_among t ways k false is passed = false_both (option_map_or is_relation (content_of t k) false) (is_in k (keys_by_rank t))
+is_among t ways k false is passed = false_between (option_map_or is_relation (content_of t k) false) (is_in k (keys_by_rank t))
 is_among t ways k true is passed =
     let u = one_used t ways k is in
     let h = user_is u.0 (entry_of t k) (way_kind t ways u.0 passed u.1) (sym (user_uses t u.0 k) ∙ u.2) in

@@ -13,18 +13,14 @@ use Rattle.tool_api.specs.declared.refusal.Refusal.TheVariants.{NotJoined}
 use Rattle.tool_api.specs.Tests.{◌>>=◌, is_named}
 use Rattle.tool_api.specs.Upkeep.{is_among, first_in}
 use Rattle.tool_api.specs.Combine.{refs_at, is_end, same_end, last_in, first_way, next_way, joined_on, joined}
-use Rattle.way_combine.proofs.Bools.{or_true}
+use Rattle.tool_api.proofs.Bools.{by_either, or_true}
 
 -- each of the references meets a condition
 abbrev pub Only : (ℤ → Type 0) → List ℤ → Type 0
 Only P refs = (n : ℤ) → is_among refs n ≡ true → P n
 
-either_true : (A : Type 0) (a b : Bool) → (a || b) ≡ true → (a ≡ true → A) → (b ≡ true → A) → A
-either_true A true b e f g = f refl
-either_true A false b e f g = g e
-
 only_append : (P : ℤ → Type 0) (xs ys : List ℤ) → Only P xs → Only P ys → Only P (xs ++ ys)
-only_append P xs ys f g n h = either_true (P n) (is_among xs n) (is_among ys n) (sym (list_any-append (int_eq n) xs ys) ∙ h) (f n) (g n)
+only_append P xs ys f g n h = by_either (P n) (is_among xs n) (is_among ys n) (sym (list_any-append (int_eq n) xs ys) ∙ h) (f n) (g n)
 
 only_rest : (P : ℤ → Type 0) (xs : List ℤ) → Only P xs → Only P (drop 1 xs)
 only_rest P [] f n h = f n h

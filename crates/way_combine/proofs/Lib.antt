@@ -1,7 +1,7 @@
 pub mod Among
-pub mod Bools
 pub mod Combines
 pub mod Ends
+pub mod Folded
 pub mod Joints
 pub mod Looks
 pub mod Runs

@@ -9,18 +9,11 @@ use Rattle.osm_base.specs.declared.key.Key.{Key}
 use Rattle.osm_base.specs.declared.members.Member.{Member}
 use Rattle.tool_api.specs.Tests.{is_named}
 use Rattle.tool_api.specs.Upkeep.{is_run, folded_from, folded}
-use Rattle.way_combine.proofs.Bools.{or_true}
+use Rattle.tool_api.proofs.Bools.{or_true}
 
 -- whether a member is the key
 abbrev pub has_member : List Member → Key → Bool
 has_member ms r = list_any (λ (m : Member). is_key r m.key) ms
-
--- whether there is none, from what `is_none` says
-pub none_answer : (o : Option (List Member)) (b : Bool) → is_some o ≡ not b → b ≡ is_none o
-none_answer None true e = refl
-none_answer None false e = cc
-none_answer (Some x) true e = cc
-none_answer (Some x) false e = refl
 
 -- the kept way's key plays no part in the rule
 none_map : {A B : Type 0} (f : A → B) (o : Option A) → is_none (option_map f o) ≡ is_none o

@@ -36,13 +36,14 @@ use Rattle.tool_api.specs.Gone.{is_relation}
 use Rattle.tool_api.specs.Upkeep.{first_in, is_among, folded}
 use Rattle.tool_api.specs.Split.{way_refs}
 use Rattle.tool_api.specs.Combine.{refs_at, joined, united, all_tags, clashes, member_test, is_positive, kept_way, as_way, fold_runs, relations_among, combined}
-use Rattle.tool_api.proofs.Least.{has_key}
-use Rattle.tool_api.proofs.Passed.{Lives, lives, named_lives, passes, both_none, none_passes, passed_tests, unspoiled, fits_or_stays}
+use Rattle.tool_api.proofs.Least.{has_key, conflict_some}
+use Rattle.tool_api.proofs.Passed.{Lives, lives, named_lives, passes, both_none, none_passes, passed_tests, unspoiled, fits_or_stays, none_in}
 use Rattle.way_combine.proofs.Among.{way_kind, user_is, uses_one, some_user}
 use Rattle.way_combine.proofs.Joints.{Only, joined_only}
 use Rattle.way_combine.proofs.Looks.{entry_thrice, next_thrice, four_cases}
 use Rattle.way_combine.proofs.Runs.{has_member, folds_alike, folded_stays, Stays}
-use Rattle.way_combine.proofs.Bools.{or_true}
+use Rattle.tool_api.proofs.Bools.{and_right, left_alone, or_true}
+use Rattle.tool_api.proofs.Sounds.{edited_there}
 
 -- The kept way is one of the ways.
 
@@ -74,18 +75,10 @@ conflict_case true false false e f g = cc
 conflict_case true true c e f g = cc
 conflict_case false b c e f g = cc
 
-none_in : (o : Option Key) (f : Key → Refusal) → option_map f o ≡ None → o ≡ None
-none_in None f e = refl
-none_in (Some x) f e = cc
-
-some_conflict : (o : Option Entry) → in_conflict o ≡ true → is_some o ≡ true
-some_conflict None e = cc
-some_conflict (Some e) h = refl
-
 undisturbed : (t u : TableValue) (named : List Key) (k : Key) → disturb_test t named u ≡ None → in_conflict (entry_of t k) ≡ true → is_named named k ≡ false → entry_of t k ≡ entry_of u k
 undisturbed t u named k passed conflict apart =
     let calm : disturbs named k (entry_of t k) (entry_of u k) ≡ false =
-    none_passes (λ (j : Key). disturbs named j (entry_of t j) (entry_of u j)) (keys_by_rank t) k (none_in (find (λ (j : Key). disturbs named j (entry_of t j) (entry_of u j)) (keys_by_rank t)) InConflict passed) (has_key t k (some_conflict (entry_of t k) conflict)) in
+    none_passes (λ (j : Key). disturbs named j (entry_of t j) (entry_of u j)) (keys_by_rank t) k (none_in (find (λ (j : Key). disturbs named j (entry_of t j) (entry_of u j)) (keys_by_rank t)) InConflict passed) (has_key t k (conflict_some (entry_of t k) conflict)) in
     (same_at_decides (entry_of t k) (entry_of u k)).0 (conflict_case _ (is_named named k) _ calm conflict apart)
 
 -- an edited content fits, or is what it was
@@ -173,21 +166,13 @@ module _ (t : TableValue) (limit : ℕ) (ways : List Key) (refs : List ℤ) (kep
   live q x named is = named_lives t Ways ways q x targets named is
 
   only_kept : (q : Key) → is_named (kept ∷ []) q ≡ true → q ≡ kept
-  only_kept q h = one_key q kept (no_more (is_key q kept) h)
-    where
-      no_more : (b : Bool) → (b || false) ≡ true → b ≡ true
-      no_more true e = refl
-      no_more false e = e
+  only_kept q h = one_key q kept (left_alone (is_key q kept) h)
 
   kept_among : (q : Key) → is_named (kept ∷ []) q ≡ true → is_named ways q ≡ true
   kept_among q h = ap (is_named ways) (only_kept q h) ∙ kept_named ways kept p.kept_is
 
-  second_true : (a b : Bool) → (a && b) ≡ true → b ≡ true
-  second_true true b e = e
-  second_true false b e = cc
-
   other_among : (q : Key) → is_named others q ≡ true → is_named ways q ≡ true
-  other_among q h = second_true (not (is_key kept q)) (is_named ways q) (sym (in_filter (λ (k : Key). not (is_key kept k)) q ways) ∙ h)
+  other_among q h = and_right (not (is_key kept q)) (is_named ways q) (sym (in_filter (λ (k : Key). not (is_key kept k)) q ways) ∙ h)
 
   -- Each entry by itself.
 
@@ -241,12 +226,6 @@ module _ (t : TableValue) (limit : ℕ) (ways : List Key) (refs : List ℤ) (kep
   either_there true x y h g = h
   either_there false x y h g = g
 
-  edit_there : (f : Content → Content) (o : Option Entry) → IsThere o → IsThere (option_map (with_mine f) o)
-  edit_there f None h = h
-  edit_there f (Some Incomplete) h = tt
-  edit_there f (Some (Known base None conflict)) h = h
-  edit_there f (Some (Known base (Some c) conflict)) h = refl
-
   cut_there : (a b : Bool) (x y z : Option Entry) → (a ≡ true) ⊎ (b ≡ false) → IsThere x → IsThere z → IsThere (cond a x (cond b y z))
   cut_there true b x y z h f g = f
   cut_there false false x y z h f g = g
@@ -255,8 +234,8 @@ module _ (t : TableValue) (limit : ℕ) (ways : List Key) (refs : List ℤ) (kep
 
   -- what isn't deleted stays there
   stays : (r : Key) → (is_named (kept ∷ []) r ≡ true) ⊎ (is_named others r ≡ false) → IsThere (entry_of t r) → IsThere (entry_of after r)
-  stays r h there = subst IsThere (sym (looks r)) (cut_there (is_named (kept ∷ []) r) (is_named others r) (edit t whole r) (delete t r) _ h (edit_there whole (entry_of t r) there)
-      (either_there (is_named rels r) (edit t folds r) (entry_of t r) (edit_there folds (entry_of t r) there) there))
+  stays r h there = subst IsThere (sym (looks r)) (cut_there (is_named (kept ∷ []) r) (is_named others r) (edit t whole r) (delete t r) _ h (edited_there whole (entry_of t r) there)
+      (either_there (is_named rels r) (edit t folds r) (entry_of t r) (edited_there folds (entry_of t r) there) there))
 
   not_other : (r : Key) (b : Bool) → is_named others r ≡ b → (is_named ways r ≡ true → b ≡ false) → b ≡ false
   not_other r true is h = h (other_among r is)

@@ -20,7 +20,7 @@ use Rattle.tool_api.specs.declared.refusal.Refusal.TheVariants.{TagClash}
 use Rattle.tool_api.specs.Tests.{◌>>◌}
 use Rattle.tool_api.specs.Combine.{united, clash_test}
 use Rattle.way_combine.specs.Parts.{unless, differs, put_on, union_of}
-use Rattle.way_combine.proofs.Bools.{or_true}
+use Rattle.tool_api.proofs.Bools.{or_true}
 
 -- a tag is one of those
 abbrev pub In : Pair → List Pair → Type 0

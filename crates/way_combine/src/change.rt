@@ -1,58 +1,15 @@
 //! The change that joins ways, as a draft.
 ghost use Rattle.std.specs.Prelude.{◌≡◌, ◌<◌, not, length, Some, IfOk, OnOk};
 ghost use Rattle.std.specs.List.{filter, find};
-ghost use Rattle.std.specs.Option.{unwrap_or};
 ghost use Rattle.osm_base.specs.Rank.{is_key};
 ghost use Rattle.dataset.specs.Draft.{drafted};
-ghost use Rattle.tool_api.specs.Changes.{changed, delete, deleted};
-ghost use Rattle.tool_api.specs.Combine.{combined, united, all_tags, relations_among, kept_way, is_positive};
-ghost use Rattle.tool_api.specs.Upkeep.{folded};
+ghost use Rattle.tool_api.specs.Changes.{changed, edit};
+ghost use Rattle.tool_api.specs.Combine.{combined, fold_runs, united, all_tags, relations_among, kept_way, is_positive};
 
 use dataset::{DataSet, Draft};
-use osm_base::{Content, Key, Members, Refs, Tags, same_key};
-use osm_table::{Base, Entry};
-use relation_upkeep::fold_members;
+use osm_base::{Content, Key, Refs, Tags, same_key};
 use std::alloc::{AllocError, Global};
-use tool_api::{EditContent, edit_all, edited_draft};
-
-/// What becomes of a relation: each run of the ways is the kept way.
-#[derive(Drop)]
-struct FoldRuns<'a> {
-    alloc: Global,
-    ways: &'a [Key],
-    kept: Key,
-}
-
-/// The members after the joining; those that don't meet the run rule stay.
-fn folded_or_same(
-    alloc: Global,
-    members: Members,
-    ways: &[Key],
-    kept: Key,
-) -> Result<Members, AllocError>
-    ensures { IfOk result (λ after. after ≡ unwrap_or (folded ways.now kept members) members) }
-{
-    match fold_members(alloc, &members, ways, kept)? {
-        Some(folded) => Ok(folded),
-        None => Ok(members),
-    }
-}
-
-impl<'a> EditContent for FoldRuns<'a> {
-    ghost use Rattle.tool_api.specs.Combine.{fold_runs};
-
-    ghost edited = { λ r. fold_runs r.ways.now r.kept };
-
-    fn edit(&self, content: Content) -> Result<Content, AllocError> {
-        match content {
-            Content::Relation { tags, members } => Ok(Content::Relation {
-                tags,
-                members: folded_or_same(self.alloc, members, self.ways, self.kept)?,
-            }),
-            other => Ok(other),
-        }
-    }
-}
+use tool_api::{EditContent, delete_all, edit_all};
 
 /// What becomes of the kept way: it has all references and tags.
 #[derive(Drop)]
@@ -74,44 +31,6 @@ impl EditContent for AsWay {
     }
 }
 
-/// What is left of an entry whose object is deleted.
-fn deleted(entry: Entry) -> Option<Entry>
-    ensures { result ≡ deleted entry }
-{
-    match entry {
-        Entry::Incomplete => Some(Entry::Incomplete),
-        Entry::Known {
-            base: Base::New,
-            ..
-        } => None,
-        Entry::Known { base, conflict, .. } => Some(Entry::Known {
-            base,
-            mine: None,
-            conflict,
-        }),
-    }
-}
-
-fn deleted_at(ds: &DataSet, key: Key) -> Result<Option<Entry>, AllocError>
-    ensures { IfOk result (λ after. after ≡ delete ds.now key) }
-{
-    match ds.entry(key) {
-        None => Ok(None),
-        Some(entry) => Ok(deleted(entry.copy()?)),
-    }
-}
-
-/// Deletes each of the keys.
-fn delete_all(ds: &DataSet, keys: &[Key], draft: &mut Draft) -> Result<(), AllocError>
-    ensures { OnOk result (drafted draft.new ds.now ≡ changed (drafted draft.old ds.now) (delete ds.now) keys.now) }
-{
-    for key in keys {
-        let after = deleted_at(ds, *key)?;
-        draft.put(*key, after)?;
-    }
-    Ok(())
-}
-
 fn other_ways(alloc: Global, ways: &[Key], kept: Key) -> Result<Vec<Key>, AllocError>
     ensures { IfOk result (λ others. others.items ≡ filter (λ k. not (is_key kept k)) ways.now) }
 {
@@ -121,29 +40,25 @@ fn other_ways(alloc: Global, ways: &[Key], kept: Key) -> Result<Vec<Key>, AllocE
         .collect(alloc)
 }
 
-/// The draft in which the relations name the kept way for each run, the other ways are deleted, and the kept way has
-/// the references and the tags.
+/// Deletes the other ways and gives the kept way the references and the tags, in a draft that has the relations already.
 ///
 /// # Errors
-/// No memory was left.
-pub fn combined_draft(
+/// No memory was left; then the draft has some of it.
+pub fn join_ways(
     ds: &DataSet,
     ways: &[Key],
-    relations: &[Key],
     kept: Key,
     refs: Refs,
     tags: Tags,
-) -> Result<Draft, AllocError>
-    requires relations { relations.now ≡ relations_among ds.now ways.now }
+    draft: &mut Draft,
+) -> Result<(), AllocError>
+    requires relations { drafted draft.old ds.now ≡ changed ds.now (edit ds.now (fold_runs ways.now kept)) (relations_among ds.now ways.now) }
     requires tags { tags ≡ united (all_tags ds.now ways.now) }
-    ensures { IfOk result (λ draft. drafted draft ds.now ≡ combined ds.now ways.now refs kept) }
+    ensures { OnOk result (drafted draft.new ds.now ≡ combined ds.now ways.now refs kept) }
 {
-    let alloc = ds.alloc();
-    let mut draft = edited_draft(ds, relations, &FoldRuns { alloc, ways, kept })?;
-    let others = other_ways(alloc, ways, kept)?;
-    delete_all(ds, &others, &mut draft)?;
-    edit_all(ds, &[kept], &AsWay { refs, tags }, &mut draft)?;
-    Ok(draft)
+    let others = other_ways(ds.alloc(), ways, kept)?;
+    delete_all(ds, &others, draft)?;
+    edit_all(ds, &[kept], &AsWay { refs, tags }, draft)
 }
 
 fn first_positive(ways: &[Key]) -> Option<Key>

@@ -4,12 +4,12 @@ ghost use Rattle.tool_api.specs.Combine.{combine};
 ghost use Rattle.tool_api.specs.Patches.{Kept};
 ghost use Rattle.tool_api.specs.Plain.{answered};
 
-use crate::change::{combined_draft, kept_way};
+use crate::change::{join_ways, kept_way};
 use crate::joining::joined;
-use crate::relations::{member_test, relations_among};
+use crate::relations::fold_relations;
 use crate::union::united;
 use crate::ways::way_tests;
-use dataset::{DataSet, Patch};
+use dataset::{DataSet, Draft, Patch};
 use osm_base::{Key, Keys};
 use std::alloc::{AllocError, Global};
 use tool_api::{Job, Kinds, Reply, Steps, Tool, Verb, finish, list_tests};
@@ -43,12 +43,12 @@ fn combine(
         Err(refusal) => return Ok(Reply::Refused(refusal)),
     };
     let kept = kept_way(ways);
-    let relations = relations_among(ds, ways)?;
-    if let Some(refusal) = member_test(ds, ways, kept, &relations)? {
+    let mut draft = Draft::new(ds);
+    if let Some(refusal) = fold_relations(ds, ways, kept, &mut draft)? {
         return Ok(Reply::Refused(refusal));
     }
     ds.sound();
-    let draft = combined_draft(ds, ways, &relations, kept, refs, tags)?;
+    join_ways(ds, ways, kept, refs, tags, &mut draft)?;
     let keys = Keys::new(ds.alloc());
     finish(steps, ds, &draft, ways, limit, keys)
 }

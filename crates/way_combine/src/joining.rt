@@ -4,11 +4,11 @@ ghost use Rattle.tool_api.specs.Combine.{same_end, last_in, is_end, first_way, n
 ghost use Rattle.tool_api.specs.Upkeep.{first_in};
 ghost use Rattle.way_combine.specs.Parts.{unless};
 
-use crate::ways::{refs_at, turned};
+use crate::ways::turned;
 use dataset::DataSet;
 use osm_base::{Key, Refs};
 use std::alloc::AllocError;
-use tool_api::Refusal;
+use tool_api::{Refusal, refs_at};
 
 fn first_in(refs: &[i64]) -> Option<i64>
     ensures { result ≡ first_in refs.now }

@@ -10,12 +10,11 @@ ghost use Rattle.tool_api.specs.Combine.{all_tags};
 ghost use Rattle.tool_api.specs.Split.{tags_at};
 ghost use Rattle.way_combine.specs.Parts.{unless, differs, put_on, union_of};
 
-use crate::ways::content_of;
 use dataset::DataSet;
 use osm_base::{Key, Tags, Text};
 use std::alloc::AllocError;
 use std::cmp::Ordering;
-use tool_api::Refusal;
+use tool_api::{Refusal, content_of};
 
 fn push_tags(all: &mut Vec<(Text, Text)>, tags: &[(Text, Text)]) -> Result<(), AllocError>
     ensures { OnOk result (all.new.items ≡ all.old.items ++ tags.now) }

@@ -25,6 +25,8 @@ use Rattle.tool_api.specs.Changes.{placed, changed, new_key, added, all_added, c
 use Rattle.tool_api.specs.Closing.{spoils}
 use Rattle.tool_api.proofs.Looks.{entry_placed, next_placed}
 use Rattle.tool_api.proofs.Passed.{fits_or_stays}
+use Rattle.tool_api.proofs.Bools.{or_left, or_right, none_of_two, by_bool}
+use Rattle.tool_api.proofs.Sounds.{only_fits}
 
 added_at : (x : TableValue) (c : Content) (q : Key) → entry_of (added x c) q ≡ cond (is_key q (new_key (kind_of_content c) x.next)) (Some (Known New (Some c) None)) (entry_of x q)
 added_at x c q = get_with x (new_key (kind_of_content c) x.next) (Known New (Some c) None) q
@@ -46,10 +48,6 @@ there_all x [] r h = h
 there_all x (c ∷ cs) r h = there_all (added x c) cs r (there_added x c r h)
 
 -- keys with different numbers differ
-by_bool : (b : Bool) (P : Type 0) → (b ≡ true → P) → (b ≡ false → P) → P
-by_bool true P f g = f refl
-by_bool false P f g = g refl
-
 numbers : (j k : Kind) (m n : ℕ) → new_key j m ≡ new_key k n → m - 1 ≡ n - 1
 numbers j k m n e = let f : negsuc (m - 1) ≡ negsuc (n - 1) = ap (λ (x : Key). x.id) e in cc
 
@@ -106,14 +104,10 @@ added_placed x k (Some e) c apart =
     ∙ swapped q (new_key (kind_of_content c) x.next) k _ _ (Some (Known New (Some c) None)) (Some e) (entry_of x q) refl refl apart
     ∙ ap (cond (is_key q k) (Some e)) (sym (added_at x c q)) ∙ sym (entry_placed (added x c) k (Some e) q)) refl
 
-both_false : (a b : Bool) → (a || b) ≡ false → (a ≡ false) × (b ≡ false)
-both_false true b e = cc
-both_false false b e = (refl, e)
-
 added_changed : (x : TableValue) (g : Key → Option Entry) (ks : List Key) (c : Content) → is_named ks (new_key (kind_of_content c) x.next) ≡ false → added (changed x g ks) c ≡ changed (added x c) g ks
 added_changed x g [] c out = refl
 added_changed x g (k ∷ ks) c out =
-    let p = both_false (is_key (new_key (kind_of_content c) x.next) k) (is_named ks (new_key (kind_of_content c) x.next)) out in
+    let p = none_of_two (is_key (new_key (kind_of_content c) x.next) k) (is_named ks (new_key (kind_of_content c) x.next)) out in
     added_changed (placed x k (g k)) g ks c (ap (λ n. is_named ks (new_key (kind_of_content c) n)) (next_placed x k (g k)) ∙ p.1)
     ∙ ap (λ (y : TableValue). changed y g ks) (added_placed x k (g k) c p.0)
 
@@ -138,10 +132,6 @@ pub fresh : (t : TableValue) (k : Kind) (m : ℕ) → IsSound t → t.next ≤ m
 fresh t k m s low = fresh_case t k m _ s low refl
 
 -- New objects that aren't spoiled fit.
-only_fits : (c : Content) → (fits c ≡ true) ⊎ (◌≡◌ {A = Option Content} None (Some c)) → fits c ≡ true
-only_fits c (inl fit) = fit
-only_fits c (inr same) = cc
-
 pub new_fit : (t u x : TableValue) (cs : List Content) → u ≡ all_added x cs → 1 ≤ x.next → ((k : Kind) (m : ℕ) → x.next ≤ m → entry_of t (new_key k m) ≡ None)
     → ((k : Key) (e : Entry) → entry_of u k ≡ Some e → spoils (content_of t k) (content_of u k) ≡ false) → AllByRecursion (λ c. fits c ≡ true) cs
 new_fit t u x [] is one new unspoiled = tt
@@ -175,16 +165,9 @@ pub nodes_there : (t : TableValue) (tags : List Pair) (ids : List ℤ) → AllBy
 nodes_there t tags [] h r e = let f : false ≡ true = e in cc
 nodes_there t tags (n ∷ ns) h r e = node_case t r n (is_key r (node n)) (list_any (is_key r) (map node ns)) refl e h.0 (nodes_there t tags ns h.1 r)
 
-first_true : (a b : Bool) → a ≡ true → (a || b) ≡ true
-first_true a b e = ap (λ x. x || b) e
-
-second_true : (a b : Bool) → b ≡ true → (a || b) ≡ true
-second_true true b e = refl
-second_true false b e = e
-
 pub there_nodes : (t : TableValue) (tags : List Pair) (ids : List ℤ) → RefersIn t (content.Way tags ids) → AllByRecursion (λ n. IsThere (entry_of t (node n))) ids
 there_nodes t tags [] h = tt
-there_nodes t tags (n ∷ ns) h = (h (node n) (first_true (is_key (node n) (node n)) _ (key_itself (node n))), there_nodes t tags ns (λ r e. h r (second_true (is_key r (node n)) _ e)))
+there_nodes t tags (n ∷ ns) h = (h (node n) (or_left (is_key (node n) (node n)) _ (key_itself (node n))), there_nodes t tags ns (λ r e. h r (or_right (is_key r (node n)) _ e)))
 
 pub ways_refer : (t : TableValue) (tags : List Pair) (ps : List (Key × List ℤ)) → AllByRecursion (λ (p : Key × List ℤ). AllByRecursion (λ n. IsThere (entry_of t (node n))) p.1) ps → AllByRecursion (RefersIn t) (ways_of tags ps)
 ways_refer t tags [] h = tt

@@ -1,5 +1,5 @@
 -- Steps of the loops that cut a way and number its pieces.
-use Rattle.std.proofs.Common.{◌≡◌, ℕ, ℤ, zero, suc, pos, ◌+◌, ◌-◌, ◌<◌, ◌≤◌, ◌&&◌, ◌||◌, Bool, true, false, cond, not, nat_lt, nat_le, List, [], ◌∷◌, ◌++◌, length, drop, take, get_or, slice_get, Option, Some, None, refl, sym, ap, ◌∙◌, subst, drop-cons, add-one, length-drop, append_assoc, arith}
+use Rattle.std.proofs.Common.{◌≡◌, ℕ, ℤ, zero, suc, pos, ◌+◌, ◌-◌, ◌<◌, ◌≤◌, ◌&&◌, ◌||◌, Bool, true, false, cond, not, nat_lt, nat_le, List, [], ◌∷◌, ◌++◌, length, map, drop, take, get_or, slice_get, Option, Some, None, refl, sym, ap, ◌∙◌, subst, drop-cons, add-one, length-drop, append_assoc, arith}
 use Rattle.std.proofs.lemmas.Bool.Decides.{nat_tests, Decides-int_eq}
 use Rattle.std.proofs.lemmas.Option.{slice_get-get_or}
 use Rattle.std.proofs.lemmas.List.Folds.{list_any-append}
@@ -18,6 +18,7 @@ use Rattle.tool_api.specs.Tests.{is_named, takes, when}
 use Rattle.tool_api.specs.Split.{pieces_from, is_closed, node_tests, piece_of}
 use Rattle.tool_api.specs.Upkeep.{PieceValue, first_in, is_among}
 use Rattle.way_split.specs.Tests.{one_test}
+use Rattle.tool_api.proofs.Lasts.{last_got}
 
 -- A way cut at its nodes.
 
@@ -47,42 +48,15 @@ pub next_piece : (P : ℤ → Bool) (refs : List ℤ) (i : ℕ) (x : ℤ) (out o
 next_piece P refs i x out out₁ all piece piece₁ c lt at is outs pieces h = rw add-one (one_more P refs i out out₁ all piece piece₁ c lt is
     (outs ∙ ap (λ y. cond c (out ++ (piece ++ y ∷ []) ∷ []) out) at) (pieces ∙ ap (λ y. cond c (y ∷ []) (piece ++ y ∷ [])) at) h)
 
--- The end of a list.
-
-at_end : {A : Type 0} (xs : List A) (i : ℕ) → length xs ≤ i → drop i xs ≡ []
-at_end [] zero h = refl
-at_end [] (suc i) h = refl
-at_end (x ∷ xs) zero h = absurd (omega arith)
-at_end (x ∷ xs) (suc i) h = at_end xs i (omega arith)
-
 -- The set of a way's nodes.
 
 same_node : (a b : ℤ) → is_key (node a) (node b) ≡ int_eq a b
 same_node a b = sym (rank_ties (node a) (node b))
 
-named_more : (set : List Key) (k q : Key) → is_named (set ++ k ∷ []) q ≡ (is_named set q || (is_key q k || false))
-named_more set k q = list_any-append (is_key q) set (k ∷ [])
-
-or_grouped : (a b c : Bool) → ((a || (b || false)) || c) ≡ (a || (b || c))
-or_grouped true b c = refl
-or_grouped false true c = refl
-or_grouped false false c = refl
-
-same_id : (a b : ℤ) → int_eq a b ≡ true → a ≡ b
-same_id a b e = (Decides-int_eq a b).0 e
-
-set_cases : (set set₁ : List Key) (x id : ℤ) (rest : Bool) (b c : Bool) → is_named set (node x) ≡ b → int_eq id x ≡ c → set₁ ≡ cond b set (set ++ node x ∷ []) → (is_named set₁ (node id) || rest) ≡ (is_named set (node id) || (c || rest))
-set_cases set set₁ x id rest true true there is put = let named : is_named set (node id) ≡ true = ap (λ n. is_named set (node n)) (same_id id x is) ∙ there in ap (λ (ks : List Key). is_named ks (node id) || rest) put ∙ ap (λ b. b || rest) named ∙ sym (ap (λ b. b || true) named)
-set_cases set set₁ x id rest true false there is put = ap (λ (ks : List Key). is_named ks (node id) || rest) put
-set_cases set set₁ x id rest false c there is put =
-    ap (λ (ks : List Key). is_named ks (node id) || rest) put ∙ ap (λ b. b || rest) (named_more set (node x) (node id) ∙ ap (λ b. is_named set (node id) || (b || false)) (same_node id x ∙ is))
-    ∙ or_grouped (is_named set (node id)) c rest
-
-pub set_step : (ids : List ℤ) (i : ℕ) (k : Key) (set set₁ : List Key) (id : ℤ) (all : Bool) → i < length ids → k ≡ node (get_or ids i (pos 0)) → set₁ ≡ cond (is_named set k) set (set ++ k ∷ [])
-    → (is_named set (node id) || is_among (drop i ids) id) ≡ all → (is_named set₁ (node id) || is_among (drop (i + 1) ids) id) ≡ all
-set_step ids i k set set₁ id all lt is put before =
-    set_cases set set₁ (get_or ids i (pos 0)) id (is_among (drop (i + 1) ids) id) _ _ refl refl (put ∙ (λ j. cond (is_named set (is j)) set (set ++ is j ∷ [])))
-    ∙ (let e : drop i ids ≡ get_or ids i (pos 0) ∷ drop (i + 1) ids = rw add-one (drop-cons ids i (pos 0) lt) in sym (ap (λ (xs : List ℤ). is_named set (node id) || is_among xs id) e)) ∙ before
+-- a node is among the keys of nodes where its id is among the ids
+pub named_nodes : (ids : List ℤ) (id : ℤ) → is_named (map node ids) (node id) ≡ is_among ids id
+named_nodes [] id = refl
+named_nodes (x ∷ ids) id = λ i. same_node id x i || named_nodes ids id i
 
 -- The tests of the named nodes.
 
@@ -127,22 +101,11 @@ module _ (refs : List ℤ) (in_way : List Key) (in_refs : (id : ℤ) → is_name
         ap (λ (ks : List Key). node_tests refs ks (drop (i + 1) nodes)) longer ∙ ap (λ (o : Option Refusal). option_or o (node_tests refs (seen ++ k ∷ []) (drop (i + 1) nodes))) passed ∙ sym (tests_at seen nodes i none lt) ∙ before.1,
       )
 
-  pub tests_end : (seen nodes : List Key) (i : ℕ) (all : Option Refusal) → length nodes ≤ i → node_tests refs seen (drop i nodes) ≡ all → None ≡ all
-  tests_end seen nodes i all h before = sym (ap (node_tests refs seen) (at_end nodes i h)) ∙ before
-
--- The first and the last of a list.
+-- The first of a list.
 
 first_got : (xs : List ℤ) → first_in xs ≡ slice_get xs 0
 first_got [] = refl
 first_got (x ∷ xs) = refl
-
-last_from : {A : Type 0} (x : A) (xs : List A) → last_or (Some x) xs ≡ slice_get (x ∷ xs) (length xs)
-last_from x [] = refl
-last_from x (y ∷ xs) = last_from y xs
-
-last_got : (xs : List ℤ) → last_or None xs ≡ slice_get xs (length xs - 1)
-last_got [] = refl
-last_got (x ∷ xs) = last_from x xs ∙ (let e : length xs ≡ suc (length xs) - 1 = omega arith in ap (λ n. slice_get (x ∷ xs) n) e)
 
 -- A way is closed.
 
@@ -157,7 +120,7 @@ closed_got refs j k b more first last is =
     let lt : 0 < length refs = omega arith in
     let lt₁ : length refs - 1 < length refs = omega arith in
     is ∙ (λ i. is_key (first i) (last i)) ∙ same_node x y
-    ∙ sym (closed_case (first_in refs) (last_or None refs) x y (first_got refs ∙ slice_get-get_or refs 0 (pos 0) lt) (last_got refs ∙ slice_get-get_or refs (length refs - 1) (pos 0) lt₁))
+    ∙ sym (closed_case (first_in refs) (last_or None refs) x y (first_got refs ∙ slice_get-get_or refs 0 (pos 0) lt) (sym (last_got refs) ∙ slice_get-get_or refs (length refs - 1) (pos 0) lt₁))
     ∙ sym (ap (λ b. b && option_map_or (λ a. option_map_or (λ b. int_eq a b) (last_or None refs) false) (first_in refs) false) long)
 
 -- The first cut.
@@ -185,5 +148,5 @@ pub piece_got : (way : Key) (p : Key × List ℤ) (ids : List ℤ) (a b : Option
     → kept ≡ is_key way p.0 → record { key = p.0; first = first; last = last; kept = kept } ≡ piece_of way p
 piece_got way p ids a b first last kept same is_first is_last one other k =
     let x : first ≡ unwrap_or (first_in p.1) (pos 0) = one ∙ ap (λ (o : Option ℤ). unwrap_or o (pos 0)) (is_first ∙ sym (first_got ids) ∙ ap first_in same) in
-    let y : last ≡ unwrap_or (last_or None p.1) (pos 0) = other ∙ ap (λ (o : Option ℤ). unwrap_or o (pos 0)) (is_last ∙ sym (last_got ids) ∙ ap (last_or None) same) in
+    let y : last ≡ unwrap_or (last_or None p.1) (pos 0) = other ∙ ap (λ (o : Option ℤ). unwrap_or o (pos 0)) (is_last ∙ last_got ids ∙ ap (last_or None) same) in
     λ i. record { key = p.0; first = x i; last = y i; kept = k i }

@@ -42,12 +42,13 @@ use Rattle.tool_api.specs.Upkeep.{PieceValue, is_among, replaced}
 use Rattle.tool_api.specs.Split.{way_refs, tags_at, node_tests, all_pieces, split_pieces, keyed, piece_of, others, kept_refs, relations_of, split_table}
 use Rattle.tool_api.proofs.Least.{has_key, disturbs_at}
 use Rattle.tool_api.proofs.Looks.{entry_changed, next_changed}
-use Rattle.tool_api.proofs.Passed.{both_none, none_passes, passed_tests, unspoiled, fits_or_stays}
+use Rattle.tool_api.proofs.Passed.{both_none, none_passes, passed_tests, unspoiled, fits_or_stays, none_in}
 use Rattle.tool_api.proofs.Sounds.{each_changed, next_is}
 use Rattle.way_split.proofs.Holds.{all_pieces_hold, parts_hold, all_filtered, found_holds}
 use Rattle.way_split.proofs.Members.{has_piece, replaced_refers, replaced_kind}
 use Rattle.way_split.proofs.PartKeys.{pieces_are}
 use Rattle.way_split.proofs.Added.{RefersIn, ways_of, next_added, there_all, new_there, all_added_changed, fresh, new_fit, all_added_sound, nodes_there, there_nodes, ways_refer}
+use Rattle.tool_api.proofs.Bools.{and_left, by_bool, left_alone}
 
 -- What passed the target tests of a way is a living way without conflict.
 pub data IsWay : Option Entry → Type 0 where
@@ -83,10 +84,6 @@ rel_case (Some (Known base (Some (content.Node tags at)) conflict)) e = let f : 
 rel_case (Some (Known base (Some (content.Way tags refs)) conflict)) e = let f : false ≡ true = e in cc
 rel_case (Some (Known base (Some (content.Relation tags members)) conflict)) e = is_rel base tags members conflict
 
-and_left : (a b : Bool) → (a && b) ≡ true → a ≡ true
-and_left true b e = refl
-and_left false b e = cc
-
 related : (t : TableValue) (way k : Key) → is_named (relations_of t way) k ≡ true → IsRelation (entry_of t k)
 related t way k named =
     rel_case (entry_of t k) (and_left (option_map_or is_relation (content_of t k) false) (is_in k (users t way))
@@ -101,10 +98,6 @@ is_turned j k e = key_turned j k ∙ e
 -- a key of relations isn't new
 never_new : (o : Option Entry) → IsRelation o → o ≡ None → ⊥
 never_new o (is_rel base tags members conflict) e = cc
-
-by_bool : (b : Bool) (P : Type 0) → (b ≡ true → P) → (b ≡ false → P) → P
-by_bool true P f g = f refl
-by_bool false P f g = g refl
 
 relations_old : (t : TableValue) (way : Key) → IsSound t → (k : Kind) (m : ℕ) → t.next ≤ m → is_named (relations_of t way) (new_key k m) ≡ false
 relations_old t way s k m low =
@@ -172,10 +165,6 @@ content_sound n k base c d None s kind (inr same) calm = subst (λ (x : Option C
 content_sound n k base c d (Some x) s kind fit calm = subst (IsSoundEntry n k) (calm refl) s
 
 -- an entry in conflict that isn't named stays
-none_in : (o : Option Key) (f : Key → Refusal) → option_map f o ≡ None → o ≡ None
-none_in None f e = refl
-none_in (Some x) f e = cc
-
 calm_case : (a b c : Bool) (P : Type 0) → a ≡ true → b ≡ false → (a && not b && not c) ≡ false → (c ≡ true → P) → P
 calm_case true false true P e f g same = same refl
 calm_case true false false P e f g same = cc
@@ -364,10 +353,6 @@ module _ (t : TableValue) (limit : ℕ) (way : Key) (nodes : List Key) (kept : �
   way_still : (k : Key) (o : Option Entry) → IsWay o → IsThere (option_map (with_mine (with_refs (λ _. kept_refs way (parts_of t way nodes kept)))) o)
   way_still k o (is_way base tags refs) = refl
 
-  first_only : (b : Bool) → (b || false) ≡ true → b ≡ true
-  first_only true e = refl
-  first_only false e = cc
-
   at_way : (k : Key) → is_key k way ≡ true → IsWay (entry_of t k)
   at_way k is = subst (λ (j : Key). IsWay (entry_of t j)) (sym (one_key k way is)) p.lives
 
@@ -377,5 +362,5 @@ module _ (t : TableValue) (limit : ℕ) (way : Key) (nodes : List Key) (kept : �
       let parts = parts_of t way nodes kept in
       subst IsSound (sym (split_ended t way parts p.sound p.lives))
       (put_sound (joined t way parts) (refs_edit t way parts) (way ∷ []) joined_sound
-      (λ k e named put. let is = first_only (is_key k way) named in way_own k (entry_of t k) e (at_way k is) refl is put)
-      (λ k named. way_still k (entry_of t k) (at_way k (first_only (is_key k way) named))))
+      (λ k e named put. let is = left_alone (is_key k way) named in way_own k (entry_of t k) e (at_way k is) refl is put)
+      (λ k named. way_still k (entry_of t k) (at_way k (left_alone (is_key k way) named))))

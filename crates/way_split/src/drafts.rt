@@ -1,14 +1,10 @@
 //! The draft of a split: the relations, the way, the new ways.
-ghost use Rattle.std.specs.Prelude.{◌≡◌, ◌+◌, ◌≤◌, ◌<◌, ◌^◌, false, map, IfOk, OnOk};
-ghost use Rattle.std.specs.List.{filter};
-ghost use Rattle.std.specs.Option.{option_map_or, option_copied};
-ghost use Rattle.osm_base.specs.declared.content.Content.{Content};
+ghost use Rattle.std.specs.Prelude.{◌≡◌, ◌+◌, ◌≤◌, ◌<◌, ◌^◌, map, IfOk, OnOk};
 ghost use Rattle.osm_base.specs.declared.content.Content.TheVariants.{Way};
 ghost use Rattle.osm_table.specs.Table.{TableValue};
 ghost use Rattle.dataset.specs.Draft.{drafted};
 ghost use Rattle.tool_api.specs.Basic.{with_members, with_refs};
-ghost use Rattle.tool_api.specs.Changes.{added, all_added, content_of};
-ghost use Rattle.tool_api.specs.Gone.{is_relation};
+ghost use Rattle.tool_api.specs.Changes.{added, all_added};
 ghost use Rattle.tool_api.specs.Split.{kept_refs, others, relations_of, tags_at, split_table};
 ghost use Rattle.tool_api.specs.Upkeep.{replaced};
 ghost use Rattle.relation_upkeep.specs.Replace.{piece_values};
@@ -18,18 +14,8 @@ use dataset::{DataSet, Draft};
 use osm_base::{Content, Key, Members, Refs, Tags, same_key};
 use osm_table::{Base, Entry};
 use relation_upkeep::{Piece, replace_member};
-use std::alloc::{AllocError, Global};
-use tool_api::{EditContent, edit_all};
-
-/// The living content of a key.
-pub fn living(ds: &DataSet, key: Key) -> Option<&Content>
-    ensures { option_copied result ≡ content_of ds.now key }
-{
-    match ds.entry(key) {
-        None => None,
-        Some(entry) => entry.mine(),
-    }
-}
+use std::alloc::AllocError;
+use tool_api::{EditContent, content_of, edit_all, is_relation};
 
 fn with_members(content: Content, new: Members) -> Content
     ensures { result ≡ with_members (λ _. new) content }
@@ -88,15 +74,6 @@ impl EditContent for KeepRefs {
     }
 }
 
-fn is_relation(ds: &DataSet, key: Key) -> bool
-    ensures { result ≡ option_map_or is_relation (content_of ds.now key) false }
-{
-    match living(ds, key) {
-        Some(Content::Relation { .. }) => true,
-        _ => false,
-    }
-}
-
 /// The living relations that refer to the way, by rank.
 fn relations_of(ds: &DataSet, way: Key) -> Result<Vec<Key>, AllocError>
     ensures { IfOk result (λ keys. keys.items ≡ relations_of ds.now way) }
@@ -112,7 +89,7 @@ fn relations_of(ds: &DataSet, way: Key) -> Result<Vec<Key>, AllocError>
 fn tags_at(ds: &DataSet, key: Key) -> Result<Tags, AllocError>
     ensures { IfOk result (λ tags. tags ≡ tags_at ds.now key) }
 {
-    match living(ds, key) {
+    match content_of(ds, key) {
         None => Ok(Tags::new(ds.alloc())),
         Some(content) => content.tags().copy(),
     }

@@ -10,8 +10,8 @@
 #![tactic(auto)]
 
 mod drafts;
-mod key_set;
 mod node_tests;
+mod nodes;
 mod parts;
 mod pieces;
 mod split;

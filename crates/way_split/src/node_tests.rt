@@ -1,30 +1,25 @@
-//! The tests of the nodes that a split names, and of the way's nodes.
+//! The tests of the nodes that a split names.
 ghost use Rattle.std.specs.Prelude.{◌≡◌, [], IfOk};
-ghost use Rattle.std.specs.List.{find};
-ghost use Rattle.std.specs.Option.{IfNone, option_copied};
-ghost use Rattle.osm_base.specs.Content.{node};
-ghost use Rattle.osm_table.specs.Table.{entry_of};
-ghost use Rattle.tool_api.specs.Split.{node_tests, complete_test, is_incomplete};
+ghost use Rattle.std.specs.Option.{IfNone};
+ghost use Rattle.tool_api.specs.Split.{node_tests};
 ghost use Rattle.way_split.specs.Tests.{one_test};
 
-use crate::key_set::{KeySet, node, node_set};
-use dataset::DataSet;
+use crate::nodes::node_set;
 use osm_base::Key;
-use osm_table::Entry;
 use std::alloc::AllocError;
-use tool_api::{Kinds, Refusal};
+use tool_api::{KeySet, Kinds, Refusal, node_key};
 
 /// One node: NamedTwice, WrongKind, NotInWay. Two hashed look-ups.
 fn one_test(seen: &KeySet, in_way: &KeySet, key: Key) -> Option<Refusal>
     ensures { result ≡ one_test in_way.now seen.now key }
 {
-    if seen.has(key) {
+    if seen.contains(key) {
         return Some(Refusal::NamedTwice(key));
     }
     if !Kinds::Nodes.takes(key.kind) {
         return Some(Refusal::WrongKind(key));
     }
-    if !in_way.has(node(key.id)) {
+    if !in_way.contains(node_key(key.id)) {
         return Some(Refusal::NotInWay(key));
     }
     None
@@ -51,31 +46,4 @@ pub fn node_tests(
         seen.put(*key)?;
     }
     Ok(None)
-}
-
-fn is_incomplete(found: Option<&Entry>) -> bool
-    ensures { result ≡ is_incomplete (option_copied found.entry) }
-{
-    match found {
-        Some(Entry::Incomplete) => true,
-        _ => false,
-    }
-}
-
-fn first_incomplete(ds: &DataSet, refs: &[i64]) -> Option<i64>
-    ensures { result ≡ find (λ n. is_incomplete (entry_of ds.now (node n))) refs.now }
-{
-    refs.iter()
-        .copied()
-        .find(|id| is_incomplete(ds.entry(node(*id))))
-}
-
-/// IncompleteObject with the first Incomplete reference. A look-up each.
-pub fn complete_test(ds: &DataSet, refs: &[i64]) -> Option<Refusal>
-    ensures { result ≡ complete_test ds.now refs.now }
-{
-    match first_incomplete(ds, refs) {
-        None => None,
-        Some(id) => Some(Refusal::IncompleteObject(node(id))),
-    }
 }

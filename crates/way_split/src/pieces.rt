@@ -5,16 +5,17 @@ ghost use Rattle.osm_base.specs.Content.{node};
 ghost use Rattle.tool_api.specs.Tests.{is_named};
 ghost use Rattle.tool_api.specs.Split.{pieces, is_closed, turned, all_pieces, kept_number};
 
-use crate::key_set::{KeySet, node, node_at};
+use crate::nodes::node_at;
 use osm_base::{Refs, same_key};
 use std::alloc::{AllocError, Global};
+use tool_api::{KeySet, node_key};
 
 /// Whether a way is cut at a place: inside, at a named node.
 fn cut_at(refs: &[i64], i: usize, cuts: &KeySet) -> bool
     requires { i < length refs.now }
     ensures { result ≡ (nat_lt (i + 1) (length refs.now) && is_named cuts.now (node (slice_index_or refs.now i (pos 0)))) }
 {
-    i + 1 < refs.len() && cuts.has(node(refs[i]))
+    i + 1 < refs.len() && cuts.contains(node_at(refs, i))
 }
 
 fn ref_at(refs: &[i64], i: usize) -> i64
@@ -79,7 +80,7 @@ fn is_closed(refs: &[i64]) -> bool
 fn place_of_cut(circle: &[i64], cuts: &KeySet) -> Option<usize>
     ensures { result ≡ position (λ n. is_named cuts.now (node n)) circle.now }
 {
-    circle.iter().position(|id| cuts.has(node(*id)))
+    circle.iter().position(|id| cuts.contains(node_key(*id)))
 }
 
 /// The number of the first cut, or of references.

@@ -9,25 +9,17 @@ ghost use Rattle.tool_api.specs.declared.kinds.Kinds.TheVariants.{Ways};
 ghost use Rattle.way_split.specs.Tests.{split_tests};
 ghost use Rattle.way_split.specs.Tested.{IsTested};
 
-use crate::drafts::{living, split_draft};
-use crate::key_set::KeySet;
-use crate::node_tests::{complete_test, node_tests};
+use crate::drafts::split_draft;
+use crate::node_tests::node_tests;
 use crate::parts::{keyed, new_keys};
 use crate::pieces::{all_pieces, kept_number};
 use dataset::{DataSet, Patch};
-use osm_base::{Content, Key, Refs};
+use osm_base::{Key, Refs};
 use std::alloc::{AllocError, Global};
-use tool_api::{Job, Kinds, Refusal, Reply, Steps, Tool, Verb, finish, target_test};
-
-/// The references of a living way. They are shared, not copied.
-fn way_refs(ds: &DataSet, way: Key) -> Result<Refs, AllocError>
-    ensures { IfOk result (λ refs. refs ≡ way_refs (content_of ds.now way)) }
-{
-    match living(ds, way) {
-        Some(Content::Way { refs, .. }) => refs.copy(),
-        _ => Ok(Refs::new(ds.alloc())),
-    }
-}
+use tool_api::{
+    Job, KeySet, Kinds, Refusal, Reply, Steps, Tool, Verb, complete_test, finish, refs_at,
+    target_test,
+};
 
 /// The way and the nodes: what the job names.
 fn named(alloc: Global, way: Key, nodes: &[Key]) -> Result<Vec<Key>, AllocError>
@@ -83,8 +75,7 @@ fn test_split(ds: &DataSet, way: Key, nodes: &[Key]) -> Result<Tested, AllocErro
     if let Some(refusal) = target_test(ds, Kinds::Ways, way) {
         return Ok(Tested::Refused(refusal));
     }
-    let refs = way_refs(ds, way)?;
-    cut(ds, way, refs.as_slice(), nodes)
+    cut(ds, way, refs_at(ds, way), nodes)
 }
 
 /// Makes the pieces the way and new ways.

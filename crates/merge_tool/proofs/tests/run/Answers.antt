@@ -3,7 +3,7 @@ use Rattle.dataset.specs.Patch.{PatchValue, StandsBefore, after_of}
 use Rattle.dataset.specs.Sound.{IsSound}
 use Rattle.tool_api.specs.declared.reply.Reply.{Reply}
 use Rattle.tool_api.specs.Patches.{Kept, first_patch}
-use Rattle.merge_tool.proofs.Undone.{last_leads, some_done, undo_sound, redo_stands, redo_sound}
+use Rattle.merge_tool.proofs.Undone.{last_leads, undo_sound, redo_stands, redo_sound}
 use Rattle.merge_tool.proofs.tests.run.Goals as goal
 
 pub undo-requires-clause-stands : goal.undo-requires-clause-stands

@@ -1,20 +1,21 @@
-use Rattle.std.proofs.Common.{sym, ◌∙◌}
+use Rattle.std.proofs.Common.{rules, ◌≡◌, ◌∙◌, sym, ap, []}
+use Rattle.std.specs.Map.{lookup}
+use Rattle.std.specs.Option.{unwrap_or}
 use Rattle.std.proofs.lemmas.Result.{err_from_is_err_and}
-use Rattle.ref_index.proofs.ListViews.{there, first, same_lists}
+use Rattle.osm_base.specs.KeyEq.{eq}
+use Rattle.osm_base.specs.RisingKeys.{with_key}
+use Rattle.ref_index.specs.Users.{users_of, lists_of}
+use Rattle.ref_index.proofs.ListViews.{put, put_back, list_view}
 use Rattle.ref_index.proofs.lists.put_user.Goals as goal
 
-pub returns-in_ok-put_there-clause-ok : goal.returns-in_ok-put_there-clause-ok
-returns-in_ok-put_there-clause-ok c = there c.args.lists.now.entries c.put_there.new.lists.entries c.args.of c.args.user (sym c.contains_key.ensures ∙ c.if-contains_key.true) c.in_ok-put_there.ensures.ok c.in_ok-put_there.ensures.others
+pub returns-in_err-put-clause-err : goal.returns-in_err-put-clause-err
+returns-in_err-put-clause-err c =
+    let p = err_from_is_err_and c.from_residual-in_err-put.result c.from_residual-in_err-put.ensures.1 in
+    let old : c.or_insert-users.result.now ≡ unwrap_or (lookup (eq c.args.of) c.args.lists.now.entries) [] = search rules in
+    rw p.1 (put_back c.args.lists.now.entries _ c.args.of c.put.new.self (c.in_err-put.ensures.err ∙ old) (λ q. search (rules, (c.in_ok-lists.ensures.update.0 c.put.new.self).0 q)))
 
-pub returns-in_ok-put_first-clause-ok : goal.returns-in_ok-put_first-clause-ok
-returns-in_ok-put_first-clause-ok c = first c.args.lists.now.entries c.put_first.new.lists.entries c.args.of c.args.user (sym c.contains_key.ensures ∙ c.if-contains_key.false) c.in_ok-put_first.ensures.ok
-
-pub returns-in_err-put_there-clause-err : goal.returns-in_err-put_there-clause-err
-returns-in_err-put_there-clause-err c =
-    let p = err_from_is_err_and c.from_residual.result c.from_residual.ensures.1 in
-    rw p.1 (same_lists c.args.lists.now.entries c.put_there.new.lists.entries c.in_err-put_there.ensures.err)
-
-pub returns-in_err-put_first-clause-err : goal.returns-in_err-put_first-clause-err
-returns-in_err-put_first-clause-err c =
-    let p = err_from_is_err_and c.from_residual-in_err-put_first.result c.from_residual-in_err-put_first.ensures.1 in
-    rw p.1 (same_lists c.args.lists.now.entries c.put_first.new.lists.entries c.in_err-put_first.ensures.err)
+pub returns-clause-ok : goal.returns-clause-ok
+returns-clause-ok c =
+    let old : c.or_insert-users.result.now ≡ unwrap_or (lookup (eq c.args.of) c.args.lists.now.entries) [] = search rules in
+    let is : c.put.new.self ≡ with_key c.args.user (users_of (lists_of c.args.lists.now.entries) c.args.of) = c.in_ok-put.ensures.ok ∙ ap (with_key c.args.user) (old ∙ sym (list_view c.args.lists.now.entries c.args.of)) in
+    λ p. put c.args.lists.now.entries _ c.args.of _ (λ q. search (rules, is, (c.in_ok-lists.ensures.update.0 c.put.new.self).0 q)) p

@@ -1,5 +1,5 @@
 use Rattle.std.proofs.Common.{◌∙◌}
-use Rattle.way_combine.proofs.Ends.{last_got}
+use Rattle.tool_api.proofs.Lasts.{last_got}
 use Rattle.way_combine.proofs.joining.last_in.Goals as goal
 
 pub returns : goal.returns

@@ -7,6 +7,6 @@ returns-in-Some c = target_refuses c.args.ds.now c.args.way c.args.nodes.now _ c
 
 pub cut-requires : goal.cut-requires
 cut-requires c = record {
-  refs = c.as_slice.ensures ∙ c.in_ok-refs.ensures;
+  refs = c.refs_at.ensures;
   target = sym c.in_default.ensures;
 }

@@ -1,0 +1,9 @@
+-- The keys of one list of users.
+use Rattle.std.specs.Prelude.{List, [], ◌∷◌}
+use Rattle.osm_base.specs.declared.key.Key.{Key}
+use Rattle.ref_index.specs.declared.users.Items.{Items}
+use Rattle.ref_index.specs.declared.users.Items.TheVariants.{One, List as Keys}
+
+abbrev pub listed : Items → List Key
+listed (One key) = key ∷ []
+listed (Keys keys) = keys.items

@@ -1,0 +1,26 @@
+//! The keys of nodes.
+ghost use Rattle.std.specs.Prelude.{◌≡◌, map, IfOk};
+ghost use Rattle.osm_base.specs.Content.{node};
+
+use osm_base::{Key, Kind};
+use std::alloc::{AllocError, Global};
+
+/// The key of the node with an id.
+pub fn node_key(id: i64) -> Key
+    ensures { result ≡ node id }
+{
+    Key {
+        kind: Kind::Node,
+        id,
+    }
+}
+
+/// The keys of the nodes with these ids, in their order.
+///
+/// # Errors
+/// No memory was left.
+pub fn node_keys(alloc: Global, ids: &[i64]) -> Result<Vec<Key>, AllocError>
+    ensures { IfOk result (λ keys. keys.items ≡ map node ids.now) }
+{
+    ids.iter().map(|id| node_key(*id)).collect(alloc)
+}
