@@ -4,13 +4,12 @@ ghost use Rattle.std.specs.List.{flat_map, find, slice_get};
 ghost use Rattle.std.specs.Option.{option_copied, option_map};
 ghost use Rattle.osm_base.specs.Same.{same_text};
 ghost use Rattle.osm_base.specs.declared.content.Content.TheVariants.{Way};
-ghost use Rattle.tool_api.specs.Changes.{content_of};
 ghost use Rattle.tool_api.specs.Upkeep.{ends, ends_beside, via_nodes, is_among, restricted_piece, touches, is_backward, in_order, is_turn, first_node, last_node, is_restriction, replaced_from, replaced, member_of};
 ghost use Rattle.relation_upkeep.specs.Replace.{piece_value, piece_values, members_of, via_of, turn_of, stood, ends_list, turn_value};
 
 use dataset::DataSet;
 use osm_base::{Content, Key, Kind, Member, Members, Tags, Text, same_key};
-use std::alloc::{AllocError, Global};
+use std::alloc::AllocError;
 use tool_api::content_of;
 
 /// A piece of a way that was split.

@@ -1,5 +1,5 @@
 -- The ends of lists of patches.
-use Rattle.std.proofs.Common.{◌≡◌, ℕ, suc, zero, ◌<◌, ◌-◌, List, [], ◌∷◌, ◌++◌, length, get_or, slice_get, Option, Some, None, sym, ◌∙◌, ap, refl, arith}
+use Rattle.std.proofs.Common.{◌≡◌, ℕ, suc, ◌<◌, ◌-◌, List, [], ◌∷◌, ◌++◌, length, get_or, slice_get, sym, ◌∙◌, ap, refl, arith}
 use Rattle.dataset.specs.Patch.{PatchValue}
 use Rattle.tool_api.specs.Patches.{last_patch, newest_of, front, first_patch, rest, turned}
 

@@ -1,5 +1,5 @@
 -- Worked examples, on which the definitions compute.
-use Rattle.std.proofs.Common.{◌≡◌, ℕ, ℤ, pos, negsuc, true, false, List, [], ◌∷◌, map, Option, Some, None, refl, Ok, Err}
+use Rattle.std.proofs.Common.{◌≡◌, ℕ, pos, negsuc, true, false, List, [], ◌∷◌, map, Option, Some, None, refl, Ok, Err}
 use Rattle.std.specs.Prelude.{codes}
 use Rattle.std.specs.FinMap as fin
 use Rattle.osm_base.specs.Rank.{rank_cmp}
@@ -18,7 +18,7 @@ use Rattle.osm_table.specs.declared.told.Told.{Told}
 use Rattle.osm_table.specs.declared.told.Told.TheVariants as told
 use Rattle.osm_table.specs.Told.{ToldValue}
 use Rattle.osm_table.specs.declared.entry.Entry.{Entry}
-use Rattle.osm_table.specs.declared.entry.Entry.TheVariants.{Incomplete, Known}
+use Rattle.osm_table.specs.declared.entry.Entry.TheVariants.{Known}
 use Rattle.osm_table.specs.Table.{TableValue, mine_of}
 use Rattle.tool_api.specs.declared.kinds.Kinds.TheVariants.{Any}
 use Rattle.tool_api.specs.declared.refusal.Refusal.TheVariants.{Absent, NamedTwice, InUse, WrongKind, NotInWay, NothingToSplit, TagClash, TableFull, NotBuilt}
@@ -26,13 +26,13 @@ use Rattle.tool_api.specs.Tests.{is_named, twice_test, list_tests}
 use Rattle.tool_api.specs.Basic.{add, reversed, moved_nodes}
 use Rattle.tool_api.specs.Combine.{combine, united, clash_test}
 use Rattle.tool_api.specs.Merged.{merge}
-use Rattle.tool_api.specs.Split.{all_pieces, keyed, kept_number, piece_of, split}
+use Rattle.tool_api.specs.Split.{all_pieces, keyed, kept_number, split}
 use Rattle.std.specs.Prelude.{Result}
 use Rattle.std.proofs.lemmas.Str.{chars-nil}
 use Rattle.osm_base.specs.RankLaws.{rank_total}
 use Rattle.tool_api.specs.declared.refusal.Refusal.{Refusal}
 use Rattle.tool_api.specs.Changes.{Outcome}
-use Rattle.tool_api.specs.Upkeep.{PieceValue, replaced, folded, stand_ins}
+use Rattle.tool_api.specs.Upkeep.{PieceValue, replaced, folded}
 use Rattle.tool_api.specs.Gone.{mended, gone_keys, relations_left, delete_all, erase, purge}
 
 abbrev n : ℕ → Key

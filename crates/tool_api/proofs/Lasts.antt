@@ -1,5 +1,5 @@
 -- The last of a list.
-use Rattle.std.proofs.Common.{◌≡◌, ◌-◌, suc, List, [], ◌∷◌, length, slice_get, Some, None, refl, sym, ap, ◌∙◌, arith}
+use Rattle.std.proofs.Common.{◌≡◌, ◌-◌, suc, List, [], ◌∷◌, length, slice_get, Some, None, refl, ap, ◌∙◌, arith}
 use Rattle.std.specs.List.{last_or}
 
 last_from : {A : Type 0} (x : A) (xs : List A) → slice_get (x ∷ xs) (length xs) ≡ last_or (Some x) xs

@@ -8,11 +8,9 @@ use Rattle.osm_base.specs.RisingKeys.{is_in}
 use Rattle.osm_base.proofs.ByRank.{same_least}
 use Rattle.osm_base.specs.declared.key.Key.{Key}
 use Rattle.osm_base.specs.declared.content.Content.{Content}
-use Rattle.osm_table.specs.Same.{same_mine}
 use Rattle.osm_table.proofs.SameLaws.{same_mine_decides}
 use Rattle.osm_table.specs.declared.entry.Entry.{Entry}
 use Rattle.osm_table.specs.Table.{TableValue, entry_of, mine_of, keys_by_rank}
-use Rattle.dataset.specs.Diff.{same_at}
 use Rattle.dataset.specs.Draft.{DraftValue, drafted}
 use Rattle.dataset.proofs.Drafted.{get_drafted, none_at, by_bool}
 use Rattle.dataset.proofs.Differs.{same_at_decides}

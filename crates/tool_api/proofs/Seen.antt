@@ -1,5 +1,5 @@
 -- A loop over keys that keeps those it has seen.
-use Rattle.std.proofs.Common.{◌≡◌, ◌||◌, ◌+◌, ◌<◌, ℕ, suc, Bool, true, false, cond, not, List, [], ◌∷◌, ◌++◌, length, drop, get_or, Option, Some, refl, sym, ap, ◌∙◌, drop-cons, add-one}
+use Rattle.std.proofs.Common.{◌≡◌, ◌||◌, ◌+◌, ◌<◌, ℕ, suc, Bool, true, false, not, List, [], ◌∷◌, ◌++◌, length, drop, get_or, Option, Some, refl, sym, ap, ◌∙◌, drop-cons, add-one}
 use Rattle.std.specs.List.{list_any}
 use Rattle.osm_base.specs.KeyEq.{eq}
 use Rattle.osm_base.specs.Rank.{is_key}

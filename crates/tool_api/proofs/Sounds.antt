@@ -1,5 +1,5 @@
 -- Edits and new objects keep a table sound.
-use Rattle.std.proofs.Common.{◌≡◌, ◌||◌, ℕ, ◌+◌, ◌-◌, ◌<◌, ◌≤◌, suc, negsuc, Bool, true, false, cond, is_some, nat_lt, List, Option, Some, None, refl, sym, ap, ◌∙◌, subst, arith, IsTrue}
+use Rattle.std.proofs.Common.{◌≡◌, ◌||◌, ℕ, ◌+◌, ◌≤◌, Bool, true, false, cond, nat_lt, List, Option, Some, None, refl, sym, ◌∙◌, subst, arith}
 use mathlib.Core.Logic.{◌⊎◌, inl, inr}
 use Rattle.std.specs.Option.{option_map, option_and_then}
 use Rattle.std.specs.FinMap as fin
@@ -12,12 +12,12 @@ use Rattle.osm_table.specs.declared.entry.Base.{Base}
 use Rattle.osm_table.specs.declared.entry.Base.TheVariants.{New, Live, Gone}
 use Rattle.osm_table.specs.declared.entry.Entry.{Entry}
 use Rattle.osm_table.specs.declared.entry.Entry.TheVariants.{Incomplete, Known}
-use Rattle.osm_table.specs.Table.{TableValue, entry_of, mine_of, uses, Each, IsThere}
+use Rattle.osm_table.specs.Table.{TableValue, entry_of, mine_of, Each, IsThere}
 use Rattle.osm_table.proofs.Each.{get_with_same}
 use Rattle.dataset.specs.Sound.{IsSound, IsSoundEntry, IsNumber, LivesIn, IdFits}
 use Rattle.dataset.proofs.Changes.{mine_entry, new_sound, number_sound}
 use Rattle.tool_api.specs.Tests.{is_named, ref_tests}
-use Rattle.tool_api.specs.Changes.{changed, edit, with_mine, new_key, added, content_of}
+use Rattle.tool_api.specs.Changes.{changed, edit, with_mine, new_key, added}
 use Rattle.tool_api.specs.Closing.{closing_tests, spoils}
 use Rattle.tool_api.proofs.Looks.{entry_changed, next_changed}
 use Rattle.tool_api.proofs.Passed.{Lives, lives, refs_there, passed_tests, unspoiled, fits_or_stays}

@@ -2,8 +2,8 @@
 --
 -- For example `erase n1` in a way w5 that is in conflict is refused as InConflict w5: the job would mend the way,
 -- and doesn't name it.
-use Rattle.std.specs.Prelude.{ℕ, ◌+◌, ◌^◌, ◌&&◌, ◌||◌, Bool, true, false, not, nat_lt, nat_le, List, [], ◌∷◌, length, map, Option, Some, None, Result, Ok, is_some}
-use Rattle.std.specs.List.{find, list_all}
+use Rattle.std.specs.Prelude.{ℕ, ◌&&◌, ◌||◌, Bool, false, not, nat_lt, List, Option, Some, None, Result, Ok, is_some}
+use Rattle.std.specs.List.{find}
 use Rattle.std.specs.Option.{option_or, option_map}
 use Rattle.std.specs.FinMap as fin
 use Rattle.osm_base.specs.declared.key.Key.{Key}

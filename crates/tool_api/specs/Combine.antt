@@ -2,7 +2,7 @@
 --
 -- For example `combine w1,w2` of w1 Nn1,n2 and w2 Nn3,n2 gives w1 Nn1,n2,n3: the second way is taken backward, since
 -- its last node is the end so far. w2 is deleted, and w1 has the tags of both.
-use Rattle.std.specs.Prelude.{ℕ, ℤ, pos, negsuc, ◌&&◌, ◌||◌, Bool, true, false, not, if◌then◌else◌, List, [], ◌∷◌, ◌++◌, length, map, drop, reverse, Option, Some, None, Result, Ok, Err, is_some}
+use Rattle.std.specs.Prelude.{ℕ, ℤ, pos, negsuc, ◌&&◌, ◌||◌, Bool, true, false, not, if◌then◌else◌, List, [], ◌∷◌, ◌++◌, drop, reverse, Option, Some, None, Result, Ok, Err}
 use Rattle.std.specs.List.{filter, list_any, find, flat_map, fold, last_or}
 use Rattle.std.specs.Ordering.{int_eq}
 use Rattle.std.specs.Option.{option_map, option_map_or, option_or, unwrap_or, is_none}
@@ -12,8 +12,7 @@ use Rattle.osm_base.specs.declared.key.Key.{Key}
 use Rattle.osm_base.specs.declared.key.Kind.TheVariants as kinds
 use Rattle.osm_base.specs.declared.content.Content.{Content}
 use Rattle.osm_base.specs.declared.content.Content.TheVariants as content
-use Rattle.osm_table.specs.declared.entry.Entry.{Entry}
-use Rattle.osm_table.specs.Table.{TableValue, entry_of, keys_by_rank}
+use Rattle.osm_table.specs.Table.{TableValue, keys_by_rank}
 use Rattle.tool_api.specs.declared.kinds.Kinds.TheVariants.{Ways}
 use Rattle.tool_api.specs.declared.refusal.Refusal.{Refusal}
 use Rattle.tool_api.specs.declared.refusal.Refusal.TheVariants.{NotJoined, TagClash, MemberClash}
@@ -21,7 +20,6 @@ use Rattle.osm_base.specs.Same.{same_text}
 use Rattle.tool_api.specs.Tests.{◌>>◌, ◌>>=◌, first_of, when, is_named, list_tests}
 use Rattle.tool_api.specs.Changes.{Outcome, done, changed, edit, delete, content_of}
 use Rattle.tool_api.specs.Closing.{closing}
-use Rattle.tool_api.specs.Basic.{with_members}
 use Rattle.osm_table.specs.Table.{users}
 use Rattle.tool_api.specs.Gone.{is_relation}
 use Rattle.tool_api.specs.Upkeep.{first_in, folded}

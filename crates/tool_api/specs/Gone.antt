@@ -3,11 +3,11 @@
 -- For example with w5 Nn1,n2, w6 Nn3,n4 and r9 Mw5@,w6@: `delete n1` is refused as InUse n1 w5. `erase n1` leaves one
 -- node in w5, so w5 falls too; n2 has no tags and no other user, so it goes; r9 keeps w6 alone. `purge n1` makes n1
 -- Incomplete, since w5 still refers to it.
-use Rattle.std.specs.Prelude.{ℕ, ℤ, ◌&&◌, ◌||◌, Bool, true, false, not, nat_lt, if◌then◌else◌, List, [], ◌∷◌, ◌++◌, length, map, Option, Some, None, Result, Ok, is_some}
-use Rattle.std.specs.List.{filter, list_any, list_all, find, dedup}
+use Rattle.std.specs.Prelude.{ℕ, ℤ, ◌&&◌, ◌||◌, Bool, true, false, not, nat_lt, if◌then◌else◌, List, [], length, Option, Some, None, Result, Ok}
+use Rattle.std.specs.List.{filter, list_any, list_all, dedup}
 use Rattle.std.specs.Ordering.{int_eq}
-use Rattle.std.specs.Option.{option_map, option_map_or, option_and_then}
-use Rattle.osm_base.specs.Content.{refs_of, refers, node}
+use Rattle.std.specs.Option.{option_map_or}
+use Rattle.osm_base.specs.Content.{node}
 use Rattle.osm_base.specs.declared.key.Key.{Key}
 use Rattle.osm_base.specs.declared.members.Member.{Member}
 use Rattle.osm_base.specs.declared.content.Content.{Content}
@@ -18,9 +18,9 @@ use Rattle.osm_table.specs.Table.{TableValue, entry_of, keys_by_rank}
 use Rattle.osm_table.specs.Table.{users}
 use Rattle.tool_api.specs.declared.kinds.Kinds.TheVariants.{Any}
 use Rattle.tool_api.specs.declared.refusal.Refusal.{Refusal}
-use Rattle.tool_api.specs.Tests.{◌>>◌, ◌>>=◌, first_of, is_named, list_tests, twice_test, use_test, purge_entry_test, is_new}
+use Rattle.tool_api.specs.Tests.{◌>>◌, first_of, is_named, list_tests, twice_test, use_test, purge_entry_test, is_new}
 use Rattle.tool_api.specs.Changes.{Outcome, done, changed, edit, delete, content_of}
-use Rattle.tool_api.specs.Closing.{closing, in_conflict}
+use Rattle.tool_api.specs.Closing.{closing}
 use Rattle.tool_api.specs.Basic.{with_refs, with_members}
 
 -- Delete: list tests; then per key as given InUse with the least user that isn't named. All are deleted.

@@ -18,7 +18,7 @@ use Rattle.osm_table.specs.declared.entry.Entry.TheVariants.{Incomplete, Known}
 use Rattle.osm_table.specs.declared.told.Told.{Told}
 use Rattle.osm_table.specs.declared.told.Told.TheVariants.{Mentioned, Live, Gone}
 use Rattle.tool_api.specs.declared.refusal.Refusal.{Refusal}
-use Rattle.tool_api.specs.declared.refusal.Refusal.TheVariants.{NotBuilt, TableFull}
+use Rattle.tool_api.specs.declared.refusal.Refusal.TheVariants.{NotBuilt}
 use Rattle.tool_api.specs.Tests.{◌>>◌}
 use Rattle.tool_api.specs.Changes.{Outcome, done, changed}
 use Rattle.tool_api.specs.Closing.{room_test}

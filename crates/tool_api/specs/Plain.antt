@@ -2,7 +2,7 @@
 --
 -- For example over a table with n1 and w5 Nn1 `delete n1` replies `refused 5 n1 w5` and leaves the table, and
 -- `delete n1,w5` replies done, without keys, with a table that has neither of them living.
-use Rattle.std.specs.Prelude.{ℕ, ◌≤◌, length, ◌∷◌, [], Result, Ok, Err}
+use Rattle.std.specs.Prelude.{ℕ, ◌≤◌, length, Result, Ok, Err}
 use Rattle.osm_base.specs.declared.content.Content.TheVariants as content
 use Rattle.osm_table.specs.Table.{TableValue}
 use Rattle.tool_api.specs.declared.verb.Verb.{Verb}

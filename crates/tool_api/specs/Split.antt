@@ -2,10 +2,10 @@
 --
 -- For example `split w5 n2` of w5 Nn1,n2,n3,n4 gives the pieces n1,n2 and n2,n3,n4. The second is the longer one and
 -- stays in w5; the first is the new way w-1 with w5's tags.
-use Rattle.std.specs.Prelude.{ℕ, ℤ, pos, ◌+◌, ◌-◌, ◌==◌, ◌&&◌, ◌||◌, Bool, true, false, not, nat_lt, nat_le, if◌then◌else◌, List, [], ◌∷◌, ◌++◌, length, map, take, drop, Option, Some, None, Result, Ok, Err}
-use Rattle.std.specs.List.{filter, list_any, find, flat_map, onto_first, last_or, fold, position_or_len}
+use Rattle.std.specs.Prelude.{ℕ, ℤ, pos, ◌+◌, ◌-◌, ◌==◌, ◌&&◌, Bool, true, false, not, nat_lt, nat_le, if◌then◌else◌, List, [], ◌∷◌, ◌++◌, length, map, take, drop, Option, Some, None, Result}
+use Rattle.std.specs.List.{filter, find, last_or, position_or_len}
 use Rattle.std.specs.Ordering.{int_eq}
-use Rattle.std.specs.Option.{option_map, option_map_or, option_or, unwrap_or, ok_or}
+use Rattle.std.specs.Option.{option_map, option_map_or, option_or, unwrap_or}
 use Rattle.osm_base.specs.Rank.{is_key}
 use Rattle.osm_base.specs.Content.{node, tags_of}
 use Rattle.osm_base.specs.Tags.{Pair}
@@ -14,13 +14,13 @@ use Rattle.osm_base.specs.declared.key.Kind.TheVariants as kind
 use Rattle.osm_base.specs.declared.content.Content.{Content}
 use Rattle.osm_base.specs.declared.content.Content.TheVariants as content
 use Rattle.osm_table.specs.declared.entry.Entry.{Entry}
-use Rattle.osm_table.specs.declared.entry.Entry.TheVariants.{Incomplete, Known}
-use Rattle.osm_table.specs.Table.{TableValue, entry_of, keys_by_rank}
+use Rattle.osm_table.specs.declared.entry.Entry.TheVariants.{Incomplete}
+use Rattle.osm_table.specs.Table.{TableValue, entry_of}
 use Rattle.osm_table.specs.Table.{users}
 use Rattle.tool_api.specs.declared.kinds.Kinds.TheVariants.{Nodes, Ways}
 use Rattle.tool_api.specs.declared.refusal.Refusal.{Refusal}
 use Rattle.tool_api.specs.declared.refusal.Refusal.TheVariants.{NamedTwice, WrongKind, NotInWay, IncompleteObject, NothingToSplit}
-use Rattle.tool_api.specs.Tests.{◌>>◌, ◌>>=◌, when, is_named, takes, target_test}
+use Rattle.tool_api.specs.Tests.{◌>>◌, when, is_named, takes, target_test}
 use Rattle.tool_api.specs.Changes.{Outcome, changed, edit, content_of, all_added, new_key}
 use Rattle.tool_api.specs.Closing.{closing}
 use Rattle.tool_api.specs.Basic.{with_refs}

@@ -3,7 +3,7 @@
 -- For example w10 Nn1,n2,n3 is cut at n2, and w-1 has n2,n3. A route with w11 Nn3,n4 before w10 goes on with w-1 and
 -- then w10, since w11 touches the end n3. A restriction from w10 via n3 is one from w-1. Where w1 and w2 are joined, a
 -- route with w2,w1 side by side has the kept way in their place, and one with w2 alone refuses the joining.
-use Rattle.std.specs.Prelude.{ℕ, zero, suc, ℤ, pos, ◌-◌, ◌==◌, ◌&&◌, ◌||◌, Bool, true, false, not, if◌then◌else◌, List, [], ◌∷◌, ◌++◌, length, map, reverse, take, Option, Some, None, codes}
+use Rattle.std.specs.Prelude.{ℕ, zero, suc, ℤ, pos, ◌-◌, ◌&&◌, ◌||◌, Bool, true, false, not, if◌then◌else◌, List, [], ◌∷◌, ◌++◌, length, map, reverse, take, Option, Some, None, codes}
 use Rattle.std.specs.List.{list_any, list_all, find, flat_map, last_or}
 use Rattle.std.specs.Ordering.{int_eq}
 use Rattle.std.specs.Option.{option_map, option_map_or, option_or, unwrap_or}

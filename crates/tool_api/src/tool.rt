@@ -1,5 +1,5 @@
 //! The trait of tools.
-ghost use Rattle.std.specs.Prelude.{◌≡◌, ℕ, ◌<◌, List, [], ◌∷◌, ◌++◌, length, OnOk, OnErr, IfOk};
+ghost use Rattle.std.specs.Prelude.{◌≡◌, ◌<◌, List, [], ◌∷◌, ◌++◌, length, OnOk, OnErr, IfOk};
 ghost use Rattle.std.specs.Option.{option_copied};
 ghost use Rattle.dataset.specs.Patch.{PatchValue, StandsBefore, StandsAfter, after_of, before_of};
 ghost use Rattle.dataset.specs.Sound.{IsSound};

@@ -1,16 +1,13 @@
 -- Keys that are among others.
-use Rattle.std.proofs.Common.{◌≡◌, ◌&&◌, ◌||◌, Bool, true, false, cond, not, List, [], ◌∷◌, ◌++◌, map, filter, Option, Some, None, refl, sym, ap, ◌∙◌}
+use Rattle.std.proofs.Common.{◌≡◌, ◌&&◌, ◌||◌, Bool, true, false, cond, not, List, [], ◌∷◌, filter, Option, Some, None, refl, sym, ap, ◌∙◌}
 use Rattle.std.specs.List.{flat_map, find, list_all, list_any, dedup, dedup_from}
 use Rattle.std.specs.Cmp.{both_ways}
-use Rattle.std.specs.Option.{option_map}
 use Rattle.std.proofs.lemmas.List.Folds.{list_any-append}
 use Rattle.osm_base.specs.Rank.{is_key}
 use Rattle.osm_base.proofs.RisingKeys.{one_key, key_itself}
 use Rattle.osm_base.specs.declared.key.Key.{Key}
-use Rattle.tool_api.specs.declared.refusal.Refusal.{Refusal}
 use Rattle.tool_api.specs.Tests.{is_named}
 use Rattle.tool_api.proofs.Bools.{or_right, both, and_left, and_right, by_either, and_false}
-use Rattle.tool_api.proofs.Passed.{none_in}
 
 -- a key of a list that passes is one that passes
 any_case : (p : Key → Bool) (q k : Key) (b rest c : Bool) → is_key q k ≡ b → (b || c) ≡ true → p q ≡ true → (c ≡ true → rest ≡ true) → (p k || rest) ≡ true

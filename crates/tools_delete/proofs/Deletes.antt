@@ -1,12 +1,8 @@
 -- Deleting what nothing else uses keeps a table sound.
-use Rattle.std.proofs.Common.{◌≡◌, ◌||◌, ℕ, Bool, true, false, cond, not, is_some, List, [], ◌∷◌, Option, Some, None, refl, sym, ap, ◌∙◌, subst, IsTrue}
+use Rattle.std.proofs.Common.{◌≡◌, ℕ, Bool, true, false, cond, not, List, [], Option, Some, None, refl, sym, ap, ◌∙◌, subst}
 use Rattle.std.specs.List.{find}
-use Rattle.std.specs.Option.{option_map, option_map_or, option_and_then}
-use Rattle.osm_base.specs.Rank.{is_key}
-use Rattle.osm_base.specs.RisingKeys.{is_in}
+use Rattle.std.specs.Option.{option_map_or, option_and_then}
 use Rattle.osm_base.specs.declared.key.Key.{Key}
-use Rattle.osm_base.specs.declared.content.Content.{Content}
-use Rattle.osm_table.specs.declared.entry.Base.{Base}
 use Rattle.osm_table.specs.declared.entry.Base.TheVariants.{New, Live, Gone}
 use Rattle.osm_table.specs.declared.entry.Entry.{Entry}
 use Rattle.osm_table.specs.declared.entry.Entry.TheVariants.{Incomplete, Known}
@@ -16,11 +12,11 @@ use Rattle.dataset.proofs.Changes.{deleted_entry}
 use Rattle.dataset.proofs.Listed.{user_uses}
 use Rattle.tool_api.specs.declared.kinds.Kinds.TheVariants.{Any}
 use Rattle.tool_api.specs.declared.refusal.Refusal.TheVariants.{InUse}
-use Rattle.tool_api.specs.Tests.{◌>>◌, is_named, first_of, list_tests, target_test, twice_test, use_test}
+use Rattle.tool_api.specs.Tests.{is_named, first_of, list_tests, target_test, twice_test, use_test}
 use Rattle.tool_api.specs.Changes.{changed, delete, deleted}
 use Rattle.tool_api.specs.Gone.{delete_all}
 use Rattle.tool_api.specs.declared.reply.Reply.TheVariants.{Done}
-use Rattle.tool_api.specs.Plain.{Answer, answered}
+use Rattle.tool_api.specs.Plain.{answered}
 use Rattle.tool_api.proofs.Looks.{entry_changed}
 use Rattle.tool_api.proofs.Passed.{Lives, lives, named_lives, both_none, passes, none_passes, none_in}
 use Rattle.tool_api.proofs.Sounds.{each_changed, next_is}

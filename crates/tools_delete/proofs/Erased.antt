@@ -1,5 +1,5 @@
 -- What an erased table has at a key, and that the draft makes just that table.
-use Rattle.std.proofs.Common.{◌≡◌, ◌&&◌, ◌||◌, Bool, true, false, cond, not, is_some, List, [], ◌∷◌, filter, Option, Some, None, refl, sym, ap, ◌∙◌}
+use Rattle.std.proofs.Common.{◌≡◌, ◌&&◌, ◌||◌, Bool, true, false, cond, not, is_some, List, filter, Option, Some, None, refl, sym, ap, ◌∙◌}
 use Rattle.std.specs.List.{list_all, list_any}
 use Rattle.std.specs.Option.{option_map, option_map_or, option_and_then}
 use Rattle.std.specs.FinMap as fin
@@ -115,10 +115,6 @@ same_edited : (going : List Key) (o : Option Entry) → option_map_or is_relatio
     → option_map (with_mine (with_members (members_without (is_named going)))) o ≡ o
 same_edited going None is none = cc
 same_edited going (Some e) is none = ap Some (relation_case going e is none)
-
-and_no : (b : Bool) → (b && false) ≡ false
-and_no true = refl
-and_no false = refl
 
 -- where a relation stays and has no member that goes, nothing changes
 fewer_case : (f g : Content → Content) (going mending falls rel has : Bool) (o : Option Entry)

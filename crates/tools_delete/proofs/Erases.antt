@@ -1,10 +1,10 @@
 -- Erasing keeps a table sound.
-use Rattle.std.proofs.Common.{◌≡◌, ◌&&◌, ◌||◌, ℕ, ℤ, Bool, true, false, cond, not, is_some, List, [], ◌∷◌, filter, map, Option, Some, None, refl, sym, ap, ◌∙◌, subst, int_eq}
+use Rattle.std.proofs.Common.{◌≡◌, ◌&&◌, ◌||◌, ℕ, ℤ, Bool, true, false, cond, not, is_some, List, [], filter, map, Option, Some, None, refl, sym, ap, ◌∙◌, subst, int_eq}
 use mathlib.Core.Logic.{◌⊎◌, inl, inr}
-use Rattle.std.specs.List.{dedup, find, list_all, list_any}
+use Rattle.std.specs.List.{find, list_all, list_any}
 use Rattle.std.specs.Option.{option_map, option_map_or, option_and_then}
 use Rattle.osm_base.specs.Rank.{is_key}
-use Rattle.osm_base.specs.Content.{refers, refs_of, node, fits, kind_of_content}
+use Rattle.osm_base.specs.Content.{node, kind_of_content}
 use Rattle.osm_base.specs.declared.key.Kind.{Kind}
 use Rattle.osm_base.specs.declared.key.Kind.TheVariants as kind
 use Rattle.osm_base.specs.declared.key.Key.{Key}
@@ -13,8 +13,6 @@ use Rattle.osm_base.specs.declared.content.Content.{Content}
 use Rattle.osm_base.specs.declared.content.Content.TheVariants as content
 use Rattle.osm_base.proofs.AnyMap.{list_any_map}
 use Rattle.osm_base.proofs.RisingKeys.{one_key}
-use Rattle.osm_table.specs.declared.entry.Base.{Base}
-use Rattle.osm_table.specs.declared.entry.Conflict.{Conflict}
 use Rattle.osm_table.specs.declared.entry.Entry.{Entry}
 use Rattle.osm_table.specs.declared.entry.Entry.TheVariants.{Incomplete, Known}
 use Rattle.osm_table.specs.Table.{TableValue, entry_of, mine_of, uses, users, keys_by_rank, Each, IfContent, IsThere}
@@ -23,12 +21,12 @@ use Rattle.dataset.specs.Sound.{IsSound, IsSoundEntry, IsNumber, LivesIn}
 use Rattle.dataset.proofs.Differs.{same_at_decides}
 use Rattle.tool_api.specs.declared.kinds.Kinds.TheVariants.{Any}
 use Rattle.tool_api.specs.declared.refusal.Refusal.TheVariants.{InConflict}
-use Rattle.tool_api.specs.Tests.{◌>>◌, is_named, first_of, list_tests, target_test, twice_test}
+use Rattle.tool_api.specs.Tests.{is_named, first_of, list_tests, target_test, twice_test}
 use Rattle.tool_api.specs.Changes.{content_of, deleted, with_mine}
 use Rattle.tool_api.specs.Basic.{with_members, with_refs}
-use Rattle.tool_api.specs.Closing.{closing, closing_tests, disturbs, in_conflict, spoils}
-use Rattle.tool_api.specs.Gone.{erase, erased, falls, goes, is_bare, is_left, is_mended, is_mended_content, is_relation, is_short, is_way, members_without, mended}
-use Rattle.tool_api.specs.Plain.{Answer, answered}
+use Rattle.tool_api.specs.Closing.{closing, closing_tests, in_conflict, spoils}
+use Rattle.tool_api.specs.Gone.{erase, erased, falls, goes, is_bare, is_left, is_mended, is_mended_content, is_relation, is_short, members_without, mended}
+use Rattle.tool_api.specs.Plain.{answered}
 use Rattle.tool_api.proofs.Least.{disturbs_at, has_key}
 use Rattle.tool_api.proofs.Passed.{Lives, lives, named_lives, both_none, passed_tests, unspoiled, fits_or_stays, none_passes, none_in}
 use Rattle.tool_api.proofs.Sounds.{content_edited, edited_there}

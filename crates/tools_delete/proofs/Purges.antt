@@ -1,5 +1,5 @@
 -- Purging keeps a table sound.
-use Rattle.std.proofs.Common.{◌≡◌, ◌||◌, ℕ, Bool, true, false, cond, not, List, [], ◌∷◌, Option, Some, None, refl, sym, ap, ◌∙◌, subst}
+use Rattle.std.proofs.Common.{◌≡◌, ℕ, Bool, true, false, cond, not, List, [], Option, Some, None, refl, sym, ap, ◌∙◌, subst}
 use Rattle.std.specs.List.{find}
 use Rattle.osm_base.specs.declared.key.Key.{Key}
 use Rattle.osm_table.specs.declared.entry.Base.TheVariants.{New, Live, Gone}
@@ -10,16 +10,16 @@ use Rattle.dataset.specs.Sound.{IsSound, IsSoundEntry, IsNumber, LivesIn, IdFits
 use Rattle.dataset.proofs.Changes.{incomplete_entry}
 use Rattle.tool_api.specs.declared.refusal.Refusal.TheVariants.{InUse}
 use Rattle.tool_api.specs.declared.reply.Reply.TheVariants.{Done}
-use Rattle.tool_api.specs.Tests.{◌>>◌, is_named, first_of, twice_test, use_test, purge_entry_test, is_new}
+use Rattle.tool_api.specs.Tests.{is_named, first_of, twice_test, use_test, purge_entry_test, is_new}
 use Rattle.tool_api.specs.Changes.{changed}
 use Rattle.tool_api.specs.Gone.{is_used, purge}
-use Rattle.tool_api.specs.Plain.{Answer, answered}
+use Rattle.tool_api.specs.Plain.{answered}
 use Rattle.tool_api.proofs.Looks.{entry_changed}
 use Rattle.tool_api.proofs.Passed.{passes, none_in}
 use Rattle.tool_api.proofs.Sounds.{each_changed, next_is}
 use Rattle.tools_delete.specs.Purged.{new_use_test, purged}
 use Rattle.tools_delete.proofs.Anys.{any_passes, none_any}
-use Rattle.tools_delete.proofs.Deletes.{is_user, either, unchanged_there, by_name, never}
+use Rattle.tools_delete.proofs.Deletes.{is_user, either, never}
 
 -- where the test of uses passed, nothing else uses the key
 pub not_used : (t : TableValue) (named : List Key) (k : Key) → use_test t named k ≡ None → is_used t named k ≡ false

@@ -1,10 +1,10 @@
 -- What erasing touches is found by the index.
-use Rattle.std.proofs.Common.{◌≡◌, ◌&&◌, ◌||◌, Bool, true, false, cond, not, List, [], ◌∷◌, ◌++◌, map, filter, Option, Some, None, refl, sym, ap, ◌∙◌}
+use Rattle.std.proofs.Common.{◌≡◌, ◌&&◌, ◌||◌, Bool, true, false, not, List, ◌++◌, map, filter, Option, Some, None, refl, sym, ap, ◌∙◌}
 use Rattle.std.specs.List.{flat_map, list_all, list_any}
 use Rattle.std.specs.Option.{option_map_or, option_and_then}
 use Rattle.std.proofs.lemmas.List.Folds.{list_any-append}
 use Rattle.osm_base.specs.Rank.{is_key}
-use Rattle.osm_base.specs.Content.{refers, refs_of, node}
+use Rattle.osm_base.specs.Content.{refers, node}
 use Rattle.osm_base.proofs.AnyMap.{list_any_map}
 use Rattle.osm_base.proofs.RisingKeys.{in_filter}
 use Rattle.osm_base.specs.declared.key.Key.{Key}
@@ -12,7 +12,6 @@ use Rattle.osm_base.specs.declared.members.Member.{Member}
 use Rattle.osm_base.specs.declared.content.Content.{Content}
 use Rattle.osm_base.specs.declared.content.Content.TheVariants as content
 use Rattle.osm_table.specs.declared.entry.Entry.{Entry}
-use Rattle.osm_table.specs.declared.entry.Entry.TheVariants.{Incomplete, Known}
 use Rattle.osm_table.specs.Table.{TableValue, entry_of, mine_of, uses, users}
 use Rattle.dataset.proofs.Listed.{user_uses}
 use Rattle.tool_api.specs.Tests.{is_named}

@@ -1,8 +1,8 @@
 -- What erasing touches, in words on the keys that fall and on those that go.
-use Rattle.std.specs.Prelude.{◌&&◌, Bool, true, false, not, List, [], map, Option, Some, None}
+use Rattle.std.specs.Prelude.{◌&&◌, Bool, true, false, not, List, [], map, Option, Some}
 use Rattle.std.specs.List.{list_any, list_all}
 use Rattle.std.specs.Option.{option_map_or}
-use Rattle.osm_base.specs.Content.{refs_of, node}
+use Rattle.osm_base.specs.Content.{node}
 use Rattle.osm_base.specs.declared.key.Key.{Key}
 use Rattle.osm_base.specs.declared.content.Content.{Content}
 use Rattle.osm_base.specs.declared.content.Content.TheVariants as content

@@ -1,14 +1,13 @@
 //! Takes objects out of the table.
-ghost use Rattle.std.specs.Prelude.{◌≡◌, [], Some, None, if◌then◌else◌, IfOk, OnOk, OnErr};
+ghost use Rattle.std.specs.Prelude.{◌≡◌, [], IfOk, OnOk, OnErr};
 ghost use Rattle.std.specs.Option.{option_copied};
 ghost use Rattle.dataset.specs.Draft.{drafted};
 ghost use Rattle.osm_table.specs.Table.{entry_of};
-ghost use Rattle.osm_table.specs.declared.entry.Entry.TheVariants.{Incomplete};
 ghost use Rattle.tool_api.specs.Changes.{changed};
 ghost use Rattle.tool_api.specs.Gone.{is_used, purge};
 ghost use Rattle.tool_api.specs.Patches.{Kept};
 ghost use Rattle.tool_api.specs.Plain.{answered};
-ghost use Rattle.tool_api.specs.Tests.{first_of, is_new, purge_entry_test, use_test};
+ghost use Rattle.tool_api.specs.Tests.{first_of, is_new, purge_entry_test};
 ghost use Rattle.tools_delete.specs.Purged.{new_use_test, purged};
 
 use dataset::{DataSet, Draft, Patch};

@@ -1,9 +1,9 @@
 -- The relations with a member among ways are the users of the ways.
-use Rattle.std.proofs.Common.{◌≡◌, ◌||◌, ◌&&◌, ℤ, pos, Bool, true, false, cond, not, is_some, List, [], ◌∷◌, ◌++◌, Option, Some, None, refl, sym, ap, ◌∙◌, subst, map}
+use Rattle.std.proofs.Common.{◌≡◌, ◌||◌, ◌&&◌, ℤ, pos, Bool, true, false, cond, is_some, List, [], ◌∷◌, Option, Some, None, refl, sym, ap, ◌∙◌, map}
 use Rattle.std.specs.List.{filter, find, list_any, flat_map}
 use Rattle.std.specs.Option.{option_map, option_map_or, option_and_then, is_none}
 use Rattle.std.proofs.lemmas.List.Folds.{list_any-append}
-use Rattle.osm_base.specs.Content.{refers, node, refs_of}
+use Rattle.osm_base.specs.Content.{refers, node}
 use Rattle.osm_base.specs.Rank.{is_key}
 use Rattle.osm_base.specs.RisingKeys.{is_in}
 use Rattle.osm_base.proofs.AnyMap.{list_any_map}
@@ -24,13 +24,12 @@ use Rattle.tool_api.specs.declared.refusal.Refusal.TheVariants.{MemberClash, Wro
 use Rattle.tool_api.specs.Tests.{is_named, first_of, target_test, entry_test, conflict_test, takes}
 use Rattle.tool_api.specs.Changes.{content_of}
 use Rattle.tool_api.specs.Gone.{is_relation}
-use Rattle.tool_api.specs.Upkeep.{folded}
 use Rattle.tool_api.specs.Combine.{relations_among, member_test, clashes}
 use Rattle.tool_api.specs.Order.{ranked}
 use Rattle.tool_api.proofs.Bridge.{ranked_filter}
 use Rattle.tool_api.proofs.Least.{has_key}
 use Rattle.tool_api.proofs.Passed.{passes}
-use Rattle.way_combine.proofs.Runs.{has_member, folds_alike, unfolded_names}
+use Rattle.way_combine.proofs.Runs.{unfolded_names}
 use Rattle.tool_api.proofs.Bools.{false_between, or_true}
 
 -- What passed the target tests of ways is a way.

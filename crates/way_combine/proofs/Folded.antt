@@ -1,19 +1,13 @@
 -- A relation with its runs folded, and the walk over the relations.
-use Rattle.std.proofs.Common.{◌≡◌, ◌+◌, ◌<◌, ℕ, Bool, true, false, cond, suc, List, ◌∷◌, drop, length, get_or, Option, Some, None, refl, sym, ap, ◌∙◌, add-one, drop-cons}
+use Rattle.std.proofs.Common.{◌≡◌, ◌+◌, ◌<◌, ℕ, Bool, true, false, cond, suc, List, drop, length, get_or, Option, Some, None, refl, sym, ap, ◌∙◌, add-one, drop-cons}
 use Rattle.std.specs.List.{find}
-use Rattle.std.specs.Option.{option_map, option_and_then, is_none, unwrap_or}
+use Rattle.std.specs.Option.{is_none, unwrap_or}
 use Rattle.osm_base.specs.Tags.{Pair}
 use Rattle.osm_base.specs.declared.key.Key.{Key}
 use Rattle.osm_base.specs.declared.members.Member.{Member}
 use Rattle.osm_base.specs.declared.content.Content.{Content}
 use Rattle.osm_base.specs.declared.content.Content.TheVariants as content
-use Rattle.osm_table.specs.declared.entry.Base.{Base}
-use Rattle.osm_table.specs.declared.entry.Conflict.{Conflict}
 use Rattle.osm_table.specs.declared.entry.Entry.{Entry}
-use Rattle.osm_table.specs.declared.entry.Entry.TheVariants.{Known}
-use Rattle.osm_table.specs.Table.{TableValue, entry_of, mine_of}
-use Rattle.tool_api.specs.Changes.{content_of, edit, with_mine}
-use Rattle.tool_api.specs.Combine.{clashes, fold_runs}
 use Rattle.tool_api.specs.Upkeep.{folded}
 use Rattle.way_combine.proofs.Runs.{folds_alike}
 

@@ -1,11 +1,11 @@
 -- The table after ways are joined is sound.
-use Rattle.std.proofs.Common.{◌≡◌, ◌||◌, ◌&&◌, ℕ, ℤ, pos, Bool, true, false, cond, not, is_some, List, [], ◌∷◌, Option, Some, None, Result, Ok, Err, refl, sym, ap, ◌∙◌, subst, map, IsTrue}
+use Rattle.std.proofs.Common.{◌≡◌, ◌||◌, ◌&&◌, ℕ, ℤ, pos, Bool, true, false, cond, not, is_some, List, [], ◌∷◌, Option, Some, None, Ok, refl, sym, ap, ◌∙◌, subst, map, IsTrue}
 use mathlib.Core.Logic.{◌⊎◌, inl, inr}
 use Rattle.std.specs.List.{filter, find, list_any}
 use Rattle.std.specs.Ordering.{int_eq}
 use Rattle.std.specs.Option.{option_map, option_map_or, option_and_then, option_or, unwrap_or, is_none}
 use Rattle.std.proofs.lemmas.Bool.Decides.{Decides-int_eq}
-use Rattle.osm_base.specs.Content.{refers, node, fits, kind_of_content}
+use Rattle.osm_base.specs.Content.{node, fits, kind_of_content}
 use Rattle.osm_base.specs.Rank.{is_key}
 use Rattle.osm_base.specs.Tags.{Pair}
 use Rattle.osm_base.proofs.AnyMap.{list_any_map}
@@ -20,28 +20,26 @@ use Rattle.osm_table.specs.declared.entry.Base.TheVariants.{New, Live, Gone}
 use Rattle.osm_table.specs.declared.entry.Conflict.{Conflict}
 use Rattle.osm_table.specs.declared.entry.Entry.{Entry}
 use Rattle.osm_table.specs.declared.entry.Entry.TheVariants.{Incomplete, Known}
-use Rattle.osm_table.specs.Table.{TableValue, entry_of, keys_by_rank, users, uses, mine_of, Each, IsThere}
-use Rattle.dataset.specs.Diff.{same_at}
+use Rattle.osm_table.specs.Table.{TableValue, entry_of, keys_by_rank, uses, mine_of, Each, IsThere}
 use Rattle.dataset.specs.Sound.{IsSound, IsSoundEntry, IsNumber, LivesIn}
 use Rattle.dataset.proofs.Changes.{mine_entry, deleted_entry}
 use Rattle.dataset.proofs.Differs.{same_at_decides}
 use Rattle.dataset.proofs.Listed.{user_uses}
 use Rattle.tool_api.specs.declared.kinds.Kinds.TheVariants.{Ways}
-use Rattle.tool_api.specs.declared.refusal.Refusal.{Refusal}
 use Rattle.tool_api.specs.declared.refusal.Refusal.TheVariants.{InConflict, MemberClash}
 use Rattle.tool_api.specs.Tests.{is_named, first_of, target_test, entry_test, twice_test, list_tests}
-use Rattle.tool_api.specs.Changes.{changed, edit, delete, deleted, with_mine, content_of}
+use Rattle.tool_api.specs.Changes.{edit, delete, deleted, with_mine, content_of}
 use Rattle.tool_api.specs.Closing.{closing_tests, disturbs, disturb_test, in_conflict, spoils}
 use Rattle.tool_api.specs.Gone.{is_relation}
 use Rattle.tool_api.specs.Upkeep.{first_in, is_among, folded}
 use Rattle.tool_api.specs.Split.{way_refs}
-use Rattle.tool_api.specs.Combine.{refs_at, joined, united, all_tags, clashes, member_test, is_positive, kept_way, as_way, fold_runs, relations_among, combined}
+use Rattle.tool_api.specs.Combine.{joined, united, all_tags, clashes, member_test, is_positive, kept_way, as_way, fold_runs, relations_among, combined}
 use Rattle.tool_api.proofs.Least.{has_key, conflict_some}
 use Rattle.tool_api.proofs.Passed.{Lives, lives, named_lives, passes, both_none, none_passes, passed_tests, unspoiled, fits_or_stays, none_in}
 use Rattle.way_combine.proofs.Among.{way_kind, user_is, uses_one, some_user}
 use Rattle.way_combine.proofs.Joints.{Only, joined_only}
 use Rattle.way_combine.proofs.Looks.{entry_thrice, next_thrice, four_cases}
-use Rattle.way_combine.proofs.Runs.{has_member, folds_alike, folded_stays, Stays}
+use Rattle.way_combine.proofs.Runs.{folds_alike, folded_stays, Stays}
 use Rattle.tool_api.proofs.Bools.{and_right, left_alone, or_true}
 use Rattle.tool_api.proofs.Sounds.{edited_there}
 

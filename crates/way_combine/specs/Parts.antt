@@ -1,5 +1,5 @@
 -- How far the ways are joined, and their tags united.
-use Rattle.std.specs.Prelude.{ℕ, ℤ, Bool, true, false, not, if◌then◌else◌, List, [], ◌∷◌, Option, Some, None, Result, Ok, Err}
+use Rattle.std.specs.Prelude.{ℕ, Bool, false, not, if◌then◌else◌, List, [], ◌∷◌, Option, Some, None, Result, Ok, Err}
 use Rattle.osm_base.specs.Same.{same_text}
 use Rattle.osm_base.specs.Tags.{Pair, value_of, with_tag}
 use Rattle.tool_api.specs.Combine.{united, clash_test}

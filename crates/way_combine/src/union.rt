@@ -1,11 +1,9 @@
 //! Unites the tags of ways.
-ghost use Rattle.std.specs.Prelude.{◌≡◌, ◌++◌, ◌<◌, [], T, nat_lt, length, IfOk, OnOk};
+ghost use Rattle.std.specs.Prelude.{◌≡◌, ◌++◌, [], T, nat_lt, length, IfOk, OnOk};
 ghost use Rattle.std.specs.List.{list_all};
 ghost use Rattle.std.specs.List.Sorted.{IsPermutation, IsSortedBy};
-ghost use Rattle.std.specs.Option.{option_copied, option_map_or};
 ghost use Rattle.std.specs.Ordering.{is_lt};
-ghost use Rattle.osm_base.specs.Content.{tags_of};
-ghost use Rattle.osm_base.specs.Tags.{bytes_cmp, value_of, with_tag};
+ghost use Rattle.osm_base.specs.Tags.{bytes_cmp, value_of};
 ghost use Rattle.tool_api.specs.Combine.{all_tags};
 ghost use Rattle.tool_api.specs.Split.{tags_at};
 ghost use Rattle.way_combine.specs.Parts.{unless, differs, put_on, union_of};

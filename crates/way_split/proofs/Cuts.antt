@@ -1,10 +1,9 @@
 -- Steps of the loops that cut a way and number its pieces.
 use Rattle.std.proofs.Common.{◌≡◌, ℕ, ℤ, zero, suc, pos, ◌+◌, ◌-◌, ◌<◌, ◌≤◌, ◌&&◌, ◌||◌, Bool, true, false, cond, not, nat_lt, nat_le, List, [], ◌∷◌, ◌++◌, length, map, drop, take, get_or, slice_get, Option, Some, None, refl, sym, ap, ◌∙◌, subst, drop-cons, add-one, length-drop, append_assoc, arith}
-use Rattle.std.proofs.lemmas.Bool.Decides.{nat_tests, Decides-int_eq}
+use Rattle.std.proofs.lemmas.Bool.Decides.{nat_tests}
 use Rattle.std.proofs.lemmas.Option.{slice_get-get_or}
-use Rattle.std.proofs.lemmas.List.Folds.{list_any-append}
 use Rattle.std.proofs.lemmas.List.Sums.{prefix_len-le-length}
-use Rattle.std.specs.List.{last_or, list_any, position, position_or_len}
+use Rattle.std.specs.List.{last_or, position, position_or_len}
 use Rattle.std.specs.Option.{option_map_or, option_or, unwrap_or}
 use Rattle.std.specs.Ordering.{int_eq}
 use Rattle.osm_base.specs.Rank.{is_key}
@@ -16,7 +15,7 @@ use Rattle.tool_api.specs.declared.refusal.Refusal.{Refusal}
 use Rattle.tool_api.specs.declared.refusal.Refusal.TheVariants.{NamedTwice, WrongKind, NotInWay}
 use Rattle.tool_api.specs.Tests.{is_named, takes, when}
 use Rattle.tool_api.specs.Split.{pieces_from, is_closed, node_tests, piece_of}
-use Rattle.tool_api.specs.Upkeep.{PieceValue, first_in, is_among}
+use Rattle.tool_api.specs.Upkeep.{first_in, is_among}
 use Rattle.way_split.specs.Tests.{one_test}
 use Rattle.tool_api.proofs.Lasts.{last_got}
 

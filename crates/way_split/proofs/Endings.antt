@@ -1,5 +1,5 @@
 -- The tests of a split in order, and how it ends.
-use Rattle.std.proofs.Common.{◌≡◌, ◌<◌, ◌≤◌, ℕ, ℤ, true, false, nat_lt, List, [], ◌∷◌, length, map, Option, Some, None, Ok, Err, refl, sym, ap, ◌∙◌, subst, arith}
+use Rattle.std.proofs.Common.{◌≡◌, ◌<◌, ◌≤◌, ℕ, ℤ, true, false, nat_lt, List, [], ◌∷◌, length, map, Option, Some, None, Err, refl, sym, ap, ◌∙◌, subst, arith}
 use Rattle.std.specs.Prelude.{Result}
 use Rattle.std.specs.Option.{option_or}
 use Rattle.std.proofs.lemmas.Bool.Decides.{nat_tests}
@@ -13,7 +13,7 @@ use Rattle.tool_api.specs.declared.refusal.Refusal.TheVariants.{NothingToSplit}
 use Rattle.tool_api.specs.Tests.{◌>>◌, when, is_named, target_test}
 use Rattle.tool_api.specs.Changes.{Outcome, content_of}
 use Rattle.tool_api.specs.Closing.{closing, closing_tests}
-use Rattle.tool_api.specs.Plain.{Answer, answered}
+use Rattle.tool_api.specs.Plain.{answered}
 use Rattle.tool_api.specs.Split.{way_refs, node_tests, complete_test, all_pieces, kept_number, keyed, others, split_table, split_into, split_pieces, split}
 use Rattle.tool_api.proofs.Passed.{both_none}
 use Rattle.way_split.specs.Tests.{split_tests}

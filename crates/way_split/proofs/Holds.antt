@@ -1,11 +1,11 @@
 -- What holds of each node of a way holds of each node of its pieces.
-use Rattle.std.proofs.Common.{◌≡◌, ◌+◌, ◌-◌, ◌==◌, ◌&&◌, ℕ, zero, suc, ℤ, Bool, true, false, cond, not, nat_lt, List, [], ◌∷◌, ◌++◌, length, drop, take, Option, Some, None}
+use Rattle.std.proofs.Common.{◌+◌, ◌-◌, ◌==◌, ◌&&◌, ℕ, zero, suc, ℤ, Bool, true, false, cond, nat_lt, List, [], ◌∷◌, ◌++◌, length, drop, take, Option, Some}
 use Rattle.std.specs.List.{AllByRecursion, find, filter, position_or_len}
 use Rattle.std.specs.Option.{option_map_or}
 use Rattle.osm_base.specs.declared.key.Key.{Key}
 use Rattle.osm_base.specs.declared.key.Kind.TheVariants as kind
 use Rattle.tool_api.specs.Changes.{new_key}
-use Rattle.tool_api.specs.Split.{pieces_from, pieces, is_closed, turned, all_pieces, keyed, others, kept_refs}
+use Rattle.tool_api.specs.Split.{pieces_from, pieces, is_closed, turned, all_pieces, keyed}
 
 all_joined : {X : Type 0} (P : X → Type 0) (xs ys : List X) → AllByRecursion P xs → AllByRecursion P ys → AllByRecursion P (xs ++ ys)
 all_joined P [] ys h g = g

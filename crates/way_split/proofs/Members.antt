@@ -1,8 +1,8 @@
 -- The members after a split are old ones, or name a piece.
-use Rattle.std.proofs.Common.{◌≡◌, ◌||◌, ℤ, ℕ, Bool, true, false, cond, List, [], ◌∷◌, ◌++◌, map, reverse, Option, Some, None, refl, sym, ap, ◌∙◌, subst}
+use Rattle.std.proofs.Common.{◌≡◌, ◌||◌, ℤ, ℕ, Bool, true, false, cond, List, [], ◌∷◌, ◌++◌, map, reverse, Option, Some, None, refl, sym, ap, ◌∙◌}
 use mathlib.Core.Logic.{◌⊎◌, inl, inr}
 use mathlib.Core.List.{reverse-cons}
-use Rattle.std.specs.List.{list_any, find, flat_map}
+use Rattle.std.specs.List.{list_any, find}
 use Rattle.std.specs.Option.{option_or, option_map_or}
 use Rattle.std.proofs.lemmas.List.Folds.{list_any-append}
 use Rattle.osm_base.specs.Rank.{is_key}
@@ -12,7 +12,7 @@ use Rattle.osm_base.specs.declared.members.Member.{Member}
 use Rattle.osm_base.specs.declared.content.Content.{Content}
 use Rattle.osm_base.specs.declared.content.Content.TheVariants as content
 use Rattle.osm_table.specs.Table.{TableValue}
-use Rattle.tool_api.specs.Upkeep.{PieceValue, first_in, member_of, restricted_piece, is_among, in_order, is_turn, is_restriction, via_nodes, pieces_between, first_node, last_node, stand_ins, replaced_from, replaced}
+use Rattle.tool_api.specs.Upkeep.{PieceValue, first_in, member_of, restricted_piece, is_among, in_order, is_turn, pieces_between, first_node, last_node, stand_ins, replaced_from, replaced}
 use Rattle.tool_api.proofs.Bools.{or_right, either_is}
 
 -- whether a member names the key

@@ -1,5 +1,5 @@
 -- The draft of a split makes the table of the definition.
-use Rattle.std.proofs.Common.{◌≡◌, ◌+◌, ℕ, ℤ, List, [], ◌∷◌, map, Some, None, refl, sym, ap, ◌∙◌}
+use Rattle.std.proofs.Common.{◌≡◌, ◌+◌, ℕ, ℤ, List, [], ◌∷◌, map, Some, None, ap, ◌∙◌}
 use Rattle.std.specs.FinMap as fin
 use Rattle.osm_base.specs.Content.{kind_of_content}
 use Rattle.osm_base.specs.Tags.{Pair}

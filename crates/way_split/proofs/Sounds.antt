@@ -2,15 +2,15 @@
 --
 -- It is seen as the old table with the new ways, in which the relations and then the way are changed: so each key that
 -- a member names after the split is there before the relations change.
-use Rattle.std.proofs.Common.{◌≡◌, ◌&&◌, ◌||◌, ◌+◌, ◌<◌, ◌≤◌, ◌^◌, ℕ, ℤ, Bool, true, false, cond, not, is_some, nat_lt, List, [], ◌∷◌, ◌++◌, length, map, Option, Some, None, refl, sym, ap, ◌∙◌, subst, arith, IsTrue}
+use Rattle.std.proofs.Common.{◌≡◌, ◌&&◌, ◌||◌, ◌+◌, ◌≤◌, ◌^◌, ℕ, ℤ, Bool, true, false, cond, not, is_some, nat_lt, List, [], ◌∷◌, ◌++◌, length, map, Option, Some, None, refl, sym, ap, ◌∙◌, subst, arith}
 use mathlib.Core.Logic.{◌⊎◌, inl, inr}
-use Rattle.std.specs.List.{AllByRecursion, list_any, find, filter}
-use Rattle.std.specs.Option.{option_map, option_map_or, option_or, option_and_then}
+use Rattle.std.specs.List.{AllByRecursion, find}
+use Rattle.std.specs.Option.{option_map, option_map_or, option_and_then}
 use Rattle.std.specs.FinMap as fin
 use Rattle.std.proofs.lemmas.Bool.Decides.{nat_tests}
 use Rattle.osm_base.specs.Rank.{is_key}
 use Rattle.osm_base.specs.RisingKeys.{is_in}
-use Rattle.osm_base.specs.Content.{refers, fits, kind_of_content, node}
+use Rattle.osm_base.specs.Content.{fits, kind_of_content, node}
 use Rattle.osm_base.specs.Tags.{Pair}
 use Rattle.osm_base.specs.declared.key.Key.{Key}
 use Rattle.osm_base.specs.declared.key.Kind.{Kind}
@@ -23,13 +23,12 @@ use Rattle.osm_table.specs.declared.entry.Base.{Base}
 use Rattle.osm_table.specs.declared.entry.Conflict.{Conflict}
 use Rattle.osm_table.specs.declared.entry.Entry.{Entry}
 use Rattle.osm_table.specs.declared.entry.Entry.TheVariants.{Incomplete, Known}
-use Rattle.osm_table.specs.Table.{TableValue, entry_of, mine_of, keys_by_rank, users, uses, Each, IsThere}
+use Rattle.osm_table.specs.Table.{TableValue, entry_of, mine_of, keys_by_rank, users, Each, IsThere}
 use Rattle.dataset.specs.Diff.{same_at}
 use Rattle.dataset.specs.Sound.{IsSound, IsSoundEntry, IsNumber, LivesIn}
 use Rattle.dataset.proofs.Changes.{mine_entry}
 use Rattle.dataset.proofs.Differs.{same_at_decides}
 use Rattle.dataset.proofs.Kept.{entry_more}
-use Rattle.dataset.proofs.Listed.{user_uses}
 use Rattle.tool_api.specs.declared.kinds.Kinds.TheVariants.{Nodes, Ways}
 use Rattle.tool_api.specs.declared.refusal.Refusal.{Refusal}
 use Rattle.tool_api.specs.declared.refusal.Refusal.TheVariants.{InConflict, WrongKind, NamedTwice, NotInWay}
@@ -38,8 +37,8 @@ use Rattle.tool_api.specs.Changes.{changed, edit, with_mine, new_key, all_added,
 use Rattle.tool_api.specs.Closing.{closing_tests, in_conflict, disturbs, spoils}
 use Rattle.tool_api.specs.Basic.{with_refs}
 use Rattle.tool_api.specs.Gone.{is_relation}
-use Rattle.tool_api.specs.Upkeep.{PieceValue, is_among, replaced}
-use Rattle.tool_api.specs.Split.{way_refs, tags_at, node_tests, all_pieces, split_pieces, keyed, piece_of, others, kept_refs, relations_of, split_table}
+use Rattle.tool_api.specs.Upkeep.{is_among, replaced}
+use Rattle.tool_api.specs.Split.{way_refs, tags_at, node_tests, split_pieces, keyed, piece_of, others, kept_refs, relations_of, split_table}
 use Rattle.tool_api.proofs.Least.{has_key, disturbs_at}
 use Rattle.tool_api.proofs.Looks.{entry_changed, next_changed}
 use Rattle.tool_api.proofs.Passed.{both_none, none_passes, passed_tests, unspoiled, fits_or_stays, none_in}

@@ -1,5 +1,5 @@
 -- The tests of a split but for the closing ones, and the test of one named node.
-use Rattle.std.specs.Prelude.{ℤ, not, nat_lt, length, List, [], Option}
+use Rattle.std.specs.Prelude.{not, nat_lt, length, List, [], Option}
 use Rattle.std.specs.Option.{option_or}
 use Rattle.osm_base.specs.Content.{node}
 use Rattle.osm_base.specs.declared.key.Key.{Key}

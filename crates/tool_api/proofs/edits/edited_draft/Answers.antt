@@ -1,5 +1,3 @@
-use Rattle.std.proofs.Common.{◌∙◌, ap}
-use Rattle.dataset.specs.Draft.{DraftValue}
 use Rattle.tool_api.specs.Changes.{edit}
 use Rattle.tool_api.proofs.Looks.{from_none}
 use Rattle.tool_api.proofs.edits.edited_draft.Goals as goal

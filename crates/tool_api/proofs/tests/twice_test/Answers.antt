@@ -1,4 +1,4 @@
-use Rattle.std.proofs.Common.{◌≡◌, ◌∙◌, sym, ◌<◌, length, arith, false, true}
+use Rattle.std.proofs.Common.{◌∙◌, sym, ◌<◌, length, arith, false, true}
 use Rattle.tool_api.proofs.Seen.{is_not, named_again, named_once}
 use Rattle.tool_api.proofs.tests.twice_test.Goals as goal
 

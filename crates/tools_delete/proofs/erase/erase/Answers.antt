@@ -1,5 +1,4 @@
-use Rattle.std.proofs.Common.{◌≡◌, ◌∙◌, sym, ap, subst, refl, None, List, IfOk, OnOk}
-use Rattle.osm_table.specs.Table.{TableValue}
+use Rattle.std.proofs.Common.{◌≡◌, ◌∙◌, sym, ap, subst, None, IfOk, OnOk}
 use Rattle.dataset.specs.Sound.{IsSound}
 use Rattle.tool_api.specs.declared.kinds.Kinds.TheVariants.{Any}
 use Rattle.tool_api.specs.Tests.{list_tests}

@@ -1,4 +1,4 @@
-use Rattle.std.proofs.Common.{◌≡◌, ◌∙◌, ◌&&◌, ◌||◌, ap, not, filter, List}
+use Rattle.std.proofs.Common.{◌∙◌, ◌&&◌, ◌||◌, ap, not, filter, List}
 use Rattle.std.proofs.lemmas.Result.{IfOk-weaker}
 use Rattle.osm_base.specs.declared.key.Key.{Key}
 use Rattle.tool_api.specs.Tests.{is_named}

@@ -1,5 +1,4 @@
-use Rattle.std.proofs.Common.{◌≡◌, ◌∙◌, ap, List}
-use Rattle.osm_base.specs.declared.key.Key.{Key}
+use Rattle.std.proofs.Common.{◌∙◌, ap}
 use Rattle.osm_table.specs.Table.{TableValue}
 use Rattle.tool_api.specs.Basic.{with_members, with_refs}
 use Rattle.tool_api.specs.Changes.{changed, delete, edit}

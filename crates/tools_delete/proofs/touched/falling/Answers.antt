@@ -1,7 +1,6 @@
-use Rattle.std.proofs.Common.{◌≡◌, ◌∙◌, ap, ◌++◌, filter, List}
+use Rattle.std.proofs.Common.{◌∙◌, ap, ◌++◌, List}
 use Rattle.std.proofs.lemmas.Result.{IfOk-weaker}
 use Rattle.osm_base.specs.declared.key.Key.{Key}
-use Rattle.tools_delete.specs.Touched.{falls_short}
 use Rattle.tools_delete.proofs.Touches.{falling_found}
 use Rattle.tools_delete.proofs.touched.falling.Goals as goal
 

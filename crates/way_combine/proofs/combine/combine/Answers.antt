@@ -1,13 +1,11 @@
-use Rattle.std.proofs.Common.{◌≡◌, Option, Some, None, Ok, Err, Result, ℤ, List, sym, ap, ◌∙◌, subst, IfOk, OnOk}
+use Rattle.std.proofs.Common.{◌≡◌, Option, Some, Result, sym, ap, ◌∙◌, subst, IfOk, OnOk}
 use Rattle.std.specs.Option.{IfNone}
 use Rattle.dataset.specs.Draft.{drafted}
 use Rattle.dataset.specs.Sound.{IsSound}
-use Rattle.tool_api.specs.declared.kinds.Kinds.TheVariants.{Ways}
 use Rattle.tool_api.specs.declared.refusal.Refusal.{Refusal}
 use Rattle.tool_api.specs.Changes.{Outcome, changed, edit}
-use Rattle.tool_api.specs.Tests.{first_of, list_tests}
 use Rattle.tool_api.specs.Closing.{closing_tests}
-use Rattle.tool_api.specs.Combine.{way_test, joined, all_tags, clash_test, member_test, kept_way, combined, fold_runs, relations_among}
+use Rattle.tool_api.specs.Combine.{all_tags, fold_runs, relations_among}
 use Rattle.tool_api.specs.Plain.{Answer, answered}
 use Rattle.tool_api.proofs.Looks.{from_none}
 use Rattle.way_combine.proofs.Combines.{at_tags, at_members, at_end, tags_joined, tags_refused}

@@ -1,4 +1,4 @@
-use Rattle.std.proofs.Common.{Some, None, Option, Ok, Err, sym, ap, ◌∙◌}
+use Rattle.std.proofs.Common.{Option, sym, ap, ◌∙◌}
 use Rattle.tool_api.specs.declared.refusal.Refusal.{Refusal}
 use Rattle.way_combine.specs.Parts.{unless}
 use Rattle.way_combine.proofs.Unions.{named_sorted, union_walked}

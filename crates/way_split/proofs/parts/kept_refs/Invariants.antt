@@ -1,7 +1,4 @@
-use Rattle.std.proofs.Common.{◌≡◌, [], drop}
-use Rattle.std.specs.List.{find}
-use Rattle.std.specs.Option.{option_map_or}
-use Rattle.osm_base.specs.Rank.{is_key}
+use Rattle.std.proofs.Common.{◌≡◌, drop}
 use Rattle.tool_api.specs.Split.{kept_refs}
 use Rattle.way_split.proofs.parts.kept_refs.Given as goal
 

@@ -1,4 +1,4 @@
-use Rattle.std.proofs.Common.{◌≤◌, length, arith}
+use Rattle.std.proofs.Common.{arith}
 use Rattle.osm_base.specs.Content.{node}
 use Rattle.tool_api.specs.Tests.{is_named}
 use Rattle.way_split.proofs.Cuts.{none_place, some_place, place_within}

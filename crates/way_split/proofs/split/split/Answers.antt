@@ -1,4 +1,4 @@
-use Rattle.std.proofs.Common.{◌≡◌, ap, ◌∙◌, subst}
+use Rattle.std.proofs.Common.{ap, ◌∙◌, subst}
 use Rattle.tool_api.specs.Plain.{Answer}
 use Rattle.way_split.specs.Tested.{IsTested}
 use Rattle.way_split.proofs.Endings.{split_refused}

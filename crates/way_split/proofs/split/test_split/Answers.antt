@@ -1,4 +1,4 @@
-use Rattle.std.proofs.Common.{sym, ◌∙◌}
+use Rattle.std.proofs.Common.{sym}
 use Rattle.way_split.proofs.Endings.{target_refuses}
 use Rattle.way_split.proofs.split.test_split.Goals as goal
 

@@ -1,4 +1,4 @@
-use Rattle.std.proofs.Common.{◌∙◌, ◌≡◌, ap, ◌++◌, ◌∷◌, [], List}
+use Rattle.std.proofs.Common.{◌∙◌, ap, ◌++◌, ◌∷◌, [], List}
 use Rattle.dataset.specs.Patch.{PatchValue}
 use Rattle.tool_api.specs.Patches.{last_patch, turned}
 use Rattle.tool_api.proofs.Ends.{turned_pushed}
