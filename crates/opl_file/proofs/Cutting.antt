@@ -1,6 +1,6 @@
 -- Bytes without an LF before the bytes of a file.
-use Rattle.std.proofs.Common.{◌≡◌, ◌≢◌, ℕ, zero, suc, ◌+◌, ◌<◌, ◌≤◌, Bool, true, false, ◌==◌, ◌||◌, cond, List, [], ◌∷◌, ◌++◌, take, drop, length, slice_index, refl, sym, ap, ◌∙◌, append-nil, append_assoc, arith, rules}
-use Rattle.opl_file.specs.Cut.{Cut, has_lf, behind, cut, last_line, lines_of}
+use Rattle.std.proofs.Common.{◌≡◌, ℕ, zero, suc, ◌<◌, ◌≤◌, Bool, true, false, ◌==◌, ◌||◌, List, [], ◌∷◌, ◌++◌, take, length, slice_index, refl, sym, ap, ◌∙◌, append-nil, arith}
+use Rattle.opl_file.specs.Cut.{Cut, has_lf, behind, cut}
 
 either_false : (a b : Bool) → (a || b) ≡ false → (a ≡ false) × (b ≡ false)
 either_false true b e = cc

@@ -1,5 +1,5 @@
 -- Files cut and read, by example.
-use Rattle.std.proofs.Common.{◌≡◌, List, [], ◌∷◌, Err, None, refl}
+use Rattle.std.proofs.Common.{◌≡◌, [], ◌∷◌, Err, None, refl}
 use Rattle.std.specs.Prelude.{codes}
 use Rattle.opl_line.specs.declared.mode.Mode.TheVariants.{Download}
 use Rattle.opl_file.specs.declared.fault.FileFault.TheVariants.{FileTooLong}

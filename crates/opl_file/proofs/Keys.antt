@@ -1,17 +1,23 @@
 -- Keys found among objects.
-use Rattle.std.proofs.Common.{◌≡◌, Bool, true, false, not, ◌||◌, List, [], ◌∷◌, map, refl}
+use Rattle.std.proofs.Common.{◌≡◌, true, not, List, [], ◌∷◌, ◌++◌, refl, sym, ap, ◌∙◌}
 use Rattle.std.specs.List.{list_any}
 use Rattle.osm_base.specs.KeyEq.{eq}
 use Rattle.osm_base.specs.RankLaws.{rank_ties}
+use Rattle.osm_base.specs.RisingKeys.{rises}
 use Rattle.osm_base.specs.declared.key.Key.{Key}
 use Rattle.opl_line.specs.declared.object.OplObject.{OplObject}
-use Rattle.opl_file.specs.Objects.{has_key}
+use Rattle.opl_file.specs.Objects.{has_key, keys_of}
+use Rattle.opl_file.proofs.Rising.{holds, last_new}
 
 -- a key is among the keys of the objects where an object has it
-pub found_key : (objects : List OplObject) (key : Key) → list_any (eq key) (map (λ object. object.key) objects) ≡ has_key objects key
+found_key : (objects : List OplObject) (key : Key) → list_any (eq key) (keys_of objects) ≡ has_key objects key
 found_key [] key = refl
 found_key (object ∷ objects) key = rw (rank_ties key object.key, found_key objects key) refl
 
-pub not_flip : (b : Bool) → true ≡ not b → b ≡ false
-not_flip true e = cc
-not_flip false e = refl
+-- a key is new among the objects where it is new among their keys
+pub new_key : (objects : List OplObject) (keys : List Key) (key : Key) → keys ≡ keys_of objects → not (list_any (eq key) keys) ≡ not (has_key objects key)
+new_key objects keys key e = ap (λ ks. not (list_any (eq key) ks)) e ∙ ap not (found_key objects key)
+
+-- and where it rises behind them
+pub new_last : (objects : List OplObject) (key : Key) → rises (keys_of objects ++ key ∷ []) ≡ true → true ≡ not (has_key objects key)
+new_last objects key e = ap not (sym (last_new (keys_of objects) key (holds _ e))) ∙ ap not (found_key objects key)

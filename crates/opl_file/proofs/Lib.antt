@@ -1,5 +1,6 @@
 pub mod Cutting
 mod Examples
 pub mod Keys
+pub mod Rising
 pub mod Room
 pub mod Steps

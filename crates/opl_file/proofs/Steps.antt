@@ -1,12 +1,12 @@
 -- What a line more adds to what was read.
-use Rattle.std.proofs.Common.{◌≡◌, ℕ, ◌+◌, ◌<◌, ◌≤◌, Bool, true, false, nat_lt, cond, List, [], ◌∷◌, ◌++◌, length, length-append, Result, Ok, Err, Option, Some, None, is_some, refl, sym, ap, ◌∙◌, append_assoc, append-nil, arith, subst, rules}
+use Rattle.std.proofs.Common.{◌≡◌, ℕ, ◌+◌, ◌<◌, true, false, nat_lt, List, [], ◌∷◌, ◌++◌, length, Result, Ok, Err, Option, Some, None, is_some, refl, sym, ap, ◌∙◌, append_assoc, append-nil, arith, rules}
 use Rattle.std.proofs.lemmas.Grind.{common_steps}
 use Rattle.std.proofs.lemmas.Bool.Decides.{nat_tests}
 use Rattle.opl_line.specs.declared.mode.Mode.{Mode}
 use Rattle.opl_line.specs.declared.object.OplObject.{OplObject}
 use Rattle.opl_file.specs.declared.fault.FileFault.{FileFault}
 use Rattle.opl_file.specs.declared.fault.FileFault.TheVariants.{LineTooLong}
-use Rattle.opl_file.specs.Cut.{Cut, has_lf, cut, last_line, lines_of}
+use Rattle.opl_file.specs.Cut.{Cut, has_lf, cut, last_line}
 use Rattle.opl_file.specs.Reading.{taken, and_then, objects_from, or_before, before_fault}
 use Rattle.opl_file.specs.Feeding.{goes_on, lends_so_far}
 use Rattle.opl_file.proofs.Cutting.{glued, cut-front, cut-line, cut-plain, both_plain}

@@ -1,5 +1,5 @@
 -- What a reader gives once more bytes are fed.
-use Rattle.std.specs.Prelude.{◌≡◌, ℕ, ◌+◌, Bool, ◌||◌, nat_lt, if◌then◌else◌, List, [], ◌∷◌, ◌++◌, length, Result, Ok, Err, Option, Some, None}
+use Rattle.std.specs.Prelude.{ℕ, ◌+◌, Bool, ◌||◌, nat_lt, if◌then◌else◌, List, ◌++◌, length, Result, Err, Option, Some, None}
 use Rattle.opl_line.specs.declared.mode.Mode.{Mode}
 use Rattle.opl_line.specs.declared.object.OplObject.{OplObject}
 use Rattle.opl_file.specs.Cut.{cut, lines_of}

@@ -1,5 +1,6 @@
 pub mod Cut
 pub mod Objects
+pub mod Known
 pub mod Reading
 pub mod Answers
 pub mod Feeding

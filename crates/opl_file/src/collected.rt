@@ -1,29 +1,31 @@
-//! The objects so far, and their keys.
+//! The objects so far, of which no two have one key.
 ghost use Rattle.std.specs.Prelude.{◌≡◌, ◌∷◌, ◌++◌, [], not, if◌then◌else◌, IfOk, OnErr};
 
 use crate::Objects;
-use indexmap::IndexSet;
+use crate::known::Known;
 use opl_line::OplObject;
-use osm_base::Key;
 use std::alloc::{AllocError, Global};
 use std::marker::Model;
 
-/// Objects of distinct keys, whose keys are found by a hash.
+/// Objects of distinct keys.
 #[derive(Debug, Drop)]
 pub(crate) struct Collected {
+    alloc: Global,
     objects: Objects,
-    keys: IndexSet<Key>,
+    known: Known,
 }
 
 impl Model for Collected {
-    ghost use Rattle.std.specs.Prelude.{◌≡◌, List, map};
+    ghost use Rattle.std.specs.Prelude.{List};
     ghost use Rattle.opl_line.specs.declared.object.OplObject.{OplObject};
+    ghost use Rattle.opl_file.specs.Objects.{keys_of};
+    ghost use Rattle.opl_file.specs.Known.{Knows};
 
     ghost Value = { List OplObject };
 
     ghost view = { λ collected. collected.objects };
 
-    ghost invariant = { λ collected. collected.keys.keys ≡ map (λ object. object.key) collected.objects };
+    ghost invariant = { λ collected. Knows collected.known (keys_of collected.objects) };
 }
 
 impl Collected {
@@ -33,22 +35,30 @@ impl Collected {
         ensures { result ≡ [] }
     {
         Collected {
+            alloc,
             objects: Objects::new(alloc),
-            keys: IndexSet::new(alloc),
+            known: Known::Rising,
         }
     }
 
     /// Adds an object at the end, where none of its key is there, and tells whether it did.
+    ///
+    /// In a file in rank order it costs one comparison and no look-up. The first object that
+    /// doesn't come after the last one costs a look-up by hash for each object so far, and from
+    /// then on each costs one.
     pub(crate) fn add(&mut self, object: OplObject) -> Result<bool, AllocError>
         ensures added { IfOk result (λ added. added ≡ not (has_key self.old object.key)) }
         ensures ok { IfOk result (λ added. self.new ≡ (if added then self.old ++ object ∷ [] else self.old)) }
         ensures err { OnErr result (self.new ≡ self.old) }
     {
-        if !self.keys.insert(object.key)? {
+        if !self
+            .known
+            .note(self.alloc, self.objects.as_slice(), object.key)?
+        {
             return Ok(false);
         }
         if self.objects.push(object).is_err() {
-            let _key = self.keys.pop();
+            self.known.forget_last();
             return Err(AllocError);
         }
         Ok(true)

@@ -3,9 +3,9 @@
 //! A [`Reader`] is fed a file's bytes as they come, however they are cut, and gives the file's
 //! objects in order or its one fault: what it gives is stated for the whole file
 //! (`specs/Reading`), and `feed` says how each piece brings it nearer. It keeps the objects so
-//! far, their keys, and one unfinished line, and reads a line that lies whole in a piece in place.
-//! It stands on `opl_line` for one line, on `memchr` for the ends of lines, and on `indexmap` for
-//! the keys.
+//! far and one unfinished line, and reads a line that lies whole in a piece in place. Where the
+//! file isn't in rank order it keeps the objects' keys too. It stands on `opl_line` for one line,
+//! on `memchr` for the ends of lines, and on `indexmap` for the keys.
 //!
 //! For who changes it: `Lines` has the state of the lines and all that reads them, `Reader` adds
 //! the limit of the file and the want of memory. What `Lines` keeps true of itself is that its
@@ -14,6 +14,7 @@
 
 mod collected;
 mod fault;
+mod known;
 mod law;
 mod line;
 mod lines;

@@ -169,6 +169,39 @@ mod tests {
         Ok(())
     }
 
+    // What a file gives whose lines are deleted objects of these keys.
+    fn fault_of_keys(alloc: Global, keys: &str) -> Result<Option<FileFault>, AllocError> {
+        let mut text = String::new(alloc);
+        for key in keys.split_whitespace() {
+            text.push_str(key)?;
+            text.push_str(" v1 dD\n")?;
+        }
+        fault_of(alloc, text.as_str(), 999, 99)
+    }
+
+    #[test]
+    fn second_object_of_a_key_is_found_in_any_order(rt: HostRuntime) -> Result<(), Fail> {
+        let twice = |line: u64| Some(FileFault::Twice { line });
+        for (keys, want) in [
+            // in rank order
+            ("n1 n2 w1 r1", None),
+            ("n1 n1", twice(2)),
+            ("n1 n2 w1 w1", twice(4)),
+            ("n1 n2 w1 n1", twice(4)),
+            // out of it
+            ("r1 w1 n2 n1", None),
+            ("n1 n3 n2 n4 n5", None),
+            ("n1 n3 n2 n2", twice(4)),
+            ("n1 n3 n2 n1", twice(4)),
+            ("n1 n3 n2 n3", twice(4)),
+            ("n1 n3 n2 n4 n4", twice(5)),
+            ("n1 n3 n2 n4 n5 n4", twice(6)),
+        ] {
+            assert_eq!(rt; fault_of_keys(rt.alloc(), keys)?, want, "{keys}");
+        }
+        Ok(())
+    }
+
     #[test]
     fn any_cut_gives_the_same_objects(rt: HostRuntime) -> Result<(), Fail> {
         let file = b"n1 v1 x0 y0\r\n\n# end\nw5 v2 Nn1\nr7 v1 dD";

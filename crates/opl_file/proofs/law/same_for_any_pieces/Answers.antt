@@ -1,7 +1,7 @@
-use Rattle.std.proofs.Common.{◌≡◌, ℕ, List, [], ◌∷◌, ◌++◌, refl, ◌∙◌}
+use Rattle.std.proofs.Common.{◌≡◌, ℕ, List, [], refl, ◌∙◌}
 use Rattle.opl_file.specs.declared.reader.Reader.{Reader}
 use Rattle.opl_file.specs.Feeding.{reads_on, lends_on}
-use Rattle.opl_file.specs.Pieces.{Begins, Feeds, Fed, none, one_more, joined}
+use Rattle.opl_file.specs.Pieces.{Fed, none, one_more, joined}
 use Rattle.opl_file.proofs.law.same_for_any_pieces.Goals as goal
 
 read_all : (old last : Reader) (pieces : List (List ℕ)) → Fed old pieces last → reads_on last [] ≡ reads_on old (joined pieces)

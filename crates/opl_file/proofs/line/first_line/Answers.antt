@@ -1,4 +1,4 @@
-use Rattle.std.proofs.Common.{◌≡◌, length, take, take_all, le_refl, subst, arith}
+use Rattle.std.proofs.Common.{◌≡◌, length, take_all, le_refl, subst, arith}
 use Rattle.opl_file.specs.Cut.{has_lf}
 use Rattle.opl_file.proofs.Cutting.{plain_below}
 use Rattle.opl_file.proofs.line.first_line.Goals as goal

@@ -1,5 +1,5 @@
-use Rattle.std.proofs.Common.{Err, None, Some, ap, arith}
-use Rattle.opl_file.specs.Feeding.{reads_on, lends_on, lines_read_on, lines_lend_on}
+use Rattle.std.proofs.Common.{Some, ap}
+use Rattle.opl_file.specs.Feeding.{reads_on, lends_on}
 use Rattle.opl_file.proofs.Room.{stays-long, grows-long, fits-on}
 use Rattle.opl_file.proofs.reader.Reader.take.Goals as goal
 
