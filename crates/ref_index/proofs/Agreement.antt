@@ -1,27 +1,16 @@
--- The bag and the lists agree after one pair more or less.
-use Rattle.std.proofs.Common.{◌≡◌, ◌≢◌, ℕ, suc, ◌+◌, ◌-◌, ◌<◌, ◌&&◌, ◌||◌, Bool, true, false, not, cond, is_some, Option, Some, None, List, [], refl, sym, ◌∙◌, ap, arith, subst, Ordering}
-use Rattle.std.specs.Option.{unwrap_or}
+-- How often each pair is there after one more or one less, and that only pairs that are there more than once have a number.
+use Rattle.std.proofs.Common.{◌≡◌, ℕ, ◌+◌, ◌<◌, ◌≤◌, ◌&&◌, ◌||◌, Bool, true, false, not, cond, is_some, Option, Some, None, refl, sym, ◌∙◌, ap, arith, subst, Ordering}
+use Rattle.std.specs.Map.{lookup}
+use Rattle.std.specs.Option.{unwrap_or, IfSome}
 use Rattle.std.specs.Ordering.{is_eq}
+use Rattle.std.specs.Cmp.{eq_by_cmp_equiv}
 use Rattle.std.specs.declared.cmp.Ordering.TheVariants.{Less, Equal, Greater}
-use Rattle.std.specs.Prelude.{T, nat_lt, zero}
-use Rattle.std.proofs.lemmas.Bool.{lt-ltb}
-use Rattle.std.specs.FinMap as map
-use Rattle.osm_base.specs.declared.key.Key.{Key}
 use Rattle.osm_base.specs.Rank.{rank_cmp, is_key}
 use Rattle.ref_index.specs.declared.pair.Pair.{Pair}
-use Rattle.ref_index.specs.Bag.{Bag, count, is_pair, pair_cmp}
-use Rattle.ref_index.specs.PairRank.{pair_total, pair_exact, eq_then}
-use Rattle.osm_base.specs.RisingKeys.{is_in, rises, with_key, without_key}
-use Rattle.ref_index.specs.Users.{Agree, Lists, SetsList, users_of}
-use Rattle.osm_base.proofs.RisingKeys.{rises_with, rises_without, in_with, in_without, one_key}
-
-not_zero : (n : ℕ) (o : Option ℕ) (b : Bool) → n ≢ 0 → o ≢ Some 0 → cond b (Some n) o ≢ Some 0
-not_zero n o true h g e = h (ap (λ (x : Option ℕ). unwrap_or x 1) e)
-not_zero n o false h g e = g e
-
-none_or : (o : Option ℕ) (b : Bool) → o ≢ Some 0 → cond b None o ≢ Some 0
-none_or o true g e = let f : false ≡ true = ap is_some e in cc
-none_or o false g e = g e
+use Rattle.ref_index.specs.Bag.{is_pair, pair_cmp, pair_eq}
+use Rattle.ref_index.specs.PairRank.{pair_total, pair_exact, pair_ties, eq_then}
+use Rattle.ref_index.specs.Users.{Lists, is_listed}
+use Rattle.ref_index.specs.Repeats.{Repeats, AreRepeats, SetsNumber, number_of, times_there}
 
 tied : (o : Ordering) → is_eq o ≡ true → o ≡ Equal
 tied Less e = cc
@@ -34,160 +23,162 @@ one_pair p q e = pair_exact p q (tied (pair_cmp p q) e)
 pub pair_parts : (p q : Pair) → is_pair p q ≡ (is_key p.of q.of && is_key p.user q.user)
 pair_parts p q = eq_then (rank_cmp p.of q.of) (rank_cmp p.user q.user)
 
--- another count of a pair that is there
-there_still : (b : Bool) (n : ℕ) (o : Option ℕ) → (b ≡ true → is_some o ≡ true) → is_some o ≡ is_some (cond b (Some n) o)
-there_still true n o h = h refl
-there_still false n o h = refl
+eq_pair : (p q : Pair) → pair_eq p q ≡ is_pair q p
+eq_pair p q = pair_ties p q ∙ (eq_by_cmp_equiv pair_total).symm p q
 
-pub agree_again : (bag : Bag) (lists : Lists) (p : Pair) (n : ℕ) → Agree bag lists → n ≢ 0 → is_some (map.get bag p) ≡ true → Agree (map.insert bag p n) lists
-agree_again bag lists p n a more there = record {
-  proper = λ q. subst (λ (o : Option ℕ). o ≢ Some 0) (sym (map.get-insert pair_total bag p n q)) (not_zero n (map.get bag q) (is_pair q p) more (a.proper q));
-  rises = a.rises;
-  same = λ q. a.same q ∙ there_still (is_pair q p) n (map.get bag q) (λ e. ap (λ (x : Pair). is_some (map.get bag x)) (one_pair q p e) ∙ there) ∙ sym (ap is_some (map.get-insert pair_total bag p n q));
-}
+-- what the number of a pair says, where b is whether the pair is listed
+abbrev IsRepeat : Bool → ℕ → Type 0
+IsRepeat b n = (2 ≤ n) × (b ≡ true)
 
-rises_set : (us vs : List Key) (b : Bool) → T (rises us) → T (rises vs) → T (rises (cond b us vs))
-rises_set us vs true h g = h
-rises_set us vs false h g = g
+some_number : (o : Option ℕ) (b : Bool) → IfSome o (IsRepeat b) → 0 < unwrap_or o 1
+some_number None b h = omega arith
+some_number (Some n) b h = omega (arith, h.0)
 
-in_cond : (q : Key) (us vs : List Key) (b : Bool) → is_in q (cond b us vs) ≡ cond b (is_in q us) (is_in q vs)
-in_cond q us vs true = refl
-in_cond q us vs false = refl
+-- a listed pair is there
+pub number_more : (repeats : Repeats) (lists : Lists) (p : Pair) → AreRepeats repeats lists → 0 < number_of repeats p
+number_more repeats lists p a = some_number (lookup (pair_eq p) repeats) (is_listed lists p) (a p)
 
-first_cases : (b c s t : Bool) (o : Option ℕ) → (b ≡ true → t ≡ s) → s ≡ is_some o → cond b (c || t) s ≡ is_some (cond (b && c) (Some 1) o)
-first_cases true true s t o h e = refl
-first_cases true false s t o h e = h refl ∙ e
-first_cases false c s t o h e = e
+unlisted : (o : Option ℕ) (b : Bool) → b ≡ false → IfSome o (IsRepeat b) → unwrap_or o 1 ≡ 1
+unlisted None b e h = refl
+unlisted (Some n) b e h = let f : b ≡ true = h.1 in cc
 
-pub agree_first : (bag : Bag) (old new : Lists) (p : Pair) → Agree bag old → SetsList old new p.of (with_key p.user (users_of old p.of)) → Agree (map.insert bag p 1) new
-agree_first bag old new p a sets = record {
-  proper = λ q. subst (λ (o : Option ℕ). o ≢ Some 0) (sym (map.get-insert pair_total bag p 1 q)) (not_zero 1 (map.get bag q) (is_pair q p) (λ e. let f : 1 ≡ 0 = e in cc) (a.proper q));
-  rises = λ k. subst (λ (us : List Key). T (rises us)) (sym (sets k)) (rises_set _ (users_of old k) (is_key k p.of) (rises_with p.user _ (a.rises p.of)) (a.rises k));
-  same = λ q. ap (is_in q.user) (sets q.of) ∙ in_cond q.user _ (users_of old q.of) (is_key q.of p.of)
-      ∙ ap (λ b. cond (is_key q.of p.of) b (is_in q.user (users_of old q.of))) (in_with q.user p.user (users_of old p.of))
-      ∙ first_cases (is_key q.of p.of) (is_key q.user p.user) _ _ (map.get bag q) (λ e. ap (λ k. is_in q.user (users_of old k)) (sym (one_key q.of p.of e))) (a.same q)
-      ∙ sym (ap is_some (map.get-insert pair_total bag p 1 q ∙ ap (λ b. cond b (Some 1) (map.get bag q)) (pair_parts q p)));
-}
+single : (o : Option ℕ) (b : Bool) → unwrap_or o 1 ≡ 1 → IfSome o (IsRepeat b) → is_some o ≡ false
+single None b e h = refl
+single (Some n) b e h = absurd (omega (arith, e, h.0))
 
-last_cases : (b c s t : Bool) (o : Option ℕ) → (b ≡ true → t ≡ s) → s ≡ is_some o → cond b (not c && t) s ≡ is_some (cond (b && c) None o)
-last_cases true true s t o h e = refl
-last_cases true false s t o h e = h refl ∙ e
-last_cases false c s t o h e = e
+-- a pair that is there more than once has a number
+several : (o : Option ℕ) (n : ℕ) → n ≡ unwrap_or o 1 → 1 < n → o ≡ Some n
+several None n e more = absurd (omega (arith, e, more))
+several (Some m) n e more = ap Some (sym e)
 
-pub agree_last : (bag : Bag) (old new : Lists) (p : Pair) → Agree bag old → SetsList old new p.of (without_key p.user (users_of old p.of)) → Agree (map.remove bag p) new
-agree_last bag old new p a sets = record {
-  proper = λ q. subst (λ (o : Option ℕ). o ≢ Some 0) (sym (map.get-remove pair_total bag p q)) (none_or (map.get bag q) (is_pair q p) (a.proper q));
-  rises = λ k. subst (λ (us : List Key). T (rises us)) (sym (sets k)) (rises_set _ (users_of old k) (is_key k p.of) (rises_without p.user _ (a.rises p.of)) (a.rises k));
-  same = λ q. ap (is_in q.user) (sets q.of) ∙ in_cond q.user _ (users_of old q.of) (is_key q.of p.of)
-      ∙ ap (λ b. cond (is_key q.of p.of) b (is_in q.user (users_of old q.of))) (in_without q.user p.user (users_of old p.of))
-      ∙ last_cases (is_key q.of p.of) (is_key q.user p.user) _ _ (map.get bag q) (λ e. ap (λ k. is_in q.user (users_of old k)) (sym (one_key q.of p.of e))) (a.same q)
-      ∙ sym (ap is_some (map.get-remove pair_total bag p q ∙ ap (λ b. cond b None (map.get bag q)) (pair_parts q p)));
-}
+kept_case : (b : Bool) (n : ℕ) (o : Option ℕ) → (b ≡ true → o ≡ Some n) → cond b (Some n) o ≡ o
+kept_case true n o h = sym (h refl)
+kept_case false n o h = refl
 
-pub agree_same : (bag : Bag) (old new : Lists) → Agree bag old → ((q : Key) → users_of new q ≡ users_of old q) → Agree bag new
-agree_same bag old new a same = record {
-  proper = a.proper;
-  rises = λ k. subst (λ (us : List Key). T (rises us)) (sym (same k)) (a.rises k);
-  same = λ q. ap (is_in q.user) (same q.of) ∙ a.same q;
-}
+-- a number, written back
+pub kept_number : (old new : Repeats) (p : Pair) (n : ℕ) → n ≡ number_of old p → 1 < n → SetsNumber old new p (Some n) → (q : Pair) → lookup (pair_eq q) new ≡ lookup (pair_eq q) old
+kept_number old new p n e more sets q =
+    sets q ∙ kept_case (pair_eq p q) n (lookup (pair_eq q) old) (λ f.
+    ap (λ (x : Pair). lookup (pair_eq x) old) (one_pair q p (sym (eq_pair p q) ∙ f)) ∙ several (lookup (pair_eq p) old) n e more)
 
-pub agree_empty : Agree map.empty map.empty
-agree_empty = record {
-  proper = λ p e. let f : false ≡ true = ap is_some (sym (map.get-empty pair_cmp p) ∙ e) in cc;
-  rises = λ k. subst (λ (o : Option (List Key)). T (rises (unwrap_or o []))) (sym (map.get-empty rank_cmp k)) tt;
-  same = λ p. ap (λ (o : Option (List Key)). is_in p.user (unwrap_or o [])) (map.get-empty rank_cmp p.of) ∙ sym (ap is_some (map.get-empty pair_cmp p));
-}
+listed_case : (b : Bool) (n : ℕ) → 0 < cond b n 0 → b ≡ true
+listed_case true n h = refl
+listed_case false n h = absurd (omega (arith, h))
 
-count_case : (b : Bool) (n : ℕ) (o : Option ℕ) → unwrap_or (cond b (Some n) o) 0 ≡ cond b n (unwrap_or o 0)
-count_case true n o = refl
-count_case false n o = refl
+-- only a listed pair is there
+pub listed : (repeats : Repeats) (lists : Lists) (p : Pair) → 0 < times_there repeats lists p → is_listed lists p ≡ true
+listed repeats lists p h = listed_case (is_listed lists p) (number_of repeats p) h
 
-pub count_set : (bag : Bag) (p : Pair) (n : ℕ) (q : Pair) → count (map.insert bag p n) q ≡ cond (is_pair q p) n (count bag q)
-count_set bag p n q = ap (λ (o : Option ℕ). unwrap_or o 0) (map.get-insert pair_total bag p n q) ∙ count_case (is_pair q p) n (map.get bag q)
+repeat_case : (o : Option ℕ) (b c : Bool) → IfSome o (IsRepeat b) → (is_some o ≡ true → b ≡ true → c ≡ true) → IfSome o (IsRepeat c)
+repeat_case None b c h g = tt
+repeat_case (Some n) b c h g = (h.0, g refl h.1)
 
-none_case : (b : Bool) (o : Option ℕ) → unwrap_or (cond b None o) 0 ≡ cond b 0 (unwrap_or o 0)
-none_case true o = refl
-none_case false o = refl
+-- the lists where each pair with a number stays listed
+listed_repeats : (repeats : Repeats) (old new : Lists) → AreRepeats repeats old → ((q : Pair) → is_some (lookup (pair_eq q) repeats) ≡ true → is_listed old q ≡ true → is_listed new q ≡ true) → AreRepeats repeats new
+listed_repeats repeats old new a stays q = repeat_case (lookup (pair_eq q) repeats) (is_listed old q) (is_listed new q) (a q) (stays q)
 
-pub count_gone : (bag : Bag) (p q : Pair) → count (map.remove bag p) q ≡ cond (is_pair q p) 0 (count bag q)
-count_gone bag p q = ap (λ (o : Option ℕ). unwrap_or o 0) (map.get-remove pair_total bag p q) ∙ none_case (is_pair q p) (map.get bag q)
+or_true : (b c : Bool) → c ≡ true → (b || c) ≡ true
+or_true true c e = refl
+or_true false c e = e
+
+-- a pair that comes for the first time
+pub first_repeats : (repeats : Repeats) (old new : Lists) (p : Pair) → AreRepeats repeats old → ((q : Pair) → is_listed new q ≡ (is_pair q p || is_listed old q)) → AreRepeats repeats new
+first_repeats repeats old new p a puts = listed_repeats repeats old new a (λ q s e. puts q ∙ or_true (is_pair q p) (is_listed old q) e)
+
+first_case : (b l : Bool) (n : ℕ) → (b ≡ true → (l ≡ false) × (n ≡ 1)) → cond (b || l) n 0 ≡ cond b 1 0 + cond l n 0
+first_case true true n h = let e : true ≡ false = (h refl).0 in cc
+first_case true false n h = (h refl).1
+first_case false true n h = omega arith
+first_case false false n h = refl
+
+pub first_times : (repeats : Repeats) (old new : Lists) (p : Pair) → AreRepeats repeats old → is_listed old p ≡ false → ((q : Pair) → is_listed new q ≡ (is_pair q p || is_listed old q)) → (q : Pair) → times_there repeats new q ≡ cond (is_pair q p) 1 0 + times_there repeats old q
+first_times repeats old new p a none puts q =
+    ap (λ b. cond b (number_of repeats q) 0) (puts q)
+    ∙ first_case (is_pair q p) (is_listed old q) (number_of repeats q) (λ e.
+    (ap (is_listed old) (one_pair q p e) ∙ none, ap (number_of repeats) (one_pair q p e) ∙ unlisted (lookup (pair_eq p) repeats) (is_listed old p) none (a p)))
+
+there_case : (b l : Bool) → (b ≡ true → l ≡ true) → (b || l) ≡ l
+there_case true l h = sym (h refl)
+there_case false l h = refl
+
+-- a pair that is listed already
+pub kept_listed : (old new : Lists) (p : Pair) → is_listed old p ≡ true → ((q : Pair) → is_listed new q ≡ (is_pair q p || is_listed old q)) → (q : Pair) → is_listed new q ≡ is_listed old q
+kept_listed old new p there puts q = puts q ∙ there_case (is_pair q p) (is_listed old q) (λ e. ap (is_listed old) (one_pair q p e) ∙ there)
+
+-- the last pair of a kind, taken out
+last_stays : (b l : Bool) → b ≡ false → l ≡ true → (not b && l) ≡ true
+last_stays true l e f = cc
+last_stays false l e f = f
+
+other_case : (b : Bool) → (b ≡ true → false ≡ true) → b ≡ false
+other_case true h = sym (h refl)
+other_case false h = refl
+
+pub last_repeats : (repeats : Repeats) (old new : Lists) (p : Pair) → AreRepeats repeats old → number_of repeats p ≡ 1 → ((q : Pair) → is_listed new q ≡ (not (is_pair q p) && is_listed old q)) → AreRepeats repeats new
+last_repeats repeats old new p a one takes = listed_repeats repeats old new a (λ q s e.
+    let none = single (lookup (pair_eq p) repeats) (is_listed old p) one (a p) in
+    let other = other_case (is_pair q p) (λ f. sym (ap (λ (x : Pair). is_some (lookup (pair_eq x) repeats)) (one_pair q p f) ∙ none) ∙ s) in
+    takes q ∙ last_stays (is_pair q p) (is_listed old q) other e)
+
+last_case : (b l : Bool) (n : ℕ) → (b ≡ true → (l ≡ true) × (n ≡ 1)) → cond b 1 0 + cond (not b && l) n 0 ≡ cond l n 0
+last_case true true n h = sym (h refl).1
+last_case true false n h = let e : false ≡ true = (h refl).0 in cc
+last_case false true n h = omega arith
+last_case false false n h = refl
+
+pub last_times : (repeats : Repeats) (old new : Lists) (p : Pair) → number_of repeats p ≡ 1 → is_listed old p ≡ true → ((q : Pair) → is_listed new q ≡ (not (is_pair q p) && is_listed old q)) → (q : Pair) → cond (is_pair q p) 1 0 + times_there repeats new q ≡ times_there repeats old q
+last_times repeats old new p one there takes q =
+    ap (λ b. cond (is_pair q p) 1 0 + cond b (number_of repeats q) 0) (takes q)
+    ∙ last_case (is_pair q p) (is_listed old q) (number_of repeats q) (λ e. (ap (is_listed old) (one_pair q p e) ∙ there, ap (number_of repeats) (one_pair q p e) ∙ one))
+
+-- a pair with another number or none
+set_repeat : (b : Bool) (n o : Option ℕ) (l k : Bool) → (b ≡ true → k ≡ l) → IfSome n (IsRepeat l) → IfSome o (IsRepeat k) → IfSome (cond b n o) (IsRepeat k)
+set_repeat true n o l k e h g = repeat_case n l k h (λ s t. e refl ∙ t)
+set_repeat false n o l k e h g = g
+
+pub sets_repeats : (old new : Repeats) (lists : Lists) (p : Pair) (n : Option ℕ) → AreRepeats old lists → SetsNumber old new p n → IfSome n (λ m. (2 ≤ m) × (is_listed lists p ≡ true)) → AreRepeats new lists
+sets_repeats old new lists p n a sets h q =
+    subst (λ (o : Option ℕ). IfSome o (IsRepeat (is_listed lists q))) (sym (sets q ∙ ap (λ b. cond b n (lookup (pair_eq q) old)) (eq_pair p q)))
+    (set_repeat (is_pair q p) n (lookup (pair_eq q) old) (is_listed lists p) (is_listed lists q) (λ e. ap (is_listed lists) (one_pair q p e)) h (a q))
+
+set_case : (b l : Bool) (n o : Option ℕ) → (b ≡ true → l ≡ true) → cond l (unwrap_or (cond b n o) 1) 0 ≡ cond b (unwrap_or n 1) (cond l (unwrap_or o 1) 0)
+set_case true true n o h = refl
+set_case true false n o h = let e : false ≡ true = h refl in cc
+set_case false l n o h = refl
+
+sets_times : (old new : Repeats) (lists : Lists) (p : Pair) (n : Option ℕ) → SetsNumber old new p n → is_listed lists p ≡ true → (q : Pair) → times_there new lists q ≡ cond (is_pair q p) (unwrap_or n 1) (times_there old lists q)
+sets_times old new lists p n sets there q =
+    ap (λ (o : Option ℕ). cond (is_listed lists q) (unwrap_or o 1) 0) (sets q ∙ ap (λ b. cond b n (lookup (pair_eq q) old)) (eq_pair p q))
+    ∙ set_case (is_pair q p) (is_listed lists q) n (lookup (pair_eq q) old) (λ e. ap (is_listed lists) (one_pair q p e) ∙ there)
+
+times_listed : (repeats : Repeats) (lists : Lists) (p q : Pair) → is_listed lists p ≡ true → is_pair q p ≡ true → times_there repeats lists q ≡ number_of repeats p
+times_listed repeats lists p q there e = ap (times_there repeats lists) (one_pair q p e) ∙ ap (λ b. cond b (number_of repeats p) 0) there
+
+-- once more
+pub again_repeats : (old new : Repeats) (lists : Lists) (p : Pair) → AreRepeats old lists → SetsNumber old new p (Some (number_of old p + 1)) → is_listed lists p ≡ true → AreRepeats new lists
+again_repeats old new lists p a sets there =
+    let more = number_more old lists p a in
+    sets_repeats old new lists p _ a sets (omega (arith, more), there)
 
 more_case : (b : Bool) (n m : ℕ) → (b ≡ true → m ≡ n) → cond b (n + 1) m ≡ cond b 1 0 + m
 more_case true n m h = let e = h refl in omega arith
 more_case false n m h = omega arith
 
--- once more
-pub count_more : (bag : Bag) (p : Pair) (n : ℕ) (q : Pair) → count bag p ≡ n → count (map.insert bag p (n + 1)) q ≡ cond (is_pair q p) 1 0 + count bag q
-count_more bag p n q is = count_set bag p (n + 1) q ∙ more_case (is_pair q p) n (count bag q) (λ e. ap (count bag) (one_pair q p e) ∙ is)
+pub again_times : (old new : Repeats) (lists : Lists) (p : Pair) → SetsNumber old new p (Some (number_of old p + 1)) → is_listed lists p ≡ true → (q : Pair) → times_there new lists q ≡ cond (is_pair q p) 1 0 + times_there old lists q
+again_times old new lists p sets there q =
+    sets_times old new lists p _ sets there q
+    ∙ more_case (is_pair q p) (number_of old p) (times_there old lists q) (times_listed old lists p q there)
 
 less_case : (b : Bool) (n l m : ℕ) → l + 1 ≡ n → (b ≡ true → m ≡ n) → cond b 1 0 + cond b l m ≡ m
 less_case true n l m i h = let e = h refl in omega arith
 less_case false n l m i h = omega arith
 
-pub count_less : (bag : Bag) (p : Pair) (n l : ℕ) (q : Pair) → l + 1 ≡ n → count bag p ≡ n → cond (is_pair q p) 1 0 + count (map.insert bag p l) q ≡ count bag q
-count_less bag p n l q i is = ap (λ m. cond (is_pair q p) 1 0 + m) (count_set bag p l q) ∙ less_case (is_pair q p) n l (count bag q) i (λ e. ap (count bag) (one_pair q p e) ∙ is)
+-- once less
+pub less_times : (old new : Repeats) (lists : Lists) (p : Pair) (n : Option ℕ) → SetsNumber old new p n → unwrap_or n 1 + 1 ≡ number_of old p → is_listed lists p ≡ true → (q : Pair) → cond (is_pair q p) 1 0 + times_there new lists q ≡ times_there old lists q
+less_times old new lists p n sets one there q =
+    ap (λ m. cond (is_pair q p) 1 0 + m) (sets_times old new lists p n sets there q)
+    ∙ less_case (is_pair q p) (number_of old p) (unwrap_or n 1) (times_there old lists q) one (times_listed old lists p q there)
 
-pub count_last : (bag : Bag) (p : Pair) (q : Pair) → count bag p ≡ 1 → cond (is_pair q p) 1 0 + count (map.remove bag p) q ≡ count bag q
-count_last bag p q is = ap (λ m. cond (is_pair q p) 1 0 + m) (count_gone bag p q) ∙ less_case (is_pair q p) 1 0 (count bag q) refl (λ e. ap (count bag) (one_pair q p e) ∙ is)
-
-some_count : (o : Option ℕ) → 0 < unwrap_or o 0 → is_some o ≡ true
-some_count None h = absurd (omega (arith, h))
-some_count (Some n) h = refl
-
-pub counted : (bag : Bag) (p : Pair) → 0 < count bag p → is_some (map.get bag p) ≡ true
-counted bag p h = some_count (map.get bag p) h
-
-none_counted : (o : Option ℕ) → o ≢ Some 0 → unwrap_or o 0 ≡ 0 → o ≡ None
-none_counted None h e = refl
-none_counted (Some n) h e = absurd (h (ap Some e))
-
-same_count : (o n : Option ℕ) → o ≢ Some 0 → n ≢ Some 0 → unwrap_or n 0 ≡ unwrap_or o 0 → n ≡ o
-same_count None n g h e = none_counted n h e
-same_count (Some a) None g h e = sym (none_counted (Some a) g (sym e))
-same_count (Some a) (Some b) g h e = ap Some e
-
--- bags without a count of 0 that count alike are one
-pub same_bag : (bag new : Bag) → ((p : Pair) → map.get bag p ≢ Some 0) → ((p : Pair) → map.get new p ≢ Some 0) → ((p : Pair) → count new p ≡ count bag p) → new ≡ bag
-same_bag bag new g h e = map.same_map pair_total pair_exact new bag (λ p. same_count (map.get bag p) (map.get new p) (g p) (h p) (e p))
-
-taken_case : (b : Bool) (n : ℕ) (o : Option ℕ) → (b ≡ true → o ≡ None) → cond b None (cond b (Some n) o) ≡ o
-taken_case true n o h = sym (h refl)
-taken_case false n o h = refl
-
--- a pair that wasn't there, put in and taken out again
-pub taken_again : (bag one new : Bag) (p : Pair) (n : ℕ) → ((q : Pair) → map.get bag q ≢ Some 0) → count bag p ≡ 0 → one ≡ map.insert bag p n → new ≡ map.remove one p → new ≡ bag
-taken_again bag one new p n proper none e f = map.same_map pair_total pair_exact new bag (λ q.
-    ap (λ (b : Bag). map.get b q) (f ∙ ap (λ (b : Bag). map.remove b p) e)
-    ∙ map.get-remove pair_total (map.insert bag p n) p q
-    ∙ ap (cond (is_pair q p) None) (map.get-insert pair_total bag p n q)
-    ∙ taken_case (is_pair q p) n (map.get bag q) (λ b. ap (map.get bag) (one_pair q p b) ∙ none_counted (map.get bag p) (proper p) none))
-
--- the forms in which the code has them: the new maps by equations
-pub add_again_count : (bag new : Bag) (p : Pair) (n : ℕ) → new ≡ map.insert bag p (n + 1) → n ≡ count bag p → (q : Pair) → count new q ≡ cond (is_pair q p) 1 0 + count bag q
-add_again_count bag new p n e is q = ap (λ (b : Bag). count b q) e ∙ count_more bag p n q (sym is)
-
-pub set_agrees : (bag new : Bag) (lists : Lists) (p : Pair) (n : ℕ) → Agree bag lists → new ≡ map.insert bag p n → 0 < n → 0 < count bag p → Agree new lists
-set_agrees bag new lists p n a e more there = subst (λ (b : Bag). Agree b lists) (sym e) (agree_again bag lists p n a (λ z. omega (arith, more, z)) (counted bag p there))
-
-pub take_again_count : (bag new : Bag) (p : Pair) (n : ℕ) → new ≡ map.insert bag p (n - 1) → n ≡ count bag p → 0 < n → (q : Pair) → cond (is_pair q p) 1 0 + count new q ≡ count bag q
-take_again_count bag new p n e is more q = ap (λ (b : Bag). cond (is_pair q p) 1 0 + count b q) e ∙ count_less bag p n (n - 1) q (omega arith) (sym is)
-
-pub take_last_count : (bag new : Bag) (p : Pair) → new ≡ map.remove bag p → count bag p ≡ 1 → (q : Pair) → cond (is_pair q p) 1 0 + count new q ≡ count bag q
-take_last_count bag new p e one q = ap (λ (b : Bag). cond (is_pair q p) 1 0 + count b q) e ∙ count_last bag p q one
-
-pub first_agrees : (bag new : Bag) (old lists : Lists) (p : Pair) → Agree bag old → new ≡ map.insert bag p 1 → SetsList old lists p.of (with_key p.user (users_of old p.of)) → Agree new lists
-first_agrees bag new old lists p a e sets = subst (λ (b : Bag). Agree b lists) (sym e) (agree_first bag old lists p a sets)
-
-pub same_agrees : (bag new : Bag) (old lists : Lists) → Agree bag old → new ≡ bag → ((q : Key) → users_of lists q ≡ users_of old q) → Agree new lists
-same_agrees bag new old lists a e same = subst (λ (b : Bag). Agree b lists) (sym e) (agree_same bag old lists a same)
-
-pub last_agrees : (bag new : Bag) (old lists : Lists) (p : Pair) → Agree bag old → new ≡ map.remove bag p → SetsList old lists p.of (without_key p.user (users_of old p.of)) → Agree new lists
-last_agrees bag new old lists p a e sets = subst (λ (b : Bag). Agree b lists) (sym e) (agree_last bag old lists p a sets)
-
-lt_case : (o : Option ℕ) → o ≢ Some 0 → is_some o ≡ nat_lt 0 (unwrap_or o 0)
-lt_case None h = refl
-lt_case (Some zero) h = absurd (h refl)
-lt_case (Some (suc n)) h = sym (lt-ltb 0 (suc n) (omega arith))
-
-pub member_count : (bag : Bag) (lists : Lists) (k u : Key) → Agree bag lists → is_in u (users_of lists k) ≡ nat_lt 0 (count bag (record { of = k; user = u }))
-member_count bag lists k u a = a.same (record { of = k; user = u }) ∙ lt_case (map.get bag (record { of = k; user = u })) (a.proper (record { of = k; user = u }))
+-- maps that answer as others do
+pub same_times : (repeats same : Repeats) (old new : Lists) → ((q : Pair) → lookup (pair_eq q) same ≡ lookup (pair_eq q) repeats) → ((q : Pair) → is_listed new q ≡ is_listed old q) → (q : Pair) → times_there same new q ≡ times_there repeats old q
+same_times repeats same old new numbers users q = λ i. cond (users q i) (unwrap_or (numbers q i) 1) 0

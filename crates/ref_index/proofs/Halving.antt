@@ -1,5 +1,5 @@
 -- Where a key stands in a list that rises, found by halving, and the list without it.
-use Rattle.std.proofs.Common.{◌≡◌, ℕ, zero, suc, ◌+◌, ◌<◌, ◌≤◌, ◌&&◌, Bool, true, false, not, cond, List, [], ◌∷◌, length, get_or, refl, sym, ◌∙◌, ap, arith, subst, Ordering}
+use Rattle.std.proofs.Common.{◌≡◌, ℕ, zero, suc, ◌+◌, ◌<◌, ◌≤◌, ◌&&◌, ◌||◌, Bool, true, false, not, cond, List, [], ◌∷◌, length, get_or, refl, sym, ◌∙◌, ap, arith, subst, Ordering}
 use Rattle.std.specs.declared.cmp.Ordering.TheVariants.{Less, Equal, Greater}
 use Rattle.std.specs.Ordering.{is_lt, is_eq, ordering_reverse}
 use Rattle.std.specs.List.{remove}
@@ -11,7 +11,8 @@ use Rattle.std.proofs.lemmas.List.Sums.{prefix_len_is}
 use Rattle.osm_base.specs.declared.key.Key.{Key}
 use Rattle.osm_base.specs.Rank.{rank_cmp, is_key}
 use Rattle.osm_base.specs.RankLaws.{rank_total, rank_exact}
-use Rattle.osm_base.specs.RisingKeys.{marked, rises, without_key, place_in}
+use Rattle.osm_base.specs.RisingKeys.{marked, rises, is_in, without_key, place_in}
+use Rattle.osm_base.proofs.RisingKeys.{key_itself, in_with, in_without, put_there}
 
 first : (a b : Bool) → T (a && b) → T a
 first true b p = tt
@@ -137,3 +138,11 @@ take_none k ks at h e test =
     let P : ℕ → Type 0 = λ n. Stands k ks n ≡ false in
     let q = subst P e test in
     none k ks h (λ l. ap (λ b. b && is_key k (get_or ks (place_in k ks) k)) (sym (lt-ltb _ _ l)) ∙ q)
+
+-- a key that stands at its place is among the keys
+pub in_there : (k : Key) (ks : List Key) (at : ℕ) → at ≡ place_in k ks → Stands k ks at ≡ true → is_in k ks ≡ true
+in_there k ks at e test = ap (is_in k) (put_there k ks at e test) ∙ in_with k k ks ∙ ap (λ b. b || is_in k ks) (key_itself k)
+
+-- and one that doesn't is not
+pub in_none : (k : Key) (ks : List Key) (at : ℕ) → T (rises ks) → at ≡ place_in k ks → Stands k ks at ≡ false → is_in k ks ≡ false
+in_none k ks at h e test = ap (is_in k) (take_none k ks at h e test) ∙ in_without k k ks ∙ ap (λ b. not b && is_in k ks) (key_itself k)

@@ -4,12 +4,12 @@ ghost use Rattle.std.specs.FinMap as map;
 ghost use Rattle.osm_base.specs.declared.key.Key.{Key};
 ghost use Rattle.ref_index.specs.declared.pair.Pair.{Pair};
 ghost use Rattle.ref_index.specs.Bag.{count, times, is_pair};
-ghost use Rattle.osm_base.specs.RisingKeys.{rises, is_in, with_key};
-ghost use Rattle.ref_index.specs.Users.{Agree, SetsList, bag_of, lists_of, users_of};
+ghost use Rattle.osm_base.specs.RisingKeys.{rises, is_in};
+ghost use Rattle.ref_index.specs.Repeats.{AreRepeats, times_there};
 
-use crate::counts::{count_again, count_in, count_none, count_once};
-use crate::lists::{list_at, put_user, take_user};
+use crate::lists::{list_at, list_user, unlist_user};
 use crate::pair::Pair;
+use crate::repeats::{count_again, number_of, set_number};
 use crate::users::Users;
 use indexmap::IndexMap;
 use osm_base::Key;
@@ -18,25 +18,26 @@ use std::marker::Model;
 
 /// A bag of pairs that lends the users of each key.
 ///
-/// `counts` says how often each pair is there, `lists` who uses each key that is used.
+/// A pair is there where its user is in the list of its key. Most are there once, and `repeats` says
+/// how often the others are.
 #[derive(Drop)]
 pub struct RefIndex {
-    counts: IndexMap<Pair, u64>,
     lists: IndexMap<Key, Users>,
+    repeats: IndexMap<Pair, u64>,
 }
 
 impl Model for RefIndex {
     ghost use Rattle.ref_index.specs.Bag.{Bag};
     ghost use Rattle.ref_index.specs.BagCode.{bag_code};
-    ghost use Rattle.ref_index.specs.Users.{Agree, bag_of, lists_of};
+    ghost use Rattle.ref_index.specs.Repeats.{AreRepeats, bag_of};
 
     ghost Value = { Bag };
 
     ghost coded = { bag_code };
 
-    ghost view = { λ r. bag_of r.counts.entries };
+    ghost view = { λ r. bag_of r.repeats.entries r.lists.entries };
 
-    ghost invariant = { λ r. Agree (bag_of r.counts.entries) (lists_of r.lists.entries) };
+    ghost invariant = { λ r. AreRepeats r.repeats.entries r.lists.entries };
 }
 
 impl RefIndex {
@@ -45,17 +46,20 @@ impl RefIndex {
         ensures { result ≡ map.empty }
     {
         RefIndex {
-            counts: IndexMap::new(alloc),
             lists: IndexMap::new(alloc),
+            repeats: IndexMap::new(alloc),
         }
     }
 
     /// Takes the pairs of `gone` out and puts those of `come` in, each as often as it is named.
     ///
-    /// A pair that comes costs one look-up by hash, and one more where it is the first of its kind.
-    /// A pair that goes costs two, and where it is the last of its kind two more, or three where its
-    /// key has no other user. The first and the last of a kind also cost a place in the list of one
-    /// key: with u users about log u comparisons and one move of the keys behind it.
+    /// A pair that comes for the first time costs one look-up by hash and takes no entry of its own.
+    /// One that is there already costs two, and takes an entry the second time. A pair that is there
+    /// more than once and goes costs two. One that is there once and goes costs one, or two where its
+    /// key has no other user, and one more while any pair is there more than once. Each pair that
+    /// comes, and the last of a kind that goes, is also sought in the list of its key: with u users
+    /// about log u comparisons, and for the first and the last of a kind one move of the keys behind
+    /// it.
     ///
     /// # Errors
     ///
@@ -65,8 +69,8 @@ impl RefIndex {
         ensures ok { OnOk result ((p : Pair) → times p gone.now + count self.new p ≡ times p come.now + count self.old p) }
         ensures err { OnErr result (self.new ≡ self.old) }
     {
-        add_all(&mut self.counts, &mut self.lists, come)?;
-        take_all(&mut self.counts, &mut self.lists, gone);
+        add_all(&mut self.lists, &mut self.repeats, come)?;
+        take_all(&mut self.lists, &mut self.repeats, gone);
         Ok(())
     }
 
@@ -81,85 +85,67 @@ impl RefIndex {
 
 /// Adds all pairs, or none of them.
 fn add_all(
-    counts: &mut IndexMap<Pair, u64>,
     lists: &mut IndexMap<Key, Users>,
+    repeats: &mut IndexMap<Pair, u64>,
     come: &[Pair],
 ) -> Result<(), AllocError>
-    requires agree { Agree (bag_of counts.old.entries) (lists_of lists.old.entries) }
-    ensures agree { Agree (bag_of counts.new.entries) (lists_of lists.new.entries) }
-    ensures ok { OnOk result ((q : Pair) → count (bag_of counts.new.entries) q ≡ times q come.now + count (bag_of counts.old.entries) q) }
-    ensures err { OnErr result (bag_of counts.new.entries ≡ bag_of counts.old.entries) }
+    requires repeats { AreRepeats repeats.old.entries lists.old.entries }
+    ensures repeats { AreRepeats repeats.new.entries lists.new.entries }
+    ensures ok { OnOk result ((q : Pair) → times_there repeats.new.entries lists.new.entries q ≡ times q come.now + times_there repeats.old.entries lists.old.entries q) }
+    ensures err { OnErr result ((q : Pair) → times_there repeats.new.entries lists.new.entries q ≡ times_there repeats.old.entries lists.old.entries q) }
 {
     for i in 0..come.len() {
-        if let Err(e) = add(counts, lists, come[i]) {
-            take_all(counts, lists, &come[..i]);
+        if let Err(e) = add(lists, repeats, come[i]) {
+            take_all(lists, repeats, &come[..i]);
             return Err(e);
         }
     }
     Ok(())
 }
 
-fn take_all(counts: &mut IndexMap<Pair, u64>, lists: &mut IndexMap<Key, Users>, gone: &[Pair])
-    requires agree { Agree (bag_of counts.old.entries) (lists_of lists.old.entries) }
-    requires there { (q : Pair) → times q gone.now ≤ count (bag_of counts.old.entries) q }
-    ensures agree { Agree (bag_of counts.new.entries) (lists_of lists.new.entries) }
-    ensures count { (q : Pair) → times q gone.now + count (bag_of counts.new.entries) q ≡ count (bag_of counts.old.entries) q }
+fn take_all(lists: &mut IndexMap<Key, Users>, repeats: &mut IndexMap<Pair, u64>, gone: &[Pair])
+    requires repeats { AreRepeats repeats.old.entries lists.old.entries }
+    requires there { (q : Pair) → times q gone.now ≤ times_there repeats.old.entries lists.old.entries q }
+    ensures repeats { AreRepeats repeats.new.entries lists.new.entries }
+    ensures count { (q : Pair) → times q gone.now + times_there repeats.new.entries lists.new.entries q ≡ times_there repeats.old.entries lists.old.entries q }
 {
     for i in 0..gone.len() {
-        take(counts, lists, gone[i]);
+        take(lists, repeats, gone[i]);
     }
 }
 
-/// Adds a pair, or leaves the bag as it was. A pair that is there already costs one look-up by hash,
-/// a new one two.
+/// Adds a pair, or leaves the bag as it was. Costs one look-up by hash, and two where the pair is
+/// there already.
 fn add(
-    counts: &mut IndexMap<Pair, u64>,
     lists: &mut IndexMap<Key, Users>,
+    repeats: &mut IndexMap<Pair, u64>,
     pair: Pair,
 ) -> Result<(), AllocError>
-    requires agree { Agree (bag_of counts.old.entries) (lists_of lists.old.entries) }
-    ensures agree { Agree (bag_of counts.new.entries) (lists_of lists.new.entries) }
-    ensures ok { OnOk result ((q : Pair) → count (bag_of counts.new.entries) q ≡ (if is_pair q pair then 1 else 0) + count (bag_of counts.old.entries) q) }
-    ensures err { OnErr result (bag_of counts.new.entries ≡ bag_of counts.old.entries) }
+    requires repeats { AreRepeats repeats.old.entries lists.old.entries }
+    ensures repeats { AreRepeats repeats.new.entries lists.new.entries }
+    ensures ok { OnOk result ((q : Pair) → times_there repeats.new.entries lists.new.entries q ≡ (if is_pair q pair then 1 else 0) + times_there repeats.old.entries lists.old.entries q) }
+    ensures err { OnErr result ((q : Pair) → times_there repeats.new.entries lists.new.entries q ≡ times_there repeats.old.entries lists.old.entries q) }
 {
-    let before = count_once(counts, pair)?;
-    if before == 0 {
-        list_user(counts, lists, pair)?;
+    let first = list_user(lists, pair.of, pair.user)?;
+    if !first {
+        count_again(repeats, pair)?;
     }
     Ok(())
 }
 
-/// Lists the user of a pair that was counted for the first time. Where no memory is found for that,
-/// the pair goes out of the counts again, which takes none.
-fn list_user(
-    counts: &mut IndexMap<Pair, u64>,
-    lists: &mut IndexMap<Key, Users>,
-    pair: Pair,
-) -> Result<(), AllocError>
-    ensures ok { OnOk result (SetsList (lists_of lists.old.entries) (lists_of lists.new.entries) pair.of (with_key pair.user (users_of (lists_of lists.old.entries) pair.of))) }
-    ensures counted { OnOk result (bag_of counts.new.entries ≡ bag_of counts.old.entries) }
-    ensures err { OnErr result ((q : Key) → users_of (lists_of lists.new.entries) q ≡ users_of (lists_of lists.old.entries) q) }
-    ensures uncounted { OnErr result (bag_of counts.new.entries ≡ map.remove (bag_of counts.old.entries) pair) }
+fn take(lists: &mut IndexMap<Key, Users>, repeats: &mut IndexMap<Pair, u64>, pair: Pair)
+    requires repeats { AreRepeats repeats.old.entries lists.old.entries }
+    requires there { 0 < times_there repeats.old.entries lists.old.entries pair }
+    ensures repeats { AreRepeats repeats.new.entries lists.new.entries }
+    ensures count { (q : Pair) → (if is_pair q pair then 1 else 0) + times_there repeats.new.entries lists.new.entries q ≡ times_there repeats.old.entries lists.old.entries q }
 {
-    if let Err(e) = put_user(lists, pair.of, pair.user) {
-        count_none(counts, pair);
-        return Err(e);
-    }
-    Ok(())
-}
-
-fn take(counts: &mut IndexMap<Pair, u64>, lists: &mut IndexMap<Key, Users>, pair: Pair)
-    requires agree { Agree (bag_of counts.old.entries) (lists_of lists.old.entries) }
-    requires there { 0 < count (bag_of counts.old.entries) pair }
-    ensures agree { Agree (bag_of counts.new.entries) (lists_of lists.new.entries) }
-    ensures count { (q : Pair) → (if is_pair q pair then 1 else 0) + count (bag_of counts.new.entries) q ≡ count (bag_of counts.old.entries) q }
-{
-    let count = count_in(counts, pair);
-    if count == 1 {
-        count_none(counts, pair);
-        take_user(lists, pair.of, pair.user);
+    let number = number_of(repeats, pair);
+    if number == 1 {
+        unlist_user(lists, pair.of, pair.user);
+    } else if number == 2 {
+        repeats.swap_remove(&pair);
     } else {
-        count_again(counts, pair, count - 1);
+        set_number(repeats, pair, number - 1);
     }
 }
 
@@ -192,16 +178,52 @@ mod tests {
     }
 
     #[test]
-    fn keeps_a_user_that_names_an_object_twice(rt: HostRuntime) -> Result<(), Fail> {
+    fn keeps_a_user_until_its_last_pair_goes(rt: HostRuntime) -> Result<(), Fail> {
         let of = key(Kind::Relation, -1);
         let user = key(Kind::Relation, -2);
         let naming = Pair { of: of, user: user };
         let mut index = RefIndex::new(rt.alloc());
         index.change(&[], &[naming, naming])?;
+        index.change(&[naming], &[naming, naming])?;
+        index.change(&[naming], &[])?;
+        assert_eq!(rt; index.users(of), [user].as_slice());
         index.change(&[naming], &[])?;
         assert_eq!(rt; index.users(of), [user].as_slice());
         index.change(&[naming], &[])?;
         assert_eq!(rt; index.users(of), [].as_slice());
+        Ok(())
+    }
+
+    #[test]
+    fn counts_each_pair_by_itself(rt: HostRuntime) -> Result<(), Fail> {
+        let node = key(Kind::Node, 1);
+        let other = key(Kind::Node, 2);
+        let way = key(Kind::Way, 7);
+        let closed = key(Kind::Way, 9);
+        let once = Pair {
+            of: node,
+            user: way,
+        };
+        let twice = Pair {
+            of: node,
+            user: closed,
+        };
+        let thrice = Pair {
+            of: other,
+            user: closed,
+        };
+        let mut index = RefIndex::new(rt.alloc());
+        index.change(&[], &[thrice, twice, once, thrice, twice, thrice])?;
+        index.change(&[thrice, once, twice], &[])?;
+        assert_eq!(rt; index.users(node), [closed].as_slice());
+        index.change(&[thrice, twice], &[once])?;
+        assert_eq!(rt; index.users(node), [way].as_slice());
+        assert_eq!(rt; index.users(other), [closed].as_slice());
+        index.change(&[thrice], &[once, twice])?;
+        assert_eq!(rt; index.users(node), [way, closed].as_slice());
+        assert_eq!(rt; index.users(other), [].as_slice());
+        index.change(&[once, twice], &[])?;
+        assert_eq!(rt; index.users(node), [way].as_slice());
         Ok(())
     }
 }

@@ -6,13 +6,14 @@
 //! that its pairs are those of a table is the business of who holds it.
 //!
 //! A user leaves the list of a key with the last of its pairs, so a pair is counted and not only
-//! noted: a relation may name an object twice.
+//! noted: a relation may name an object twice, and a closed way names its first node again. Most
+//! pairs are there once, and that the user is listed says so: only the others have a number.
 #![tactic(auto)]
 
-mod counts;
 mod index;
 mod lists;
 mod pair;
+mod repeats;
 mod users;
 
 pub use index::RefIndex;

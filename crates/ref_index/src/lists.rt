@@ -1,18 +1,19 @@
 //! The users of each key. A key that nobody uses has no list.
-ghost use Rattle.std.specs.Prelude.{◌≡◌, List, [], Some, None, cond, false, OnOk, OnErr};
-ghost use Rattle.indexmap.specs.IndexMap.{get};
-ghost use Rattle.osm_base.specs.declared.key.Key.{Key};
-ghost use Rattle.osm_base.specs.KeyEq.{eq};
-ghost use Rattle.osm_base.specs.RisingKeys.{with_key, without_key};
-ghost use Rattle.ref_index.specs.Users.{SetsList, users_of, lists_of};
+ghost use Rattle.std.specs.Prelude.{◌≡◌, ◌&&◌, ◌||◌, not, T, [], IsTrue, IfOk, OnOk, OnErr};
+ghost use Rattle.osm_base.specs.RisingKeys.{rises};
+ghost use Rattle.ref_index.specs.declared.pair.Pair.{Pair};
+ghost use Rattle.ref_index.specs.Bag.{is_pair};
+ghost use Rattle.ref_index.specs.Users.{users_of, is_listed};
 
 use crate::users::Users;
 use indexmap::IndexMap;
 use osm_base::Key;
 use std::alloc::AllocError;
 
+/// The users of a key. Costs one look-up by hash.
 pub fn list_at(lists: &IndexMap<Key, Users>, of: Key) -> &[Key]
-    ensures { result.now ≡ users_of (lists_of lists.now.entries) of }
+    ensures rises { T (rises result.now) }
+    ensures users { result.now ≡ users_of lists.now.entries of }
 {
     match lists.get(&of) {
         Some(users) => users.as_slice(),
@@ -20,41 +21,45 @@ pub fn list_at(lists: &IndexMap<Key, Users>, of: Key) -> &[Key]
     }
 }
 
-/// Puts a user into the list of a key, or leaves all as it was. Costs one look-up by hash.
+/// Puts a user into the list of a key, and answers whether it is new there. Costs one look-up by
+/// hash.
 ///
 /// A key without a list gets one. Its first user takes no block, so an empty list never stays.
-pub fn put_user(lists: &mut IndexMap<Key, Users>, of: Key, user: Key) -> Result<(), AllocError>
-    ensures ok { OnOk result (SetsList (lists_of lists.old.entries) (lists_of lists.new.entries) of (with_key user (users_of (lists_of lists.old.entries) of))) }
-    ensures err { OnErr result ((q : Key) → users_of (lists_of lists.new.entries) q ≡ users_of (lists_of lists.old.entries) q) }
+///
+/// # Errors
+///
+/// Where no memory is found. Then each list is as it was.
+pub fn list_user(lists: &mut IndexMap<Key, Users>, of: Key, user: Key) -> Result<bool, AllocError>
+    ensures first { IfOk result (λ first. first ≡ not (is_listed lists.old.entries (record { of = of; user = user }))) }
+    ensures ok { OnOk result ((q : Pair) → is_listed lists.new.entries q ≡ (is_pair q (record { of = of; user = user }) || is_listed lists.old.entries q)) }
+    ensures err { OnErr result ((q : Pair) → is_listed lists.new.entries q ≡ is_listed lists.old.entries q) }
 {
     let alloc = *lists.allocator();
     let users = lists.entry(of)?.or_insert(Users::new(alloc));
-    users.put(user)?;
-    Ok(())
+    let first = users.put(user)?;
+    Ok(first)
 }
 
-/// Takes a user out of the list of a key, and the list with the last of them.
-pub fn take_user(lists: &mut IndexMap<Key, Users>, of: Key, user: Key)
-    ensures { SetsList (lists_of lists.old.entries) (lists_of lists.new.entries) of (without_key user (users_of (lists_of lists.old.entries) of)) }
+/// Takes a user out of the list of a key, and the list with the last of them. Costs one look-up by
+/// hash, and one more where the list goes.
+pub fn unlist_user(lists: &mut IndexMap<Key, Users>, of: Key, user: Key)
+    ensures { (q : Pair) → is_listed lists.new.entries q ≡ (not (is_pair q (record { of = of; user = user })) && is_listed lists.old.entries q) }
 {
-    take_there(lists, of, user);
-    drop_empty(lists, of);
-}
-
-fn take_there(lists: &mut IndexMap<Key, Users>, of: Key, user: Key)
-    ensures here { (old : List Key) → get eq lists.old of ≡ Some old → get eq lists.new of ≡ Some (without_key user old) }
-    ensures gone { get eq lists.old of ≡ None → get eq lists.new of ≡ None }
-    ensures others { (q : Key) → eq of q ≡ false → get eq lists.new q ≡ get eq lists.old q }
-{
-    if let Some(users) = lists.get_mut(&of) {
-        users.take(user);
+    if take_user(lists, of, user) {
+        lists.swap_remove(&of);
     }
 }
 
-fn drop_empty(lists: &mut IndexMap<Key, Users>, of: Key)
-    ensures { (q : Key) → users_of (lists_of lists.new.entries) q ≡ users_of (lists_of lists.old.entries) q }
+/// Takes a user out of the list of a key, and answers whether nobody is left there.
+fn take_user(lists: &mut IndexMap<Key, Users>, of: Key, user: Key) -> bool
+    ensures taken { (q : Pair) → is_listed lists.new.entries q ≡ (not (is_pair q (record { of = of; user = user })) && is_listed lists.old.entries q) }
+    ensures empty { IsTrue result → users_of lists.new.entries of ≡ [] }
 {
-    if list_at(lists, of).is_empty() {
-        lists.swap_remove(&of);
+    match lists.get_mut(&of) {
+        Some(users) => {
+            users.take(user);
+            users.as_slice().is_empty()
+        }
+        None => false,
     }
 }

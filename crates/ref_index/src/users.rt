@@ -2,11 +2,11 @@
 //!
 //! A place is found by halving, so a list of u keys costs about log u comparisons for each key put
 //! in or taken out, and one move of the keys behind it. Most keys have one user, who takes no block.
-ghost use Rattle.std.specs.Prelude.{◌≡◌, ◌≤◌, ◌<◌, ◌&&◌, [], length, OnOk, OnErr, T, nat_lt, slice_index_or};
+ghost use Rattle.std.specs.Prelude.{◌≡◌, ◌≤◌, ◌<◌, ◌&&◌, [], length, not, IfOk, OnOk, OnErr, T, nat_lt, slice_index_or};
 ghost use Rattle.std.specs.List.{insert, remove};
 ghost use Rattle.std.specs.Ordering.{is_lt};
 ghost use Rattle.osm_base.specs.Rank.{rank_cmp, is_key};
-ghost use Rattle.osm_base.specs.RisingKeys.{rises, with_key, without_key, place_in};
+ghost use Rattle.osm_base.specs.RisingKeys.{rises, is_in, with_key, without_key, place_in};
 ghost use Rattle.ref_index.specs.Listed.{listed};
 
 use osm_base::{Key, rank, same_key};
@@ -59,17 +59,19 @@ impl Users {
         listed(&self.items)
     }
 
-    /// Puts the key into its place. Where it stands already nothing changes.
+    /// Puts the key into its place, and answers whether it is new. Where it stands already nothing
+    /// changes.
     ///
     /// # Errors
     ///
     /// Where no memory is found; then nothing changes.
-    pub fn put(&mut self, key: Key) -> Result<(), AllocError>
+    pub fn put(&mut self, key: Key) -> Result<bool, AllocError>
+        ensures first { IfOk result (λ first. first ≡ not (is_in key self.old)) }
         ensures ok { OnOk result (self.new ≡ with_key key self.old) }
         ensures err { OnErr result (self.new ≡ self.old) }
     {
-        put_item(self.alloc, &mut self.items, key)?;
-        Ok(())
+        let first = put_item(self.alloc, &mut self.items, key)?;
+        Ok(first)
     }
 
     /// Takes the key out. Where it doesn't stand nothing changes.
@@ -89,16 +91,18 @@ fn listed(items: &Items) -> &[Key]
     }
 }
 
-fn put_item(alloc: Global, items: &mut Items, key: Key) -> Result<(), AllocError>
+fn put_item(alloc: Global, items: &mut Items, key: Key) -> Result<bool, AllocError>
     requires { T (rises (listed items.old)) }
+    ensures first { IfOk result (λ first. first ≡ not (is_in key (listed items.old))) }
     ensures ok { OnOk result (listed items.new ≡ with_key key (listed items.old)) }
     ensures err { OnErr result (listed items.new ≡ listed items.old) }
 {
     let at = place(listed(items), key);
-    if !stands_at(listed(items), at, key) {
-        insert_at(alloc, items, at, key)?;
+    if stands_at(listed(items), at, key) {
+        return Ok(false);
     }
-    Ok(())
+    insert_at(alloc, items, at, key)?;
+    Ok(true)
 }
 
 fn insert_at(alloc: Global, items: &mut Items, at: usize, key: Key) -> Result<(), AllocError>

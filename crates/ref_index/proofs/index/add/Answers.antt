@@ -1,39 +1,43 @@
-use Rattle.std.proofs.Common.{◌≡◌, ◌+◌, ◌<◌, ◌∙◌, ap, ℕ, arith}
-use Rattle.std.specs.FinMap as map
+use Rattle.std.proofs.Common.{◌≡◌, ◌+◌, ◌∙◌, Bool, true, false, not, cond, ap, refl}
+use Rattle.ref_index.specs.Bag.{is_pair}
 use Rattle.std.proofs.lemmas.Result.{err_from_is_err_and}
-use Rattle.ref_index.specs.Bag.{count}
-use Rattle.ref_index.specs.Users.{bag_of, lists_of}
-use Rattle.ref_index.proofs.Agreement.{add_again_count, first_agrees, same_agrees, set_agrees, taken_again}
+use Rattle.ref_index.specs.Users.{is_listed}
+use Rattle.ref_index.proofs.Agreement.{first_repeats, first_times, again_repeats, again_times, kept_listed, same_times}
 use Rattle.ref_index.proofs.index.add.Goals as goal
 
-pub returns-in_err-list_user-clause-agree : goal.returns-in_err-list_user-clause-agree
-returns-in_err-list_user-clause-agree c =
-    let none : count (bag_of c.args.counts.now.entries) c.args.pair ≡ 0 = grind (arith, c.in_ok-before.ensures.before, c.if-before-eq0.true) in
-    same_agrees (bag_of c.args.counts.now.entries) (bag_of c.list_user.new.counts.entries) (lists_of c.args.lists.now.entries) (lists_of c.list_user.new.lists.entries) c.requires.agree
-    (taken_again (bag_of c.args.counts.now.entries) (bag_of c.count_once.new.counts.entries) (bag_of c.list_user.new.counts.entries) c.args.pair _ c.requires.agree.proper none c.in_ok-before.ensures.ok c.in_err-list_user.ensures.uncounted)
-    c.in_err-list_user.ensures.err
+old_user : (there first : Bool) → first ≡ not there → first ≡ false → there ≡ true
+old_user true first e f = refl
+old_user false first e f = cc
 
-pub returns-in_err-list_user-clause-err : goal.returns-in_err-list_user-clause-err
-returns-in_err-list_user-clause-err c =
-    let none : count (bag_of c.args.counts.now.entries) c.args.pair ≡ 0 = grind (arith, c.in_ok-before.ensures.before, c.if-before-eq0.true) in
-    let p = err_from_is_err_and c.from_residual-in_err-list_user.result c.from_residual-in_err-list_user.ensures.1 in
-    rw p.1 (taken_again (bag_of c.args.counts.now.entries) (bag_of c.count_once.new.counts.entries) (bag_of c.list_user.new.counts.entries) c.args.pair _ c.requires.agree.proper none c.in_ok-before.ensures.ok c.in_err-list_user.ensures.uncounted)
+new_user : (there first : Bool) → first ≡ not there → first ≡ true → there ≡ false
+new_user true first e f = cc
+new_user false first e f = refl
 
-pub returns-in_ok-list_user-clause-agree : goal.returns-in_ok-list_user-clause-agree
-returns-in_ok-list_user-clause-agree c =
-    let once : bag_of c.list_user.new.counts.entries ≡ map.insert (bag_of c.args.counts.now.entries) c.args.pair 1 =
-    c.in_ok-list_user.ensures.counted ∙ c.in_ok-before.ensures.ok ∙ ap (λ (n : ℕ). map.insert (bag_of c.args.counts.now.entries) c.args.pair (n + 1)) c.if-before-eq0.true in
-    first_agrees (bag_of c.args.counts.now.entries) (bag_of c.list_user.new.counts.entries) (lists_of c.args.lists.now.entries) (lists_of c.list_user.new.lists.entries) c.args.pair c.requires.agree once c.in_ok-list_user.ensures.ok
+pub returns-in_err-count_again-clause-err : goal.returns-in_err-count_again-clause-err
+returns-in_err-count_again-clause-err c =
+    let p = err_from_is_err_and c.from_residual-in_err-count_again.result c.from_residual-in_err-count_again.ensures.1 in
+    let there = old_user (is_listed c.args.lists.now.entries c.args.pair) c.in_ok-first.first c.in_ok-first.ensures.first c.if-not-first.true in
+    let kept = kept_listed c.args.lists.now.entries c.list_user.new.lists.entries c.args.pair there c.in_ok-first.ensures.ok in
+    rw p.1 (same_times c.args.repeats.now.entries c.count_again.new.repeats.entries c.args.lists.now.entries c.list_user.new.lists.entries c.in_err-count_again.ensures.err kept)
 
-pub returns-in_ok-list_user-clause-ok : goal.returns-in_ok-list_user-clause-ok
-returns-in_ok-list_user-clause-ok c =
-    add_again_count (bag_of c.args.counts.now.entries) (bag_of c.list_user.new.counts.entries) c.args.pair c.in_ok-before.before (c.in_ok-list_user.ensures.counted ∙ c.in_ok-before.ensures.ok) c.in_ok-before.ensures.before
+pub returns-in_ok-count_again-clause-repeats : goal.returns-in_ok-count_again-clause-repeats
+returns-in_ok-count_again-clause-repeats c =
+    let there = old_user (is_listed c.args.lists.now.entries c.args.pair) c.in_ok-first.first c.in_ok-first.ensures.first c.if-not-first.true in
+    let a = first_repeats c.args.repeats.now.entries c.args.lists.now.entries c.list_user.new.lists.entries c.args.pair c.requires.repeats c.in_ok-first.ensures.ok in
+    again_repeats c.args.repeats.now.entries c.count_again.new.repeats.entries c.list_user.new.lists.entries c.args.pair a c.in_ok-count_again.ensures.ok
+    (kept_listed c.args.lists.now.entries c.list_user.new.lists.entries c.args.pair there c.in_ok-first.ensures.ok c.args.pair ∙ there)
 
-pub returns-else-before-eq0-clause-agree : goal.returns-else-before-eq0-clause-agree
-returns-else-before-eq0-clause-agree c =
-    let more : 0 < count (bag_of c.args.counts.now.entries) c.args.pair = grind (arith, c.in_ok-before.ensures.before, c.if-before-eq0.false) in
-    set_agrees (bag_of c.args.counts.now.entries) (bag_of c.count_once.new.counts.entries) (lists_of c.args.lists.now.entries) c.args.pair _ c.requires.agree c.in_ok-before.ensures.ok (omega arith) more
+pub returns-in_ok-count_again-clause-ok : goal.returns-in_ok-count_again-clause-ok
+returns-in_ok-count_again-clause-ok c =
+    let there = old_user (is_listed c.args.lists.now.entries c.args.pair) c.in_ok-first.first c.in_ok-first.ensures.first c.if-not-first.true in
+    let kept = kept_listed c.args.lists.now.entries c.list_user.new.lists.entries c.args.pair there c.in_ok-first.ensures.ok in
+    λ q. again_times c.args.repeats.now.entries c.count_again.new.repeats.entries c.list_user.new.lists.entries c.args.pair c.in_ok-count_again.ensures.ok (kept c.args.pair ∙ there) q
+    ∙ ap (λ n. cond (is_pair q c.args.pair) 1 0 + n) (same_times c.args.repeats.now.entries c.args.repeats.now.entries c.args.lists.now.entries c.list_user.new.lists.entries (λ p. refl) kept q)
 
-pub returns-else-before-eq0-clause-ok : goal.returns-else-before-eq0-clause-ok
-returns-else-before-eq0-clause-ok c =
-    add_again_count (bag_of c.args.counts.now.entries) (bag_of c.count_once.new.counts.entries) c.args.pair c.in_ok-before.before c.in_ok-before.ensures.ok c.in_ok-before.ensures.before
+pub returns-else-not-first-clause-repeats : goal.returns-else-not-first-clause-repeats
+returns-else-not-first-clause-repeats c = first_repeats c.args.repeats.now.entries c.args.lists.now.entries c.list_user.new.lists.entries c.args.pair c.requires.repeats c.in_ok-first.ensures.ok
+
+pub returns-else-not-first-clause-ok : goal.returns-else-not-first-clause-ok
+returns-else-not-first-clause-ok c =
+    let none = new_user (is_listed c.args.lists.now.entries c.args.pair) c.in_ok-first.first c.in_ok-first.ensures.first c.if-not-first.false in
+    first_times c.args.repeats.now.entries c.args.lists.now.entries c.list_user.new.lists.entries c.args.pair c.requires.repeats none c.in_ok-first.ensures.ok

@@ -1,24 +1,29 @@
-use Rattle.std.proofs.Common.{◌≡◌, ◌<◌, ◌-◌, arith}
-use Rattle.ref_index.specs.Bag.{count}
-use Rattle.ref_index.specs.Users.{bag_of, lists_of}
-use Rattle.ref_index.proofs.Agreement.{take_again_count, take_last_count, last_agrees, set_agrees}
+use Rattle.std.proofs.Common.{◌≡◌, ◌-◌, arith}
+use Rattle.std.specs.Prelude.{Some, None}
+use Rattle.ref_index.specs.Repeats.{number_of}
+use Rattle.ref_index.proofs.Agreement.{last_repeats, last_times, sets_repeats, less_times, listed}
 use Rattle.ref_index.proofs.index.take.Goals as goal
 
-pub returns-then-count-eq1-clause-agree : goal.returns-then-count-eq1-clause-agree
-returns-then-count-eq1-clause-agree c =
-    last_agrees (bag_of c.args.counts.now.entries) (bag_of c.count_none.new.counts.entries) (lists_of c.args.lists.now.entries) (lists_of c.take_user.new.lists.entries) c.args.pair c.requires.agree c.count_none.ensures c.take_user.ensures
+pub returns-then-number-eq1-clause-repeats : goal.returns-then-number-eq1-clause-repeats
+returns-then-number-eq1-clause-repeats c =
+    let one : number_of c.args.repeats.now.entries c.args.pair ≡ 1 = grind (arith, c.number_of-number.ensures, c.if-number-eq1.true) in
+    last_repeats c.args.repeats.now.entries c.args.lists.now.entries c.unlist_user.new.lists.entries c.args.pair c.requires.repeats one c.unlist_user.ensures
 
-pub returns-then-count-eq1-clause-count : goal.returns-then-count-eq1-clause-count
-returns-then-count-eq1-clause-count c =
-    let one : count (bag_of c.args.counts.now.entries) c.args.pair ≡ 1 = grind (arith, c.count_in-count.ensures, c.if-count-eq1.true) in
-    take_last_count (bag_of c.args.counts.now.entries) (bag_of c.count_none.new.counts.entries) c.args.pair c.count_none.ensures one
+pub returns-then-number-eq1-clause-count : goal.returns-then-number-eq1-clause-count
+returns-then-number-eq1-clause-count c =
+    let one : number_of c.args.repeats.now.entries c.args.pair ≡ 1 = grind (arith, c.number_of-number.ensures, c.if-number-eq1.true) in
+    last_times c.args.repeats.now.entries c.args.lists.now.entries c.unlist_user.new.lists.entries c.args.pair one (listed c.args.repeats.now.entries c.args.lists.now.entries c.args.pair c.requires.there) c.unlist_user.ensures
 
-pub returns-else-count-eq1-clause-agree : goal.returns-else-count-eq1-clause-agree
-returns-else-count-eq1-clause-agree c =
-    let more : 0 < c.count_in-count.result - 1 = grind (arith, c.count_in-count.ensures, c.if-count-eq1.false, c.requires.there) in
-    set_agrees (bag_of c.args.counts.now.entries) (bag_of c.count_again.new.counts.entries) (lists_of c.args.lists.now.entries) c.args.pair _ c.requires.agree c.count_again.ensures more c.requires.there
+pub returns-then-number-eq2-clause-repeats : goal.returns-then-number-eq2-clause-repeats
+returns-then-number-eq2-clause-repeats c = sets_repeats c.args.repeats.now.entries c.swap_remove.new.self.entries c.args.lists.now.entries c.args.pair None c.requires.repeats c.swap_remove.ensures.updates.0 tt
 
-pub returns-else-count-eq1-clause-count : goal.returns-else-count-eq1-clause-count
-returns-else-count-eq1-clause-count c =
-    let more : 0 < c.count_in-count.result = grind (arith, c.count_in-count.ensures, c.requires.there) in
-    take_again_count (bag_of c.args.counts.now.entries) (bag_of c.count_again.new.counts.entries) c.args.pair c.count_in-count.result c.count_again.ensures c.count_in-count.ensures more
+pub returns-then-number-eq2-clause-count : goal.returns-then-number-eq2-clause-count
+returns-then-number-eq2-clause-count c =
+    let two : 2 ≡ number_of c.args.repeats.now.entries c.args.pair = grind (arith, c.number_of-number.ensures, c.if-number-eq2.true) in
+    less_times c.args.repeats.now.entries c.swap_remove.new.self.entries c.args.lists.now.entries c.args.pair None c.swap_remove.ensures.updates.0 two (listed c.args.repeats.now.entries c.args.lists.now.entries c.args.pair c.requires.there)
+
+pub returns-else-number-eq2-clause-count : goal.returns-else-number-eq2-clause-count
+returns-else-number-eq2-clause-count c =
+    let there = listed c.args.repeats.now.entries c.args.lists.now.entries c.args.pair c.requires.there in
+    less_times c.args.repeats.now.entries c.set_number.new.repeats.entries c.args.lists.now.entries c.args.pair (Some (c.number_of-number.result - 1)) c.set_number.ensures
+    (grind (arith, c.number_of-number.ensures)) there

@@ -7,4 +7,4 @@ use Rattle.osm_base.proofs.RisingKeys.{rises_with}
 use Rattle.ref_index.proofs.users.Users.put.Goals as goal
 
 pub invariant_of-self-2 : goal.invariant_of-self-2
-invariant_of-self-2 c = subst (λ (ks : List Key). T (rises ks)) (sym c.in_ok-put_item.ensures.ok) (rises_with c.args.key (listed c.self.inside.items) c.self.invariant)
+invariant_of-self-2 c = subst (λ (ks : List Key). T (rises ks)) (sym c.in_ok-first.ensures.ok) (rises_with c.args.key (listed c.self.inside.items) c.self.invariant)
