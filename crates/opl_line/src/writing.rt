@@ -13,7 +13,7 @@ ghost use Rattle.opl_line.specs.declared.mode.Mode.{Mode};
 
 use opl_text::{write_escaped, write_time};
 use osm_base::{
-    Content, Coord, Key, Kind, Member, Meta, Text, write_coord, write_digits, write_key,
+    Content, Coord, Key, Kind, Member, Meta, Text, node_key, write_coord, write_digits, write_key,
 };
 use std::alloc::AllocError;
 
@@ -116,11 +116,7 @@ fn write_ref(id: i64, out: &mut Vec<u8>) -> Result<(), AllocError>
     ensures written { OnOk result (out.new.items ≡ out.old.items ++ ref_written id) }
     ensures kept { OnErr result (Extends out.old.items out.new.items) }
 {
-    let key = Key {
-        kind: Kind::Node,
-        id,
-    };
-    write_key(key, out)?;
+    write_key(node_key(id), out)?;
     Ok(())
 }
 

@@ -8,6 +8,7 @@ ghost use Rattle.osm_base.specs.Same.{same_content};
 use crate::coord::Coord;
 use crate::key::{Key, Kind, same_key};
 use crate::members::{Member, Members};
+use crate::references::node_key;
 use crate::refs::Refs;
 use crate::tags::Tags;
 use crate::text::Text;
@@ -128,13 +129,7 @@ pub fn refers(content: &Content, key: Key) -> bool
 fn names_node(ids: &[i64], key: Key) -> bool
     ensures { result ≡ list_any (λ id. is_key key (node id)) ids.now }
 {
-    ids.iter().any(|id| {
-        let reference = Key {
-            kind: Kind::Node,
-            id: *id,
-        };
-        same_key(key, reference)
-    })
+    ids.iter().any(|id| same_key(key, node_key(*id)))
 }
 
 fn names_member(members: &[Member], key: Key) -> bool

@@ -30,6 +30,13 @@ impl Keys {
         }
     }
 
+    /// These keys. The vector is kept as it is, so nothing is copied.
+    pub fn from_vec(items: Vec<Key>) -> Self
+        ensures { result ≡ items.items }
+    {
+        Keys { items }
+    }
+
     /// How many keys there are.
     pub fn len(&self) -> usize
         ensures { result ≡ length self.now }
@@ -87,6 +94,8 @@ mod tests {
         keys.push(key)?;
         assert_eq!(rt; keys.len(), 2);
         assert_eq!(rt; first.as_slice(), [key].as_slice());
+        let again = Keys::from_vec(Vec::from_slice(rt.alloc(), keys.as_slice())?);
+        assert_eq!(rt; again.as_slice(), keys.as_slice());
         Ok(())
     }
 }

@@ -34,7 +34,7 @@ pub use edits::{EditContent, edit_all, edited_draft};
 pub use job::Job;
 pub use key_set::{KeySet, distinct};
 pub use kinds::Kinds;
-pub use nodes::{node_key, node_keys};
+pub use nodes::node_keys;
 pub use order::ranked;
 pub use refusal::Refusal;
 pub use reply::Reply;

@@ -2,18 +2,8 @@
 ghost use Rattle.std.specs.Prelude.{◌≡◌, map, IfOk};
 ghost use Rattle.osm_base.specs.Content.{node};
 
-use osm_base::{Key, Kind};
+use osm_base::{Key, node_key};
 use std::alloc::{AllocError, Global};
-
-/// The key of the node with an id.
-pub fn node_key(id: i64) -> Key
-    ensures { result ≡ node id }
-{
-    Key {
-        kind: Kind::Node,
-        id,
-    }
-}
 
 /// The keys of the nodes with these ids, in their order.
 ///

@@ -8,11 +8,10 @@ ghost use Rattle.tool_api.specs.Split.{complete_test, is_incomplete};
 ghost use Rattle.tool_api.specs.Tests.{is_named, entry_test, target_test, twice_test, list_tests, ref_entry_test, ref_tests, first_of};
 
 use crate::kinds::Kinds;
-use crate::nodes::node_key;
 use crate::refusal::Refusal;
 use dataset::DataSet;
 use indexmap::IndexSet;
-use osm_base::{Key, same_key};
+use osm_base::{Key, node_key, same_key};
 use osm_table::Entry;
 use std::alloc::{AllocError, Global};
 

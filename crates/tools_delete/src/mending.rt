@@ -6,10 +6,10 @@ ghost use Rattle.tool_api.specs.Basic.{with_refs, with_members};
 ghost use Rattle.tool_api.specs.Gone.{mended, members_without};
 ghost use Rattle.tool_api.specs.Tests.{is_named};
 
-use osm_base::{Content, Refs};
+use osm_base::{Content, Refs, node_key};
 use relation_upkeep::drop_members;
 use std::alloc::{AllocError, Global};
-use tool_api::{EditContent, KeySet, node_key};
+use tool_api::{EditContent, KeySet};
 
 fn names_node(named: &KeySet, id: i64) -> bool
     ensures { result ≡ is_named named.now (node id) }

@@ -11,10 +11,10 @@ ghost use Rattle.tools_delete.specs.Touched.{falls_short, is_free, is_left_by, i
 
 use crate::mending::mended_ids;
 use dataset::DataSet;
-use osm_base::{Content, Key};
+use osm_base::{Content, Key, node_key};
 use osm_table::Entry;
 use std::alloc::{AllocError, Global};
-use tool_api::{KeySet, all_users, content_of, distinct, is_relation, node_key};
+use tool_api::{KeySet, all_users, content_of, distinct, is_relation};
 
 fn is_way(ds: &DataSet, key: Key) -> bool
     ensures { result ≡ lives_as_way ds.now key }

@@ -5,9 +5,9 @@ ghost use Rattle.tool_api.specs.Split.{node_tests};
 ghost use Rattle.way_split.specs.Tests.{one_test};
 
 use crate::nodes::node_set;
-use osm_base::Key;
+use osm_base::{Key, node_key};
 use std::alloc::AllocError;
-use tool_api::{KeySet, Kinds, Refusal, node_key};
+use tool_api::{KeySet, Kinds, Refusal};
 
 /// One node: NamedTwice, WrongKind, NotInWay. Two hashed look-ups.
 fn one_test(seen: &KeySet, in_way: &KeySet, key: Key) -> Option<Refusal>

@@ -4,9 +4,9 @@ ghost use Rattle.osm_base.specs.Content.{node};
 ghost use Rattle.tool_api.specs.Tests.{is_named};
 ghost use Rattle.tool_api.specs.Upkeep.{is_among};
 
-use osm_base::Key;
+use osm_base::{Key, node_key};
 use std::alloc::{AllocError, Global};
-use tool_api::{KeySet, node_key, node_keys};
+use tool_api::{KeySet, node_keys};
 
 /// The key of the node at a place.
 pub fn node_at(ids: &[i64], i: usize) -> Key

@@ -6,9 +6,9 @@ ghost use Rattle.tool_api.specs.Tests.{is_named};
 ghost use Rattle.tool_api.specs.Split.{pieces, is_closed, turned, all_pieces, kept_number};
 
 use crate::nodes::node_at;
-use osm_base::{Refs, same_key};
+use osm_base::{Refs, node_key, same_key};
 use std::alloc::{AllocError, Global};
-use tool_api::{KeySet, node_key};
+use tool_api::KeySet;
 
 /// Whether a way is cut at a place: inside, at a named node.
 fn cut_at(refs: &[i64], i: usize, cuts: &KeySet) -> bool

@@ -1,0 +1,94 @@
+//! What an object refers to.
+ghost use Rattle.std.specs.Prelude.{◌≡◌, ◌++◌, map, OnOk};
+ghost use Rattle.osm_base.specs.Content.{node, refs_of};
+
+use crate::content::Content;
+use crate::key::{Key, Kind};
+use crate::members::Member;
+use std::alloc::AllocError;
+
+/// The key of the node with this id.
+pub fn node_key(id: i64) -> Key
+    ensures { result ≡ node id }
+{
+    Key {
+        kind: Kind::Node,
+        id,
+    }
+}
+
+/// Appends what the content refers to, in order, each as often as it stands there: the nodes of a way, and the members
+/// of a relation.
+///
+/// # Errors
+/// No memory was left.
+pub fn push_references(content: &Content, keys: &mut Vec<Key>) -> Result<(), AllocError>
+    ensures { OnOk result (keys.new.items ≡ keys.old.items ++ refs_of content.now) }
+{
+    match content {
+        Content::Node { .. } => Ok(()),
+        Content::Way { refs, .. } => push_nodes(refs.as_slice(), keys),
+        Content::Relation { members, .. } => push_members(members.as_slice(), keys),
+    }
+}
+
+fn push_nodes(ids: &[i64], keys: &mut Vec<Key>) -> Result<(), AllocError>
+    ensures { OnOk result (keys.new.items ≡ keys.old.items ++ map node ids.now) }
+{
+    for id in ids {
+        keys.push(node_key(*id))?;
+    }
+    Ok(())
+}
+
+fn push_members(members: &[Member], keys: &mut Vec<Key>) -> Result<(), AllocError>
+    ensures { OnOk result (keys.new.items ≡ keys.old.items ++ map (λ member. member.key) members.now) }
+{
+    for member in members {
+        keys.push(member.key)?;
+    }
+    Ok(())
+}
+
+#[cfg(test)]
+mod tests {
+    use super::*;
+    use crate::members::Members;
+    use crate::refs::Refs;
+    use crate::tags::Tags;
+    use crate::text::Text;
+    use std::test::Fail;
+
+    #[test]
+    fn lists_each_reference_as_often_as_it_stands(rt: HostRuntime) -> Result<(), Fail> {
+        let mut refs = Refs::new(rt.alloc());
+        for id in [4, -1, 4] {
+            refs.push(id)?;
+        }
+        let way = Content::Way {
+            tags: Tags::new(rt.alloc()),
+            refs,
+        };
+        let other = Key {
+            kind: Kind::Way,
+            id: 4,
+        };
+        let mut members = Members::new(rt.alloc());
+        members.push(Member {
+            key: other,
+            role: Text::new(rt.alloc())?,
+        })?;
+        let relation = Content::Relation {
+            tags: Tags::new(rt.alloc()),
+            members,
+        };
+        let mut keys = Vec::new(rt.alloc());
+        push_references(&way, &mut keys)?;
+        push_references(&relation, &mut keys)?;
+        assert_eq!(rt;
+            keys.as_slice(),
+            [node_key(4), node_key(-1), node_key(4), other].as_slice()
+        );
+        Ok(())
+    }
+}
