@@ -19,10 +19,19 @@ use Rattle.ref_index.proofs.Agreement.{pair_parts}
 use Rattle.dataset.specs.declared.edit.Edit.{Edit}
 use Rattle.dataset.specs.Patch.{Entries, in_order, edit_at, edited}
 use Rattle.dataset.specs.Exact.{mine_at, refs_at, times_key, IsExact, pairs_of, pairs_by, moved_pairs, keeps_refs, same_lists}
-use Rattle.dataset.specs.Writes.{side}
+use Rattle.dataset.specs.Sides.{side}
 use Rattle.osm_base.proofs.RisingKeys.{one_key}
 use Rattle.dataset.proofs.Looked.{get_edited, tail_none, tail_order}
 use Rattle.dataset.proofs.Laws.{by_edit}
+
+-- the references of a way and of a relation, as pairs
+pub node_pairs : (user : Key) (ids : List ℤ) → map {B = Pair} (λ id. record { of = node id; user = user }) ids ≡ map (λ k. record { of = k; user = user }) (map node ids)
+node_pairs user [] = refl
+node_pairs user (id ∷ ids) = ap (λ (ps : List Pair). record { of = node id; user = user } ∷ ps) (node_pairs user ids)
+
+pub member_pairs : (user : Key) (ms : List Member) → map {B = Pair} (λ m. record { of = m.key; user = user }) ms ≡ map (λ k. record { of = k; user = user }) (map (λ m. m.key) ms)
+member_pairs user [] = refl
+member_pairs user (m ∷ ms) = ap (λ (ps : List Pair). record { of = m.key; user = user } ∷ ps) (member_pairs user ms)
 
 count_step : (a b : Bool) (n m : ℕ) → n ≡ cond b m 0 → cond (a && b) 1 0 + n ≡ cond b (cond a 1 0 + m) 0
 count_step true true n m e = ap (λ x. 1 + x) e

@@ -2,7 +2,8 @@ pub mod Looked
 pub mod Laws
 pub mod Exactness
 pub mod Listed
-pub mod WriteLaws
+pub mod SideLaws
+pub mod LeadLaws
 pub mod Drafted
 pub mod Differs
 pub mod Kept

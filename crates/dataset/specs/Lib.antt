@@ -1,6 +1,6 @@
 pub mod Patch
 pub mod Exact
-pub mod Writes
+pub mod Sides
 pub mod Draft
 pub mod Sound
 pub mod Diff

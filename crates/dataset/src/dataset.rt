@@ -5,18 +5,18 @@ ghost use Rattle.std.specs.Option.{option_copied};
 ghost use Rattle.std.specs.FinMap as fin;
 ghost use Rattle.osm_table.specs.Table.{entry_of, keys_by_rank, users};
 ghost use Rattle.dataset.specs.Sound.{IsSound};
-ghost use Rattle.dataset.specs.Patch.{IsDiff, in_order, edited, StandsBefore, StandsAfter, after_of, before_of};
+ghost use Rattle.dataset.specs.Patch.{IsDiff, in_order, StandsBefore, StandsAfter, after_of, before_of};
 ghost use Rattle.dataset.specs.Diff.{diff};
 ghost use Rattle.dataset.specs.Draft.{drafted};
 ghost use Rattle.dataset.specs.Exact.{IsExact};
-ghost use Rattle.dataset.specs.Writes.{side};
+ghost use Rattle.dataset.specs.Sides.{side, led};
 
 use crate::difference::edits_over;
 use crate::draft::Draft;
 use crate::edit::Edit;
 use crate::pairs::pairs;
 use crate::patch::Patch;
-use crate::writes::{copies, drop_keys, put_keys, write_all};
+use crate::writes::{drop_keys, put_keys, write_all, writes_of};
 use osm_base::{Key, Keys};
 use osm_table::{Entry, Table};
 use ref_index::RefIndex;
@@ -116,7 +116,8 @@ impl DataSet {
     }
 
     /// The difference between the table and the draft's table. Keys whose entries stay are left out.
-    /// Costs the draft's entries and one sort of its keys.
+    /// Costs the draft's entries and one sort of its keys, which is one pass where they were put by
+    /// rank.
     ///
     /// # Errors
     ///
@@ -178,9 +179,9 @@ impl DataSet {
     }
 }
 
-/// Leads the table by one side of edits, or leaves all as it was.
+/// Leads the table by one side of edits, or leaves all as it was. Costs one look-up an edit.
 ///
-/// All that can find no memory comes first: the copies of the new entries, the pairs, the new keys,
+/// All that can find no memory comes first: the writes with their entries, the pairs, the new keys,
 /// the index. Where the index finds none the new keys are taken out again.
 fn lead(
     alloc: Global,
@@ -192,18 +193,19 @@ fn lead(
     requires order { T (in_order edits.now) }
     requires stands { AllByRecursion (λ e. entry_of table.old e.key ≡ side (not forth) e) edits.now }
     requires exact { IsExact table.old index.old }
-    ensures ok { OnOk result (table.new ≡ record { entries = edited (side forth) edits.now table.old.entries; next = table.old.next }) }
+    ensures ok { OnOk result (table.new ≡ led (side forth) edits.now table.old) }
     ensures exact { IsExact table.new index.new }
     ensures err { OnErr result (table.new ≡ table.old) }
 {
-    let writes = copies(alloc, table, edits, forth)?;
+    let writes = writes_of(alloc, edits, forth)?;
     let gone = pairs(alloc, edits, !forth)?;
     let come = pairs(alloc, edits, forth)?;
-    put_keys(table, &writes)?;
+    put_keys(table, edits, forth)?;
     if let Err(e) = index.change(&gone, &come) {
-        drop_keys(table, &writes);
+        drop_keys(table, edits, !forth);
         return Err(e);
     }
     write_all(table, writes);
+    drop_keys(table, edits, forth);
     Ok(())
 }

@@ -44,6 +44,19 @@ impl Draft {
         }
     }
 
+    /// A draft that changes nothing, with room for so many keys.
+    ///
+    /// # Errors
+    ///
+    /// Where no memory is found.
+    pub fn with_capacity(ds: &DataSet, keys: usize) -> Result<Draft, AllocError>
+        ensures { IfOk result (λ draft. draft ≡ record { puts = map.empty; next = ds.now.next }) }
+    {
+        let mut draft = Draft::new(ds);
+        draft.puts = IndexMap::with_capacity(ds.alloc(), keys)?;
+        Ok(draft)
+    }
+
     /// Says the new entry of a key, or that the key goes. A later word on a key takes the place of
     /// an earlier one.
     ///
@@ -71,6 +84,13 @@ impl Draft {
         ensures { result ≡ self.now.next }
     {
         self.next
+    }
+
+    /// How many keys it speaks of.
+    pub fn len(&self) -> usize
+        ensures { result ≡ map.len self.now.puts }
+    {
+        self.puts.len()
     }
 
     /// What it says of a key: nothing, or a new entry, or that the key goes.
@@ -118,7 +138,7 @@ fn entry_in(shared: &Option<SharedEntry>) -> Option<&Entry>
 {
     match shared {
         None => None,
-        Some(entry) => Some(entry.as_entry()),
+        Some(entry) => Some(entry.value()),
     }
 }
 

@@ -7,9 +7,10 @@
 //! the cost of its own entries and references. It stands on `osm_table` and `ref_index`.
 //!
 //! Advice for who changes it: what a table has after edits is said key by key, so no law needs the
-//! order of edits. New keys go into the table as `Incomplete` before the index changes, so that the
-//! last step of all edits sets keys that are there, which can't fail. How a tool shows that its
-//! draft keeps the table sound stands in `proofs/Kept`, `proofs/Changes` and `proofs/Gone`.
+//! order in which they are made. By their sides edits bring a key, give one another entry, or take
+//! one out (`specs/Sides`). The first are made before the index changes, and undone where it finds
+//! no memory; the others come last, since they take none. How a tool shows that its draft keeps the
+//! table sound stands in `proofs/Kept`, `proofs/Changes` and `proofs/Gone`.
 #![tactic(auto)]
 
 mod dataset;

@@ -1,12 +1,12 @@
 //! The pairs that come and go with edits.
-ghost use Rattle.std.specs.Prelude.{◌≡◌, ◌++◌, List, map, OnOk, IfOk};
+ghost use Rattle.std.specs.Prelude.{◌≡◌, ◌++◌, map, OnOk, IfOk};
 ghost use Rattle.std.specs.Option.{option_copied};
 ghost use Rattle.osm_base.specs.Content.{refs_of, node};
 ghost use Rattle.dataset.specs.Exact.{keeps_refs, mine_at, moved_pairs, pairs_by, pairs_of, same_lists};
-ghost use Rattle.dataset.specs.Writes.{side};
+ghost use Rattle.dataset.specs.Sides.{side};
 
 use crate::edit::Edit;
-use osm_base::{Content, Key, Kind, Member};
+use osm_base::{Content, Key, Member, node_key};
 use osm_table::SharedEntry;
 use ref_index::Pair;
 use std::alloc::{AllocError, Global};
@@ -49,7 +49,7 @@ fn mine_at(entry: &Option<SharedEntry>) -> Option<&Content>
     ensures { option_copied result ≡ mine_at entry.now }
 {
     match entry {
-        Some(entry) => entry.as_entry().mine(),
+        Some(entry) => entry.value().mine(),
         None => None,
     }
 }
@@ -107,11 +107,10 @@ fn push_nodes(pairs: &mut Vec<Pair>, user: Key, ids: &[i64]) -> Result<(), Alloc
     ensures { OnOk result (pairs.new.items ≡ pairs.old.items ++ map (λ id. record { of = node id; user = user }) ids.now) }
 {
     for id in ids {
-        let of = Key {
-            kind: Kind::Node,
-            id: *id,
-        };
-        pairs.push(Pair { of: of, user: user })?;
+        pairs.push(Pair {
+            of: node_key(*id),
+            user: user,
+        })?;
     }
     Ok(())
 }

@@ -84,3 +84,16 @@ fn leads_on_and_back(rt: HostRuntime) -> Result<(), Fail> {
     assert_eq!(rt; back, (0, 0, -1));
     Ok(())
 }
+
+#[test]
+fn counts_the_keys_of_a_draft(rt: HostRuntime) -> Result<(), Fail> {
+    let ds = DataSet::new(rt.alloc());
+    let mut draft = Draft::with_capacity(&ds, 2)?;
+    assert_eq!(rt; draft.len(), 0);
+    assert_eq!(rt; draft.next(), 1);
+    draft.put(NODE, Some(Entry::Incomplete))?;
+    draft.put(WAY, None)?;
+    draft.put(NODE, None)?;
+    assert_eq!(rt; draft.len(), 2);
+    Ok(())
+}

@@ -1,127 +1,108 @@
-//! Writes to a table that can't fail, once the new keys are in.
-ghost use Rattle.std.specs.Prelude.{◌≡◌, ◌&&◌, true, T, cond, List, map, OnOk, OnErr, IfOk, IsOk, IsSome};
+//! What edits make of a table's entries, in three parts: keys that come, keys that go, and keys
+//! that get another entry. Only the first and the copies for the last can find no memory.
+ghost use Rattle.std.specs.Prelude.{◌≡◌, ◌∷◌, ◌++◌, [], not, T, OnOk, OnErr, IfOk, IsSome};
 ghost use Rattle.std.specs.List.{AllByRecursion};
-ghost use Rattle.osm_table.specs.Table.{TableValue, entry_of, with_entry};
-ghost use Rattle.osm_table.specs.declared.entry.Entry.TheVariants.{Incomplete};
-ghost use Rattle.dataset.specs.Patch.{placed};
-ghost use Rattle.dataset.specs.Writes.{side, write_of, written, noted, unnoted, rise};
+ghost use Rattle.osm_table.specs.Table.{entry_of, with_entry};
+ghost use Rattle.dataset.specs.Patch.{in_order};
+ghost use Rattle.dataset.specs.Sides.{side, led, fresh, bare, writes_of, written};
 
 use crate::edit::Edit;
 use crate::pairs::side;
 use osm_base::Key;
-use osm_table::{Entry, SharedEntry, Table};
+use osm_table::{SharedEntry, Table};
 use std::alloc::{AllocError, Global};
 
-/// What a key gets, and whether the key is new.
+/// What a key gets in place of the entry that it has.
 #[derive(Drop)]
 pub struct Write {
     pub key: Key,
-    pub entry: Option<SharedEntry>,
-    pub fresh: bool,
+    pub entry: SharedEntry,
 }
 
-/// The same entry, shared.
-pub fn copy_entry(entry: &Option<SharedEntry>) -> Result<Option<SharedEntry>, AllocError>
-    ensures { IfOk result (λ copy. copy ≡ entry.now) }
+fn push_write(writes: &mut Vec<Write>, edit: &Edit, forth: bool) -> Result<(), AllocError>
+    ensures { OnOk result (writes.new.items ≡ writes.old.items ++ writes_of forth (edit.now ∷ [])) }
 {
-    match entry {
-        None => Ok(None),
-        Some(entry) => Ok(Some(entry.copy()?)),
-    }
-}
-
-fn write_of(table: &Table, edit: &Edit, forth: bool) -> Result<Write, AllocError>
-    ensures { IfOk result (λ write. write ≡ write_of table.now forth edit.now) }
-{
-    let entry = copy_entry(side(edit, forth))?;
-    let fresh = entry.is_some() && table.get(edit.key).is_none();
-    Ok(Write {
-        key: edit.key,
-        entry: entry,
-        fresh: fresh,
-    })
-}
-
-/// Copies of one side.
-pub fn copies(
-    alloc: Global,
-    table: &Table,
-    edits: &[Edit],
-    forth: bool,
-) -> Result<Vec<Write>, AllocError>
-    ensures { IfOk result (λ writes. writes.items ≡ map (write_of table.now forth) edits.now) }
-{
-    let mut writes = Vec::with_capacity(alloc, edits.len())?;
-    for edit in edits {
-        writes.push(write_of(table, edit, forth)?)?;
-    }
-    Ok(writes)
-}
-
-/// Takes the new keys out again.
-pub fn drop_keys(table: &mut Table, writes: &[Write])
-    ensures { table.new ≡ unnoted writes.now table.old }
-{
-    for write in writes {
-        if write.fresh {
-            table.remove(write.key);
-        }
-    }
-}
-
-fn put_key(table: &mut Table, write: &Write, incomplete: &SharedEntry) -> Result<(), AllocError>
-    requires { incomplete.now ≡ Incomplete }
-    ensures ok { OnOk result (table.new ≡ cond write.now.fresh (with_entry table.old write.now.key Incomplete) table.old) }
-    ensures err { OnErr result (table.new ≡ table.old) }
-{
-    if write.fresh {
-        table.set(write.key, incomplete.copy()?)?;
+    if let (Some(entry), Some(_)) = (side(edit, forth), side(edit, !forth)) {
+        writes.push(Write {
+            key: edit.key,
+            entry: entry.copy()?,
+        })?;
     }
     Ok(())
 }
 
-/// Puts the new keys in, or leaves all as it was.
-pub fn put_keys(table: &mut Table, writes: &[Write]) -> Result<(), AllocError>
-    requires { unnoted writes.now table.old ≡ table.old }
-    ensures ok { OnOk result (table.new ≡ noted writes.now table.old) }
-    ensures back { unnoted writes.now table.new ≡ table.old }
+/// The writes of the edits whose keys stay. Edits that bring or take out keys have none.
+pub fn writes_of(alloc: Global, edits: &[Edit], forth: bool) -> Result<Vec<Write>, AllocError>
+    ensures { IfOk result (λ writes. writes.items ≡ writes_of forth edits.now) }
+{
+    let mut writes = Vec::new(alloc);
+    for edit in edits {
+        push_write(&mut writes, edit, forth)?;
+    }
+    Ok(writes)
+}
+
+fn put_fresh(table: &mut Table, edit: &Edit, forth: bool) -> Result<(), AllocError>
+    ensures ok { OnOk result (table.new ≡ led (side forth) (fresh forth (edit.now ∷ [])) table.old) }
     ensures err { OnErr result (table.new ≡ table.old) }
 {
-    let incomplete = SharedEntry::new(table.alloc(), Entry::Incomplete)?;
-    for i in 0..writes.len() {
-        if let Err(e) = put_key(table, &writes[i], &incomplete) {
-            drop_keys(table, writes);
+    match (side(edit, forth), side(edit, !forth)) {
+        (Some(entry), None) => table.set(edit.key, entry.copy()?),
+        _ => Ok(()),
+    }
+}
+
+/// Puts the keys in that edits bring, or leaves all as it was. Costs one look-up each.
+pub fn put_keys(table: &mut Table, edits: &[Edit], forth: bool) -> Result<(), AllocError>
+    requires order { T (in_order edits.now) }
+    requires stands { AllByRecursion (λ e. entry_of table.old e.key ≡ side (not forth) e) edits.now }
+    ensures ok { OnOk result (table.new ≡ led (side forth) (fresh forth edits.now) table.old) }
+    ensures err { OnErr result (table.new ≡ table.old) }
+{
+    for edit in edits {
+        if let Err(e) = put_fresh(table, edit, forth) {
+            drop_keys(table, edits, !forth);
             return Err(e);
         }
     }
     Ok(())
 }
 
-/// Sets an entry whose key is there, or removes it.
-fn place(table: &mut Table, key: Key, entry: Option<SharedEntry>)
-    requires { IsSome entry → IsSome (entry_of table.old key) }
-    ensures { table.new ≡ record { entries = placed table.old.entries key entry; next = table.old.next } }
+fn drop_bare(table: &mut Table, edit: &Edit, forth: bool)
+    ensures { table.new ≡ led (side forth) (bare forth (edit.now ∷ [])) table.old }
 {
-    match entry {
-        Some(entry) => {
-            if let Err(_) = table.set(key, entry) {
-                unreachable!();
-            }
-        }
-        None => {
-            table.remove(key);
-        }
+    if side(edit, forth).is_none() {
+        table.remove(edit.key);
     }
 }
 
-/// Writes all, which takes no memory.
+/// Takes the keys out for which a side has no entry. It begins at the last, since a table gives up
+/// its newest keys at least cost.
+pub fn drop_keys(table: &mut Table, edits: &[Edit], forth: bool)
+    ensures { table.new ≡ led (side forth) (bare forth edits.now) table.old }
+{
+    for i in (0..edits.len()).rev() {
+        drop_bare(table, &edits[i], forth);
+    }
+}
+
+/// Sets the entry of a key that is there, which takes no memory.
+fn set_there(table: &mut Table, write: Write)
+    requires { IsSome (entry_of table.old write.key) }
+    ensures { table.new ≡ with_entry table.old write.key write.entry }
+{
+    if let Err(_) = table.set(write.key, write.entry) {
+        unreachable!();
+    }
+}
+
+/// Makes writes whose keys are there, which takes no memory.
 pub fn write_all(table: &mut Table, writes: Vec<Write>)
-    requires order { T (rise writes.items) }
-    requires there { AllByRecursion (λ w. IsSome w.entry → IsSome (entry_of table.old w.key)) writes.items }
-    ensures { table.new ≡ record { entries = written writes.items table.old.entries; next = table.old.next } }
+    requires { AllByRecursion (λ w. IsSome (entry_of table.old w.key)) writes.items }
+    ensures { table.new ≡ written writes.items table.old }
 {
     let mut writes = writes;
     while let Some(write) = writes.pop() {
-        place(table, write.key, write.entry);
+        set_there(table, write);
     }
 }

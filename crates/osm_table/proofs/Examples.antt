@@ -1,5 +1,5 @@
 -- Worked examples, on which the definitions compute.
-use Rattle.std.proofs.Common.{◌≡◌, ℕ, pos, negsuc, Bool, true, false, List, [], ◌∷◌, Option, Some, None, refl, ap, arith}
+use Rattle.std.proofs.Common.{◌≡◌, ℕ, pos, negsuc, true, false, List, [], ◌∷◌, Some, None, refl, ap, arith}
 use Rattle.std.specs.FinMap as fin
 use Rattle.osm_base.specs.Meta.{empty_meta}
 use Rattle.osm_base.specs.Rank.{rank_cmp}
@@ -12,11 +12,10 @@ use Rattle.osm_table.specs.declared.entry.Base.TheVariants.{New, Live, Gone}
 use Rattle.osm_table.specs.declared.entry.Why.TheVariants.{Changed, Held}
 use Rattle.osm_table.specs.declared.entry.Entry.{Entry}
 use Rattle.osm_table.specs.declared.entry.Entry.TheVariants.{Incomplete, Known}
-use Rattle.osm_table.specs.declared.told.Told.{Told}
 use Rattle.osm_table.specs.declared.told.Told.TheVariants as told
 use Rattle.osm_table.specs.Same.{same_entry}
 use Rattle.osm_table.specs.Table.{TableValue, entry_of, users, users_among, is_living, is_changed, known_side, version_of, held_by}
-use Rattle.osm_table.specs.Told.{ToldValue, told_at, with_told, IsTold}
+use Rattle.osm_table.specs.Told.{IsTold}
 
 abbrev node : ℕ → Key
 node n = record { kind = kind.Node; id = pos n }

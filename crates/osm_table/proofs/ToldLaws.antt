@@ -1,10 +1,10 @@
 -- What stays true of a told map when one key is put.
-use Rattle.std.proofs.Common.{◌≡◌, ◌∙◌, ◌++◌, Bool, true, false, cond, is_some, List, [], ◌∷◌, Option, Some, None, refl, sym, ap, subst}
+use Rattle.std.proofs.Common.{◌≡◌, ◌∙◌, ◌++◌, cond, is_some, List, [], ◌∷◌, Option, Some, None, refl, sym, ap}
 use Rattle.std.specs.FinMap as fin
 use Rattle.std.specs.FinMap.Entries.{is_some-find}
 use Rattle.std.specs.List.{list_any}
-use Rattle.std.specs.Map.{lookup, keys_of}
-use Rattle.indexmap.specs.IndexMap.{IndexMap, get, insert_entry, ContainsKey}
+use Rattle.std.specs.Map.{keys_of}
+use Rattle.indexmap.specs.IndexMap.{IndexMap, get, insert_entry}
 use Rattle.indexmap.proofs.CallerLemmas.{insert_entry-new, keys-insert_entry-present}
 use Rattle.osm_base.specs.KeyEq.{eq}
 use Rattle.osm_base.specs.Rank.{rank_cmp, is_key}

@@ -1,5 +1,5 @@
 -- What a download tells of the objects.
-use Rattle.std.specs.Prelude.{◌≡◌, ◌≤◌, ◌++◌, ℕ, if◌then◌else◌, is_some, List, [], ◌∷◌, Option, Some, None}
+use Rattle.std.specs.Prelude.{◌≡◌, ◌≤◌, ◌++◌, ℕ, if◌then◌else◌, is_some, List, [], ◌∷◌, Option, Some}
 use Rattle.std.specs.List.{AllByRecursion}
 use Rattle.std.specs.FinMap as fin
 use Rattle.osm_base.specs.Rank.{rank_cmp}
@@ -25,6 +25,10 @@ told_at m key = fin.get m.told key
 -- the map with one key set: a new key comes last, and another keeps its place
 abbrev pub with_told : ToldValue → Key → Told → ToldValue
 with_told m key told = record { told = fin.insert m.told key told; order = if is_some (told_at m key) then m.order else (m.order ++ key ∷ []) }
+
+-- the map with one key mentioned, where nothing is told of it
+abbrev pub with_mention : ToldValue → Key → ToldValue
+with_mention m key = if is_some (told_at m key) then m else with_told m key Mentioned
 
 -- a version that a server gave
 abbrev pub IsVersion : ℕ → Type 0

@@ -4,6 +4,7 @@ ghost use Rattle.std.specs.Option.{option_copied};
 ghost use Rattle.osm_table.specs.Same.{same_base, same_conflict, same_conflicts, same_mine, same_entry};
 ghost use Rattle.osm_table.specs.Table.{mine_of, is_living, is_changed, is_new, known_side, held_by, version_of};
 
+use crate::shared::Shared;
 use osm_base::{Content, Meta, same};
 use std::alloc::AllocError;
 
@@ -49,11 +50,11 @@ pub enum Entry {
     /// It is at the server, since another object refers to it. No more is known.
     Incomplete,
     /// The state that the edits began from, the content that the user has now (none where it is
-    /// deleted), and the conflict that isn't resolved yet.
+    /// deleted), and the conflict that isn't resolved yet, in a block of its own since few have one.
     Known {
         base: Base,
         mine: Option<Content>,
-        conflict: Option<Conflict>,
+        conflict: Option<Shared<Conflict>>,
     },
 }
 
@@ -144,16 +145,6 @@ impl Base {
 }
 
 impl Conflict {
-    /// An equal conflict.
-    pub fn copy(&self) -> Result<Conflict, AllocError>
-        ensures { IfOk result (λ copy. copy ≡ self.now) }
-    {
-        Ok(Conflict {
-            why: self.why,
-            theirs: self.theirs.copy()?,
-        })
-    }
-
     /// Equality.
     pub fn same(&self, other: &Conflict) -> bool
         ensures value { result ≡ same_conflict self.now other.now }
@@ -189,7 +180,7 @@ impl Entry {
             Entry::Incomplete => None,
             Entry::Known { base, conflict, .. } => Some(match conflict {
                 None => base,
-                Some(conflict) => &conflict.theirs,
+                Some(conflict) => &conflict.value().theirs,
             }),
         }
     }
@@ -207,7 +198,7 @@ impl Entry {
         }
     }
 
-    /// An equal entry. Texts and lists are shared, so it costs a step for each tag.
+    /// An equal entry. Texts, lists and the conflict are shared, so it costs a step for each tag.
     pub fn copy(&self) -> Result<Entry, AllocError>
         ensures { IfOk result (λ entry. entry ≡ self.now) }
     {
@@ -260,7 +251,9 @@ fn copy_mine(mine: &Option<Content>) -> Result<Option<Content>, AllocError>
     }
 }
 
-fn copy_conflict(conflict: &Option<Conflict>) -> Result<Option<Conflict>, AllocError>
+fn copy_conflict(
+    conflict: &Option<Shared<Conflict>>,
+) -> Result<Option<Shared<Conflict>>, AllocError>
     ensures { IfOk result (λ copy. copy ≡ conflict.now) }
 {
     match conflict {
@@ -280,13 +273,13 @@ fn same_mine(a: Option<&Content>, b: Option<&Content>) -> bool
     }
 }
 
-fn same_conflicts(a: &Option<Conflict>, b: &Option<Conflict>) -> bool
+fn same_conflicts(a: &Option<Shared<Conflict>>, b: &Option<Shared<Conflict>>) -> bool
     ensures value { result ≡ same_conflicts a.now b.now }
     ensures decides { IsTrue result ↔ (a.now ≡ b.now) }
 {
     match (a, b) {
         (None, None) => true,
-        (Some(a), Some(b)) => a.same(b),
+        (Some(a), Some(b)) => a.value().same(b.value()),
         _ => false,
     }
 }
@@ -319,10 +312,13 @@ mod tests {
         Ok(Entry::Known {
             base: live(alloc, 2, 1)?,
             mine: Some(way(alloc, mine)?),
-            conflict: Some(Conflict {
-                why: Why::Changed,
-                theirs: live(alloc, theirs, 4)?,
-            }),
+            conflict: Some(Shared::new(
+                alloc,
+                Conflict {
+                    why: Why::Changed,
+                    theirs: live(alloc, theirs, 4)?,
+                },
+            )?),
         })
     }
 
@@ -344,7 +340,7 @@ mod tests {
             why: Why::Withdrawn,
             theirs: copied,
         };
-        assert!(rt; conflict.copy()?.same(&conflict));
+        assert!(rt; conflict.same(&conflict));
         Ok(())
     }
 }

@@ -17,7 +17,7 @@ mod told;
 mod told_map;
 
 pub use entry::{Base, Conflict, Entry, Why};
-pub use shared::SharedEntry;
+pub use shared::{Shared, SharedEntry};
 pub use table::Table;
 pub use told::Told;
 pub use told_map::ToldMap;

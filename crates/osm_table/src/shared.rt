@@ -1,4 +1,4 @@
-//! Entries that stand in several places at once.
+//! Values that stand in several places at once.
 ghost use Rattle.std.specs.Prelude.{◌≡◌, IfOk};
 
 use crate::entry::Entry;
@@ -6,49 +6,49 @@ use std::alloc::{AllocError, Global};
 use std::marker::Model;
 use std::rc::Rc;
 
-/// An entry that stands in a table and in the patches that led there. It is never changed, so all copies share one
-/// block.
+/// A value in a block of its own. It is never changed, so all copies share the block. Clauses see it as the value.
 #[derive(Debug, Drop)]
-pub struct SharedEntry {
-    shared: Rc<Entry>,
+pub struct Shared<T> {
+    shared: Rc<T>,
 }
 
-impl Model for SharedEntry {
-    ghost use Rattle.osm_table.specs.declared.entry.Entry.{Entry};
+/// An entry that stands in a table and in the patches that led there.
+pub type SharedEntry = Shared<Entry>;
 
-    ghost Value = { Entry };
+impl<T> Model for Shared<T> {
+    ghost Value = { T };
 
     ghost view = { λ s. s.shared.value };
 }
 
-impl SharedEntry {
-    /// An entry to share. It takes one block.
+impl<T: Drop> Shared<T> {
+    /// A value to share. It takes one block.
     ///
     /// # Errors
     /// No memory was left.
-    pub fn new(alloc: Global, entry: Entry) -> Result<SharedEntry, AllocError>
-        ensures { IfOk result (λ shared. shared ≡ entry) }
+    pub fn new(alloc: Global, value: T) -> Result<Shared<T>, AllocError>
+        ensures { IfOk result (λ shared. shared ≡ value) }
     {
-        Ok(SharedEntry {
-            shared: Rc::new(alloc, entry)?,
+        Ok(Shared {
+            shared: Rc::new(alloc, value)?,
         })
     }
 
-    /// The entry.
-    pub fn as_entry(&self) -> &Entry
+    /// The value.
+    pub fn value(&self) -> &T
         ensures { result.now ≡ self.now }
     {
         self.shared.as_ref()
     }
 
-    /// The same entry. No block is made.
+    /// The same value. No block is made.
     ///
     /// # Errors
-    /// The count of those who share the entry is full.
-    pub fn copy(&self) -> Result<SharedEntry, AllocError>
+    /// The count of those who share the value is full.
+    pub fn copy(&self) -> Result<Shared<T>, AllocError>
         ensures { IfOk result (λ copy. copy ≡ self.now) }
     {
-        Ok(SharedEntry {
+        Ok(Shared {
             shared: self.shared.clone()?,
         })
     }

@@ -69,7 +69,7 @@ impl Table {
     {
         match self.get_shared(key) {
             None => None,
-            Some(entry) => Some(entry.as_entry()),
+            Some(entry) => Some(entry.value()),
         }
     }
 
@@ -117,7 +117,7 @@ impl Table {
     {
         let mut keys = keys(&self.entries)?;
         keys.sort()?;
-        Ok(listed(&keys)?)
+        Ok(Keys::from_vec(keys))
     }
 }
 
@@ -126,16 +126,6 @@ fn keys(entries: &IndexMap<Key, SharedEntry>) -> Result<Vec<Key>, AllocError>
     ensures unique { IfOk result (λ _. IsDistinct eq (keys_of entries.now.entries)) }
 {
     entries.keys().copied().collect(*entries.allocator())
-}
-
-fn listed(keys: &Vec<Key>) -> Result<Keys, AllocError>
-    ensures { IfOk result (λ list. list ≡ keys.now.items) }
-{
-    let mut list = Keys::new(*keys.allocator());
-    for key in keys {
-        list.push(*key)?;
-    }
-    Ok(list)
 }
 
 #[cfg(test)]

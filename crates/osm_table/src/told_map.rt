@@ -5,7 +5,8 @@ ghost use Rattle.std.specs.List.{list_any, IsDistinct};
 ghost use Rattle.std.specs.FinMap as map;
 ghost use Rattle.osm_base.specs.KeyEq.{eq};
 ghost use Rattle.osm_base.specs.Rank.{is_key};
-ghost use Rattle.osm_table.specs.Told.{told_at, with_told, IsTold, IsToldMap};
+ghost use Rattle.osm_table.specs.Table.{IsPositive};
+ghost use Rattle.osm_table.specs.Told.{told_at, with_told, with_mention, IsTold, IsToldMap};
 
 use crate::told::Told;
 use indexmap::IndexMap;
@@ -39,15 +40,6 @@ impl Model for ToldMap {
 }
 
 impl ToldMap {
-    /// A map that tells nothing.
-    pub fn new(alloc: Global) -> Self
-        ensures { result ≡ record { told = map.empty; order = [] } }
-    {
-        ToldMap {
-            entries: IndexMap::new(alloc),
-        }
-    }
-
     /// A map that tells nothing, with room for so many keys.
     ///
     /// # Errors
@@ -71,6 +63,21 @@ impl ToldMap {
     {
         self.entries.insert(key, told)?;
         Ok(())
+    }
+
+    /// Mentions a key, where nothing is told of it yet. One look-up, and one more for a new key.
+    ///
+    /// # Errors
+    /// Answers want of memory, and then nothing has changed.
+    pub fn mention(&mut self, key: Key) -> Result<(), AllocError>
+        requires { IsPositive key.id }
+        ensures ok { OnOk result (self.new ≡ with_mention self.old key) }
+        ensures err { OnErr result (self.new ≡ self.old) }
+    {
+        match self.get(key) {
+            Some(_) => Ok(()),
+            None => self.put(key, Told::Mentioned),
+        }
     }
 
     /// What is told of a key.
@@ -135,11 +142,12 @@ mod tests {
             kind: Kind::Node,
             id: 5,
         };
-        let mut map = ToldMap::new(rt.alloc());
-        map.put(way, Told::Mentioned)?;
-        map.put(node, Told::Mentioned)?;
+        let mut map = ToldMap::with_capacity(rt.alloc(), 1)?;
+        map.mention(way)?;
+        map.mention(node)?;
         let meta = Meta::empty(rt.alloc())?;
         map.put(way, Told::Gone { version: 3, meta })?;
+        map.mention(way)?;
         assert_eq!(rt; map.len(), 2);
         assert_eq!(rt; map.key_at(0), way);
         assert_eq!(rt; map.key_at(1), node);

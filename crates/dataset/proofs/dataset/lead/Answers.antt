@@ -1,32 +1,28 @@
-use Rattle.std.proofs.Common.{◌∙◌, ap, not, List}
-use Rattle.dataset.specs.declared.writes.Write.{Write}
-use Rattle.dataset.specs.Writes.{side, noted}
-use Rattle.dataset.proofs.WriteLaws.{lead_order, lead_back, lead_there, lead_to, lead_gone, lead_exact}
+use Rattle.std.proofs.Common.{◌∙◌}
+use Rattle.dataset.proofs.SideLaws.{writes_there, led_whole, keys_undone}
+use Rattle.dataset.proofs.LeadLaws.{lead_gone, lead_exact, exact_as_it_was}
 use Rattle.dataset.proofs.dataset.lead.Goals as goal
-
-pub put_keys-requires : goal.put_keys-requires
-put_keys-requires c = lead_back c.args.table.now c.args.forth c.args.edits.now c.deref.result.now (c.deref.ensures.value ∙ c.in_ok-writes.ensures)
 
 pub change-requires : goal.change-requires
 change-requires c = record {
-  there = lead_gone c.args.table.now c.args.index.now (side (not c.args.forth)) c.args.edits.now c.deref-2.result.now (c.deref-2.ensures.value ∙ c.in_ok-gone.ensures) c.requires.order c.requires.stands c.requires.exact;
+  there = lead_gone c.args.table.now c.args.index.now c.args.forth c.args.edits.now c.deref.result.now (c.deref.ensures.value ∙ c.in_ok-gone.ensures) c.requires.order c.requires.stands c.requires.exact;
 }
 
-pub write_all-requires-clause-order : goal.write_all-requires-clause-order
-write_all-requires-clause-order c = lead_order c.args.table.now c.args.forth c.args.edits.now c.in_ok-writes.writes.items c.in_ok-writes.ensures c.requires.order
+pub returns-in-Err-clause-err : goal.returns-in-Err-clause-err
+returns-in-Err-clause-err c = c.drop_keys.ensures ∙ keys_undone c.args.forth c.args.edits.now c.args.table.now c.put_keys.new.table c.requires.order c.requires.stands c.in_ok-put_keys.ensures.ok
 
-pub write_all-requires-clause-there : goal.write_all-requires-clause-there
-write_all-requires-clause-there c =
-    lead_there c.args.table.now c.put_keys.new.table c.args.forth c.args.edits.now c.in_ok-writes.writes.items c.in_ok-writes.ensures
-    (c.in_ok-put_keys.ensures.ok ∙ ap (λ (ws : List Write). noted ws c.args.table.now) c.deref.ensures.value)
+pub returns-in-Err-clause-exact : goal.returns-in-Err-clause-exact
+returns-in-Err-clause-exact c = exact_as_it_was c.args.table.now c.drop_keys.new.table c.args.index.now c.change.new.self (returns-in-Err-clause-err c) c.in-Err.ensures.err c.requires.exact
+
+pub write_all-requires : goal.write_all-requires
+write_all-requires c = writes_there c.args.forth c.args.edits.now c.in_ok-writes.writes.items c.args.table.now c.put_keys.new.table c.in_ok-writes.ensures c.requires.order c.requires.stands c.in_ok-put_keys.ensures.ok
 
 pub returns-clause-ok : goal.returns-clause-ok
 returns-clause-ok c =
-    lead_to c.args.table.now c.put_keys.new.table c.write_all.new.table c.args.forth c.args.edits.now c.in_ok-writes.writes.items c.in_ok-writes.ensures
-    (c.in_ok-put_keys.ensures.ok ∙ ap (λ (ws : List Write). noted ws c.args.table.now) c.deref.ensures.value)
-    c.write_all.ensures
+    led_whole c.args.forth c.args.edits.now c.in_ok-writes.writes.items c.args.table.now c.put_keys.new.table c.write_all.new.table c.drop_keys-2.new.table c.requires.order c.in_ok-writes.ensures c.in_ok-put_keys.ensures.ok c.write_all.ensures
+    c.drop_keys-2.ensures
 
 pub returns-clause-exact : goal.returns-clause-exact
 returns-clause-exact c =
-    lead_exact c.args.table.now c.write_all.new.table c.args.index.now c.change.new.self c.args.forth c.args.edits.now c.deref-2.result.now c.deref-3.result.now
-    (c.deref-2.ensures.value ∙ c.in_ok-gone.ensures) (c.deref-3.ensures.value ∙ c.in_ok-come.ensures) c.requires.order c.requires.stands (returns-clause-ok c) c.requires.exact c.in_default.ensures.ok
+    lead_exact c.args.table.now c.drop_keys-2.new.table c.args.index.now c.change.new.self c.args.forth c.args.edits.now c.deref.result.now c.deref-2.result.now
+    (c.deref.ensures.value ∙ c.in_ok-gone.ensures) (c.deref-2.ensures.value ∙ c.in_ok-come.ensures) c.requires.order c.requires.stands (returns-clause-ok c) c.requires.exact c.in_default.ensures.ok

@@ -1,4 +1,4 @@
-use Rattle.std.proofs.Common.{◌≡◌, ◌∙◌, sym, ap, subst, arith, ℤ, pos, negsuc, Bool, ◌||◌, true, false, Option, Some, None, List, [], ◌∷◌, refl, IsTrue}
+use Rattle.std.proofs.Common.{◌≡◌, ◌∙◌, sym, ap, subst, arith, pos, negsuc, Bool, ◌||◌, true, false, Some, None, [], ◌∷◌, refl, IsTrue}
 use Rattle.std.specs.FinMap as fin
 use Rattle.osm_base.specs.Rank.{rank_cmp, is_key}
 use Rattle.osm_base.specs.Content.{refers}

@@ -1,6 +1,6 @@
 use Rattle.std.proofs.Common.{sym, subst}
 use Rattle.dataset.specs.Sound.{IsSound}
-use Rattle.dataset.proofs.WriteLaws.{applied, exact_still}
+use Rattle.dataset.proofs.LeadLaws.{applied, exact_still}
 use Rattle.dataset.proofs.dataset.DataSet.apply.Goals as goal
 
 pub invariant_of-self-2 : goal.invariant_of-self-2

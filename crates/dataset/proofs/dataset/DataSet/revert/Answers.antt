@@ -1,6 +1,6 @@
 use Rattle.std.proofs.Common.{sym, subst}
 use Rattle.dataset.specs.Sound.{IsSound}
-use Rattle.dataset.proofs.WriteLaws.{reverted, exact_still}
+use Rattle.dataset.proofs.LeadLaws.{reverted, exact_still}
 use Rattle.dataset.proofs.dataset.DataSet.revert.Goals as goal
 
 pub invariant_of-self-2 : goal.invariant_of-self-2

@@ -8,7 +8,7 @@ use Rattle.osm_table.proofs.table.Table.ordered.Goals as goal
 pub returns : goal.returns
 returns c =
     let listed = c.in_ok-keys.ensures.listed in
-    c.in_ok-listed.ensures
+    c.from_vec.ensures
     ∙ by_rank c.self.inside.entries.entries c.sort.new.self.items c.in_ok-sort.ensures.sorted
     (subst (λ (ks : List Key). IsPermutation ks c.sort.new.self.items) listed c.in_ok-sort.ensures.permutation)
     c.in_ok-keys.ensures.unique

@@ -1,8 +1,6 @@
-use Rattle.std.proofs.Common.{◌≡◌, None, IsNone, Option, ap, sym, subst, ◌∙◌}
-use Rattle.std.specs.Option.{option_copied}
+use Rattle.std.proofs.Common.{ap, ◌∙◌}
 use Rattle.osm_base.proofs.MapViews.{get_view}
 use Rattle.osm_base.specs.RankLaws.{rank_total, rank_exact, rank_ties}
-use Rattle.osm_table.specs.declared.told.Told.{Told}
 use Rattle.osm_table.specs.Told.{ToldValue, told_at}
 use Rattle.osm_table.proofs.told_map.ToldMap.get.Goals as goal
 

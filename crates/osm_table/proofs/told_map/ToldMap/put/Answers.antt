@@ -3,7 +3,7 @@ use Rattle.std.specs.FinMap as map
 use Rattle.std.specs.Map.{keys_of}
 use Rattle.osm_base.proofs.MapViews.{inserted}
 use Rattle.osm_base.specs.RankLaws.{rank_total, rank_exact, rank_ties}
-use Rattle.osm_table.specs.Told.{ToldValue, ToldEntries, IsToldMap, with_told}
+use Rattle.osm_table.specs.Told.{ToldValue, IsToldMap, with_told}
 use Rattle.osm_table.proofs.ToldLaws.{told_with, order_with}
 use Rattle.osm_table.proofs.told_map.ToldMap.put.Goals as goal
 
