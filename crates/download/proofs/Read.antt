@@ -1,10 +1,10 @@
 -- What was read as a download may be told.
-use Rattle.std.proofs.Common.{◌≡◌, ℕ, ℤ, suc, pos, negsuc, ◌+◌, ◌≤◌, ◌<◌, ◌&&◌, Bool, true, false, cond, nat_lt, nat_le, List, [], ◌∷◌, ◌++◌, map, length, Option, Some, None, Result, Ok, Err, refl, sym, ap, ◌∙◌, subst, arith}
+use Rattle.std.proofs.Common.{◌≡◌, ℕ, ℤ, pos, negsuc, ◌+◌, ◌&&◌, Bool, true, false, cond, nat_lt, nat_le, List, [], ◌∷◌, ◌++◌, map, length, Option, Some, None, Result, Ok, Err, refl, subst, arith}
 use Rattle.std.specs.List.{All, AllByRecursion, list_all}
 use Rattle.std.proofs.lemmas.Bool.Decides.{nat_tests}
 use Rattle.std.proofs.lemmas.List.Elements.{All-head, All-tail}
-use Rattle.osm_base.specs.Number.{IsId, id_test}
-use Rattle.osm_base.specs.Content.{kind_of_content, refs_of, node}
+use Rattle.osm_base.specs.Number.{IsId}
+use Rattle.osm_base.specs.Content.{refs_of, node}
 use Rattle.osm_base.specs.declared.key.Key.{Key}
 use Rattle.osm_base.specs.declared.meta.Meta.{Meta}
 use Rattle.osm_base.specs.declared.members.Member.{Member}
@@ -19,14 +19,14 @@ use Rattle.opl_line.specs.declared.object.LineKind.TheVariants.{Skipped, Object}
 use Rattle.opl_line.specs.declared.object.OplObject.{OplObject}
 use Rattle.opl_line.specs.Field.{is_allowed}
 use Rattle.opl_line.specs.Line.{line_of}
-use Rattle.opl_line.specs.Writable.{HasVersion, IsMember, IsContent, IsSide, IsWritable, MayStand, keys_of, IsReadObject}
+use Rattle.opl_line.specs.Writable.{HasVersion, IsMember, IsSide, MayStand, IsReadObject}
 use Rattle.opl_line.proofs.Readable.{read_kind}
 use Rattle.opl_file.specs.declared.fault.FileFault.{FileFault}
-use Rattle.opl_file.specs.declared.fault.FileFault.TheVariants.{FileTooLong, LineTooLong, Line, Twice}
+use Rattle.opl_file.specs.declared.fault.FileFault.TheVariants.{FileTooLong, LineTooLong, Twice}
 use Rattle.opl_file.specs.Cut.{lines_of}
 use Rattle.opl_file.specs.Objects.{has_key}
 use Rattle.opl_file.specs.Reading.{with_line, taken, and_then, objects_from, objects_of}
-use Rattle.download.specs.Tell.{told_side, told_of_object, IsTellable, AreTellable}
+use Rattle.download.specs.Tell.{told_side, IsTellable, AreTellable}
 
 and_first : (a b : Bool) → (a && b) ≡ true → a ≡ true
 and_first true b e = refl

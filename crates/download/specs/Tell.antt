@@ -1,7 +1,7 @@
 -- What a file tells.
 --
 -- For example a file with n1 and w5 Nn1,n2 tells of n1 and w5 as they stand, and mentions n2.
-use Rattle.std.specs.Prelude.{ℕ, Bool, true, false, if◌then◌else◌, List, [], ◌∷◌, ◌++◌, map, Option, None, Some}
+use Rattle.std.specs.Prelude.{ℕ, Bool, if◌then◌else◌, List, [], ◌∷◌, Option, None, Some}
 use Rattle.std.specs.List.{fold, flat_map, list_any, AllByRecursion}
 use Rattle.std.specs.Option.{option_or}
 use Rattle.std.specs.FinMap as fin
@@ -12,7 +12,7 @@ use Rattle.osm_base.specs.declared.meta.Meta.{Meta}
 use Rattle.osm_base.specs.declared.content.Content.{Content}
 use Rattle.osm_table.specs.declared.told.Told.{Told}
 use Rattle.osm_table.specs.declared.told.Told.TheVariants.{Mentioned, Live, Gone}
-use Rattle.osm_table.specs.Told.{ToldValue, with_told, IsTold}
+use Rattle.osm_table.specs.Told.{ToldValue, with_told, with_mention, IsTold}
 use Rattle.opl_line.specs.declared.object.OplObject.{OplObject}
 
 -- the references of an object; a deleted one has none
@@ -33,30 +33,18 @@ told_of_object o = told_side o.version o.side o.meta
 abbrev pub nothing : ToldValue
 nothing = record { told = fin.empty; order = [] }
 
--- keys, mentioned
-abbrev pub mentioned : List Key → List (Key × Told)
-mentioned keys = map (λ key. (key, Mentioned)) keys
+-- all that the objects refer to, each as often as it stands
+abbrev pub references : List OplObject → List Key
+references objects = flat_map (λ o. refs_of_side o.side) objects
 
--- the objects, mentioned in their order
-abbrev pub places : List OplObject → List (Key × Told)
-places objects = mentioned (map (λ o. o.key) objects)
+-- the objects as they stand, told one after the other
+abbrev pub all_told : ToldValue → List OplObject → ToldValue
+all_told m objects = fold (λ so_far o. with_told so_far o.key (told_of_object o)) m objects
 
--- each reference of the objects, mentioned
-abbrev pub mentions : List OplObject → List (Key × Told)
-mentions objects = mentioned (flat_map (λ o. refs_of_side o.side) objects)
-
--- each object, told as it stands
-abbrev pub tellings : List OplObject → List (Key × Told)
-tellings objects = map (λ o. (o.key, told_of_object o)) objects
-
--- told one after the other, the later in place of the earlier
-abbrev pub all_told : ToldValue → List (Key × Told) → ToldValue
-all_told m tells = fold (λ so_far t. with_told so_far t.0 t.1) m tells
-
--- What a file tells: each object, and then each reference, is mentioned, and then each object told as it stands. So the
+-- What a file tells: each object as it stands, and then each reference of which nothing is told is mentioned. So the
 -- keys stand in the order of the file, and behind them those that are only referred to.
 abbrev pub told_of : List OplObject → ToldValue
-told_of objects = all_told nothing (places objects ++ mentions objects ++ tellings objects)
+told_of objects = fold with_mention (all_told nothing objects) (references objects)
 
 -- The object may be told of: it has a positive id, and the version and the content of a server.
 abbrev pub IsTellable : OplObject → Type 0

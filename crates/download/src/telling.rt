@@ -1,94 +1,56 @@
 //! The told map of a file.
-ghost use Rattle.std.specs.Prelude.{◌≡◌, ◌++◌, OnOk, IfOk, map};
-ghost use Rattle.std.specs.List.{AllByRecursion};
-ghost use Rattle.osm_base.specs.Content.{node};
+ghost use Rattle.std.specs.Prelude.{◌≡◌, ◌++◌, OnOk, IfOk};
+ghost use Rattle.std.specs.List.{AllByRecursion, fold};
 ghost use Rattle.osm_base.specs.declared.key.Key.{Key};
 ghost use Rattle.osm_table.specs.Table.{IsPositive};
-ghost use Rattle.osm_table.specs.Told.{with_told};
-ghost use Rattle.osm_table.specs.declared.told.Told.TheVariants.{Mentioned};
-ghost use Rattle.download.specs.Tell.{refs_of_side, told_of_object, places, mentions, tellings, all_told, told_of, IsTellable, AreTellable};
+ghost use Rattle.osm_table.specs.Told.{with_told, with_mention};
+ghost use Rattle.download.specs.Tell.{refs_of_side, references, told_of_object, all_told, told_of, IsTellable, AreTellable};
 
 use opl_file::Objects;
 use opl_line::OplObject;
-use osm_base::{Content, Key, Kind, Member};
+use osm_base::{Content, Key, push_references};
 use osm_table::{Told, ToldMap};
 use std::alloc::{AllocError, Global};
 
-/// What the objects of a file tell. It costs one entry for each object and each reference.
+/// What the objects of a file tell. It costs a look-up for each object and each reference.
 ///
 /// # Errors
 /// No memory was left.
+#[tactic(auto, using(crate::proofs::Found::positive_references))]
 pub fn tell(alloc: Global, objects: Objects) -> Result<ToldMap, AllocError>
     requires { AreTellable objects }
     ensures { IfOk result (λ told. told ≡ told_of objects) }
 {
     let objects = objects.into_vec();
+    let references = references(alloc, &objects)?;
     let mut told = ToldMap::with_capacity(alloc, objects.len())?;
-    place_all(&mut told, &objects)?;
-    mention_all(&mut told, &objects)?;
     tell_all(&mut told, objects)?;
+    mention_all(&mut told, &references)?;
     Ok(told)
 }
 
-// Gives each object its place. In the order of the file what follows finds its neighbours near.
-fn place_all(told: &mut ToldMap, objects: &[OplObject]) -> Result<(), AllocError>
-    requires { AreTellable objects.now }
-    ensures { OnOk result (told.new ≡ all_told told.old (places objects.now)) }
+fn references(alloc: Global, objects: &[OplObject]) -> Result<Vec<Key>, AllocError>
+    ensures { IfOk result (λ keys. keys.items ≡ references objects.now) }
 {
+    let mut keys = Vec::new(alloc);
     for object in objects {
-        told.put(object.key, Told::Mentioned)?;
+        push_side(&object.side, &mut keys)?;
     }
-    Ok(())
+    Ok(keys)
 }
 
-fn mention_all(told: &mut ToldMap, objects: &[OplObject]) -> Result<(), AllocError>
-    requires { AreTellable objects.now }
-    ensures { OnOk result (told.new ≡ all_told told.old (mentions objects.now)) }
+fn push_side(side: &Option<Content>, keys: &mut Vec<Key>) -> Result<(), AllocError>
+    ensures { OnOk result (keys.new.items ≡ keys.old.items ++ refs_of_side side.now) }
 {
-    for object in objects {
-        mention_side(told, object)?;
+    match side {
+        None => Ok(()),
+        Some(content) => push_references(content, keys),
     }
-    Ok(())
-}
-
-fn mention_side(told: &mut ToldMap, object: &OplObject) -> Result<(), AllocError>
-    requires { IsTellable object.now }
-    ensures { OnOk result (told.new ≡ all_told told.old (map (λ (r : Key). (r, Mentioned)) (refs_of_side object.now.side))) }
-{
-    match &object.side {
-        Some(Content::Way { refs, .. }) => mention_nodes(told, refs.as_slice()),
-        Some(Content::Relation { members, .. }) => mention_members(told, members.as_slice()),
-        _ => Ok(()),
-    }
-}
-
-fn mention_nodes(told: &mut ToldMap, ids: &[i64]) -> Result<(), AllocError>
-    requires { AllByRecursion (λ (r : Key). IsPositive r.id) (map node ids.now) }
-    ensures { OnOk result (told.new ≡ all_told told.old (map (λ (r : Key). (r, Mentioned)) (map node ids.now))) }
-{
-    for id in ids {
-        let key = Key {
-            kind: Kind::Node,
-            id: *id,
-        };
-        told.put(key, Told::Mentioned)?;
-    }
-    Ok(())
-}
-
-fn mention_members(told: &mut ToldMap, members: &[Member]) -> Result<(), AllocError>
-    requires { AllByRecursion (λ (r : Key). IsPositive r.id) (map (λ m. m.key) members.now) }
-    ensures { OnOk result (told.new ≡ all_told told.old (map (λ (r : Key). (r, Mentioned)) (map (λ m. m.key) members.now))) }
-{
-    for member in members {
-        told.put(member.key, Told::Mentioned)?;
-    }
-    Ok(())
 }
 
 fn tell_all(told: &mut ToldMap, objects: Vec<OplObject>) -> Result<(), AllocError>
     requires { AreTellable objects.items }
-    ensures { OnOk result (told.new ≡ all_told told.old (tellings objects.items)) }
+    ensures { OnOk result (told.new ≡ all_told told.old objects.items) }
 {
     for object in objects {
         tell_object(told, object)?;
@@ -119,10 +81,20 @@ fn tell_object(told: &mut ToldMap, object: OplObject) -> Result<(), AllocError>
     }
 }
 
+fn mention_all(told: &mut ToldMap, keys: &[Key]) -> Result<(), AllocError>
+    requires { AllByRecursion (λ (key : Key). IsPositive key.id) keys.now }
+    ensures { OnOk result (told.new ≡ fold with_mention told.old keys.now) }
+{
+    for key in keys {
+        told.mention(*key)?;
+    }
+    Ok(())
+}
+
 #[cfg(test)]
 mod tests {
     use super::*;
-    use osm_base::{Meta, Refs, Tags};
+    use osm_base::{Kind, Meta, Refs, Tags};
     use std::test::Fail;
 
     // w5 of n1 and n2, and n1, which is deleted.

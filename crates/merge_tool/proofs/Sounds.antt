@@ -1,18 +1,18 @@
 -- A download that nothing keeps out leaves the table sound.
-use Rattle.std.proofs.Common.{◌≡◌, ◌⊎◌, inl, inr, ◌&&◌, ◌||◌, ℕ, Bool, true, false, cond, not, List, [], ◌∷◌, ◌++◌, Option, Some, None, refl, sym, ap, subst, ◌∙◌, IsTrue}
+use Rattle.std.proofs.Common.{◌≡◌, inl, inr, ◌&&◌, ℕ, Bool, true, false, cond, not, List, [], ◌∷◌, ◌++◌, Option, Some, None, refl, sym, ap, subst, ◌∙◌, IsTrue}
 use Rattle.std.specs.List.{fold, filter, flat_map, AllByRecursion}
 use Rattle.std.specs.Option.{is_none}
 use Rattle.std.proofs.lemmas.List.Folds.{list_any-append}
 use Rattle.std.specs.Ordering.{is_le}
 use Rattle.osm_base.specs.Rank.{rank_cmp, is_key}
-use Rattle.osm_base.specs.Content.{refs_of, refers, kind_of_content}
+use Rattle.osm_base.specs.Content.{refs_of}
 use Rattle.osm_base.proofs.RisingKeys.{one_key, in_filter}
 use Rattle.osm_base.specs.declared.key.Key.{Key}
 use Rattle.osm_base.specs.declared.meta.Meta.{Meta}
 use Rattle.osm_base.specs.declared.content.Content.{Content}
 use Rattle.osm_table.specs.Same.{same_mine}
 use Rattle.osm_table.proofs.SameLaws.{same_mine_decides}
-use Rattle.osm_table.specs.Table.{TableValue, entry_of, uses, Each, IsThere, IsPositive, is_changed}
+use Rattle.osm_table.specs.Table.{TableValue, entry_of, uses, Each, IsThere, IsPositive}
 use Rattle.osm_table.specs.Told.{ToldValue, told_at, IsTold, IsToldMap}
 use Rattle.osm_table.specs.declared.entry.Base.TheVariants as base
 use Rattle.osm_table.specs.declared.entry.Entry.{Entry}
@@ -22,8 +22,7 @@ use Rattle.osm_table.specs.declared.told.Told.TheVariants.{Nothing, Mentioned, L
 use Rattle.dataset.specs.Sound.{IsSound, IsSoundEntry, IsNumber, LivesIn}
 use Rattle.dataset.proofs.Changes.{incomplete_entry}
 use Rattle.tool_api.specs.Tests.{is_named}
-use Rattle.tool_api.specs.Changes.{changed}
-use Rattle.tool_api.specs.Merged.{lesser, least, told_refs, references, is_deleted, unbuilt, taken, completed, merged}
+use Rattle.tool_api.specs.Merged.{lesser, least, told_refs, references, is_deleted, unbuilt, taken, merged}
 use Rattle.tool_api.proofs.Looks.{entry_changed}
 use Rattle.tool_api.proofs.Sounds.{next_is}
 use Rattle.merge_tool.proofs.Ends.{taken_at, told_into, completed_at}

@@ -1,5 +1,5 @@
 -- One step more of each pass through a download.
-use Rattle.std.proofs.Common.{◌≡◌, ◌+◌, ◌<◌, ℕ, suc, zero, List, [], ◌∷◌, ◌++◌, length, take, get_or, slice_get, Option, Some, None, refl, sym, ap, ◌∙◌, arith}
+use Rattle.std.proofs.Common.{◌≡◌, ℕ, suc, zero, List, [], ◌∷◌, ◌++◌, take, slice_get, Some, None, refl, sym, ap, ◌∙◌}
 use Rattle.std.specs.FinMap as fin
 use Rattle.std.specs.List.{fold, flat_map}
 use Rattle.std.proofs.lemmas.Grind.{flat_map-append}
@@ -13,7 +13,7 @@ use Rattle.dataset.specs.Draft.{DraftValue}
 use Rattle.dataset.proofs.Changes.{drafted_none}
 use Rattle.tool_api.specs.Merged.{told_refs}
 use Rattle.tool_api.proofs.Looks.{put_placed}
-use Rattle.merge_tool.specs.Intake.{SoFar, so_far, enter, tell, tell_next, refer}
+use Rattle.merge_tool.specs.Intake.{SoFar, so_far, enter, tell, tell_next}
 use Rattle.merge_tool.specs.declared.intake.Intake.{Intake}
 
 -- one item more of a list
@@ -37,13 +37,12 @@ append_none : (xs : List Key) → xs ++ [] ≡ xs
 append_none [] = refl
 append_none (x ∷ xs) = ap (λ ys. x ∷ ys) (append_none xs)
 
-pub referred_more : (told : ToldValue) (from s new : SoFar) (i : ℕ) (k : Key) (news : Told) → s ≡ fold refer from (refs_to told (take i told.order)) → slice_get told.order i ≡ Some k → told_at told k ≡ Some news
-    → new ≡ fold refer s (told_refs (Some news)) → new ≡ fold refer from (refs_to told (take (suc i) told.order))
-referred_more told from s new i k news before at is step =
-    step ∙ ap (λ o. fold refer s (told_refs o)) (sym is) ∙ ap (λ z. fold refer z (told_refs (told_at told k))) before
-    ∙ sym (fold-append refer from (refs_to told (take i told.order)) (told_refs (told_at told k)))
-    ∙ ap (λ ks. fold refer from (refs_to told (take i told.order) ++ ks)) (sym (append_none (told_refs (told_at told k))))
-    ∙ sym (ap (fold refer from) (ap (refs_to told) (taken_more told.order i k at) ∙ flat_map-append (λ k. told_refs (told_at told k)) (take i told.order) (k ∷ [])))
+pub refs_more : (told : ToldValue) (before new : List Key) (i : ℕ) (k : Key) (news : Told) → before ≡ refs_to told (take i told.order) → slice_get told.order i ≡ Some k → told_at told k ≡ Some news
+    → new ≡ before ++ told_refs (Some news) → new ≡ refs_to told (take (suc i) told.order)
+refs_more told before new i k news so_far at is step =
+    step ∙ ap (λ o. before ++ told_refs o) (sym is) ∙ ap (λ ks. ks ++ told_refs (told_at told k)) so_far
+    ∙ ap (λ ks. refs_to told (take i told.order) ++ ks) (sym (append_none (told_refs (told_at told k))))
+    ∙ sym (ap (refs_to told) (taken_more told.order i k at) ∙ flat_map-append (λ k. told_refs (told_at told k)) (take i told.order) (k ∷ []))
 
 -- what is put into the draft enters the table
 pub entered_so_far : (t : TableValue) (i : Intake) (d : DraftValue) (k : Key) (e : Entry) → d ≡ record { puts = fin.insert i.draft.puts k (Some e); next = i.draft.next } → so_far t (record { draft = d; least = i.least }) ≡ enter (so_far t i) k e

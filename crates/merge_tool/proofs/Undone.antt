@@ -1,5 +1,5 @@
 -- A job that was done can be taken back, and then done again.
-use Rattle.std.proofs.Common.{◌≡◌, ◌<◌, ◌+◌, ℕ, List, [], ◌∷◌, ◌++◌, length, length-append, Option, Some, None, refl, sym, ap, subst, ◌∙◌, arith}
+use Rattle.std.proofs.Common.{◌≡◌, List, [], ◌∷◌, ◌++◌, Option, Some, None, refl, sym, ap, subst, ◌∙◌}
 use Rattle.std.proofs.Common.{false, true, is_some}
 use Rattle.std.specs.FinMap as fin
 use Rattle.osm_base.specs.declared.key.Key.{Key}
@@ -12,7 +12,7 @@ use Rattle.osm_table.specs.Table.{TableValue, entry_of, with_entry, users, held_
 use Rattle.dataset.specs.Draft.{DraftValue, drafted}
 use Rattle.dataset.proofs.Changes.{unused, unused_sound, deleted_entry, one_put, drafted_one, drafted_none}
 use Rattle.dataset.specs.Diff.{diff}
-use Rattle.dataset.specs.Patch.{PatchValue, Leads, StandsBefore, StandsAfter, after_of, before_of}
+use Rattle.dataset.specs.Patch.{PatchValue, Leads, StandsBefore, after_of, before_of}
 use Rattle.dataset.specs.Sound.{IsSound}
 use Rattle.dataset.proofs.Laws.{diff_leads}
 use Rattle.dataset.proofs.Differs.{diff_is}

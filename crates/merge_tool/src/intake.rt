@@ -1,7 +1,6 @@
 //! A download on its way into the table.
-ghost use Rattle.std.specs.Prelude.{◌≡◌, None, Some, IfOk, OnOk, map};
+ghost use Rattle.std.specs.Prelude.{◌≡◌, ◌++◌, None, Some, IfOk, OnOk};
 ghost use Rattle.std.specs.List.{fold};
-ghost use Rattle.osm_base.specs.Content.{node, refs_of};
 ghost use Rattle.osm_table.specs.Table.{TableValue, entry_of};
 ghost use Rattle.osm_table.specs.declared.entry.Base.TheVariants as base;
 ghost use Rattle.osm_table.specs.declared.entry.Entry.TheVariants as entry;
@@ -10,9 +9,9 @@ ghost use Rattle.tool_api.specs.Merged.{lesser, least, references, told_refs, un
 ghost use Rattle.merge_tool.specs.Intake.{so_far, keep_out, enter, tell, tell_next, refer};
 
 use dataset::{DataSet, Draft};
-use osm_base::{Content, Key, Kind, Member, Meta};
+use osm_base::{Content, Key, Meta, push_references};
 use osm_table::{Base, Entry, Told, ToldMap};
-use std::alloc::AllocError;
+use std::alloc::{AllocError, Global};
 
 /// What a download makes of the table, as far as it was looked through.
 #[derive(Drop)]
@@ -56,11 +55,12 @@ impl Intake {
         ensures { IfOk result (λ i. so_far ds.now i ≡ record { table = merged ds.now told.now; least = least (unbuilt ds.now told.now) }) }
     {
         let mut intake = Intake {
-            draft: Draft::new(ds),
+            draft: Draft::with_capacity(ds, told.len())?,
             least: None,
         };
         intake.tell_all(ds, told)?;
-        intake.refer_all(ds, told)?;
+        let references = references(ds.alloc(), told)?;
+        intake.refer_all(ds, &references)?;
         Ok(intake)
     }
 
@@ -150,55 +150,34 @@ impl Intake {
         }
     }
 
-    fn refer_nodes(&mut self, ds: &DataSet, ids: &[i64]) -> Result<(), AllocError>
-        ensures { OnOk result (so_far ds.now self.new ≡ fold refer (so_far ds.now self.old) (map node ids.now)) }
-    {
-        for id in ids {
-            let node = Key {
-                kind: Kind::Node,
-                id: *id,
-            };
-            self.refer(ds, node)?;
-        }
-        Ok(())
-    }
-
-    fn refer_members(&mut self, ds: &DataSet, members: &[Member]) -> Result<(), AllocError>
-        ensures { OnOk result (so_far ds.now self.new ≡ fold refer (so_far ds.now self.old) (map (λ m. m.key) members.now)) }
-    {
-        for member in members {
-            self.refer(ds, member.key)?;
-        }
-        Ok(())
-    }
-
-    fn refer_content(&mut self, ds: &DataSet, content: &Content) -> Result<(), AllocError>
-        ensures { OnOk result (so_far ds.now self.new ≡ fold refer (so_far ds.now self.old) (refs_of content.now)) }
-    {
-        match content {
-            Content::Node { .. } => Ok(()),
-            Content::Way { refs, .. } => self.refer_nodes(ds, refs.as_slice()),
-            Content::Relation { members, .. } => self.refer_members(ds, members.as_slice()),
-        }
-    }
-
-    fn refer_told(&mut self, ds: &DataSet, news: &Told) -> Result<(), AllocError>
-        ensures { OnOk result (so_far ds.now self.new ≡ fold refer (so_far ds.now self.old) (told_refs (Some news.now))) }
-    {
-        match news {
-            Told::Live { content, .. } => self.refer_content(ds, content),
-            _ => Ok(()),
-        }
-    }
-
     /// Goes through what the told objects refer to. It comes after `tell_all`, so that most are there by then.
-    fn refer_all(&mut self, ds: &DataSet, told: &ToldMap) -> Result<(), AllocError>
-        ensures { OnOk result (so_far ds.now self.new ≡ fold refer (so_far ds.now self.old) (references told.now)) }
+    fn refer_all(&mut self, ds: &DataSet, references: &[Key]) -> Result<(), AllocError>
+        ensures { OnOk result (so_far ds.now self.new ≡ fold refer (so_far ds.now self.old) references.now) }
     {
-        for i in 0..told.len() {
-            let (_, news) = told.entry_at(i);
-            self.refer_told(ds, news)?;
+        for key in references {
+            self.refer(ds, *key)?;
         }
         Ok(())
+    }
+}
+
+/// All that the told objects refer to, each as often as it stands.
+fn references(alloc: Global, told: &ToldMap) -> Result<Vec<Key>, AllocError>
+    ensures { IfOk result (λ keys. keys.items ≡ references told.now) }
+{
+    let mut keys = Vec::new(alloc);
+    for i in 0..told.len() {
+        let (_, news) = told.entry_at(i);
+        push_told(news, &mut keys)?;
+    }
+    Ok(keys)
+}
+
+fn push_told(news: &Told, keys: &mut Vec<Key>) -> Result<(), AllocError>
+    ensures { OnOk result (keys.new.items ≡ keys.old.items ++ told_refs (Some news.now)) }
+{
+    match news {
+        Told::Live { content, .. } => push_references(content, keys),
+        _ => Ok(()),
     }
 }

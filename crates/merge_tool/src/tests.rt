@@ -81,7 +81,7 @@ fn tell(alloc: Global, told: &mut ToldMap, news: &News) -> Result<(), AllocError
 }
 
 fn download(alloc: Global, news: &[News]) -> Result<ToldMap, AllocError> {
-    let mut told = ToldMap::new(alloc);
+    let mut told = ToldMap::with_capacity(alloc, news.len())?;
     for one in news {
         tell(alloc, &mut told, one)?;
     }

@@ -1,9 +1,10 @@
 -- How many entries a draft's table has.
-use Rattle.std.proofs.Common.{◌≡◌, ◌+◌, ◌-◌, ◌≤◌, ◌<◌, ◌||◌, ℕ, zero, suc, Bool, true, false, cond, is_some, Option, Some, None, List, [], ◌∷◌, map, refl, sym, ◌∙◌, ap, arith}
+use Rattle.std.proofs.Common.{◌≡◌, ◌+◌, ◌-◌, ◌≤◌, ◌<◌, ◌||◌, ℕ, zero, suc, Bool, true, false, cond, is_some, Option, Some, None, List, [], ◌∷◌, map, refl, sym, subst, ◌∙◌, ap, arith}
 use Rattle.std.specs.Prelude.{T, nat_lt}
 use Rattle.std.specs.Ordering.{is_lt}
 use Rattle.std.specs.List.{AllByRecursion, count_by}
-use Rattle.std.proofs.lemmas.List.Sums.{sum_by-cons}
+use Rattle.std.proofs.lemmas.List.{length-map}
+use Rattle.std.proofs.lemmas.List.Sums.{sum_by-cons, count_by-le-length}
 use Rattle.std.proofs.lemmas.Bool.Decides.{nat_tests}
 use Rattle.std.specs.FinMap as fin
 use Rattle.std.specs.FinMap.Entries.{is_sorted, below_all}
@@ -116,14 +117,34 @@ len_full d t ks limit before after len keys is_before is_after is_len =
     (ap (λ n. fin.len (drafted d t).entries + n) (is_before ∙ ap (count_by (λ k. is_some (entry_of t k))) keys) ∙ len_drafted d t
     ∙ (let a = sym (is_after ∙ ap (count_by (λ k. is_some (entry_of (drafted d t) k))) keys) in let b = sym is_len in λ i. b i + a i))
 
-pub too_many : (d : DraftValue) (t : TableValue) (ks : List Key) (limit before after len : ℕ) → ks ≡ fin.keys d.puts → before ≡ count_by (λ k. is_some (entry_of t k)) ks → after ≡ count_by (λ k. is_some (entry_of (drafted d t) k)) ks
-    → len ≡ fin.len t.entries → limit + before < len + after → nat_lt (limit + before) (len + after) ≡ is_full limit (drafted d t)
-too_many d t ks limit before after len keys is_before is_after is_len h =
-    let full : nat_lt limit (fin.len (drafted d t).entries) ≡ true = sym (len_full d t ks limit before after len keys is_before is_after is_len) ∙ less _ _ h in
-    less _ _ h ∙ sym (ap (λ b. b || number_full d.next) full)
+or_false : (a b : Bool) → b ≡ false → a ≡ (a || b)
+or_false true b e = refl
+or_false false b e = sym e
 
-pub enough_room : (d : DraftValue) (t : TableValue) (ks : List Key) (limit before after len next : ℕ) → ks ≡ fin.keys d.puts → before ≡ count_by (λ k. is_some (entry_of t k)) ks → after ≡ count_by (λ k. is_some (entry_of (drafted d t) k)) ks
-    → len ≡ fin.len t.entries → len + after ≤ limit + before → next ≡ d.next → nat_lt 1000000000000000000 next ≡ is_full limit (drafted d t)
-enough_room d t ks limit before after len next keys is_before is_after is_len h is_next =
-    let fits : nat_lt limit (fin.len (drafted d t).entries) ≡ false = sym (len_full d t ks limit before after len keys is_before is_after is_len) ∙ not_less _ _ h in
-    ap number_full is_next ∙ sym (ap (λ b. b || number_full d.next) fits)
+pub too_many : (d : DraftValue) (t : TableValue) (ks : List Key) (limit before after len : ℕ) → ks ≡ fin.keys d.puts → before ≡ count_by (λ k. is_some (entry_of t k)) ks → after ≡ count_by (λ k. is_some (entry_of (drafted d t) k)) ks
+    → len ≡ fin.len t.entries → d.next ≤ 1000000000000000000 → nat_lt (limit + before) (len + after) ≡ is_full limit (drafted d t)
+too_many d t ks limit before after len keys is_before is_after is_len numbers =
+    len_full d t ks limit before after len keys is_before is_after is_len
+    ∙ or_false (nat_lt limit (fin.len (drafted d t).entries)) (number_full d.next) (not_less _ _ numbers)
+
+-- a draft has at most its keys more than the table
+at_most : (new before len after keys : ℕ) → new + before ≡ len + after → after ≤ keys → new ≤ len + keys
+at_most new before len after keys e h = omega (arith, e, h)
+
+few_after : (d : DraftValue) (t : TableValue) → count_by (λ k. is_some (entry_of (drafted d t) k)) (fin.keys d.puts) ≤ fin.len d.puts
+few_after d t =
+    subst (λ n. count_by (λ k. is_some (entry_of (drafted d t) k)) (fin.keys d.puts) ≤ n)
+    (length-map (fin.entries d.puts) (λ (e : Key × Option Entry). e.0) ∙ sym (fin.len-entries d.puts))
+    (count_by-le-length (λ k. is_some (entry_of (drafted d t) k)) (fin.keys d.puts))
+
+len_keys : (d : DraftValue) (t : TableValue) → fin.len (drafted d t).entries ≤ fin.len t.entries + fin.len d.puts
+len_keys d t = at_most _ _ _ _ _ (len_drafted d t) (few_after d t)
+
+no_more : (new len keys limit : ℕ) → new ≤ len + keys → len + keys ≤ limit → new ≤ limit
+no_more new len keys limit h fits = omega (arith, h, fits)
+
+-- the limit has room for each key
+pub room_for_all : (d : DraftValue) (t : TableValue) (limit len keys : ℕ) → len ≡ fin.len t.entries → keys ≡ fin.len d.puts → d.next ≤ 1000000000000000000 → len + keys ≤ limit → false ≡ is_full limit (drafted d t)
+room_for_all d t limit len keys is_len is_keys numbers fits =
+    let few : nat_lt limit (fin.len (drafted d t).entries) ≡ false = not_less limit _ (no_more _ len keys limit (subst (λ n. fin.len (drafted d t).entries ≤ n + keys) (sym is_len) (subst (λ n. fin.len (drafted d t).entries ≤ fin.len t.entries + n) (sym is_keys) (len_keys d t))) fits) in
+    sym (ap (λ b. b || number_full d.next) few ∙ not_less _ _ numbers)

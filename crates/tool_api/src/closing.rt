@@ -133,26 +133,34 @@ fn held_after(ds: &DataSet, draft: &Draft, keys: &[Key]) -> usize
         .count()
 }
 
-/// Whether the draft's table has more entries than the limit, or no number is left.
-fn is_full(ds: &DataSet, draft: &Draft, keys: &[Key], limit: u64) -> bool
-    requires keys { keys.now ≡ map.keys draft.now.puts }
-    ensures { result ≡ is_full limit (drafted draft.now ds.now) }
+/// Whether the draft's table has more entries than the limit, or no number is left. Where the limit has room for each
+/// of the draft's keys nothing is looked at, and else two look-ups for each of them.
+///
+/// # Errors
+/// No memory was left.
+fn is_full(ds: &DataSet, draft: &Draft, limit: u64) -> Result<bool, AllocError>
+    ensures { IfOk result (λ r. r ≡ is_full limit (drafted draft.now ds.now)) }
 {
-    let before = held_before(ds, keys) as u128;
-    let after = held_after(ds, draft, keys) as u128;
-    limit as u128 + before < ds.len() as u128 + after || LAST_NUMBER < draft.next()
+    if LAST_NUMBER < draft.next() {
+        return Ok(true);
+    }
+    if ds.len() as u128 + draft.len() as u128 <= limit as u128 {
+        return Ok(false);
+    }
+    let keys = draft.ordered()?;
+    let before = held_before(ds, &keys) as u128;
+    let after = held_after(ds, draft, &keys) as u128;
+    Ok(limit as u128 + before < ds.len() as u128 + after)
 }
 
 /// The room test of a job, from its draft: TableFull. It is the last of the closing tests, for a job that asks no other.
-/// It looks at the draft's keys alone.
 ///
 /// # Errors
 /// No memory was left.
 pub fn room_test(ds: &DataSet, draft: &Draft, limit: u64) -> Result<Option<Refusal>, AllocError>
     ensures { IfOk result (λ r. r ≡ room_test limit (drafted draft.now ds.now)) }
 {
-    let keys = draft.ordered()?;
-    if is_full(ds, draft, &keys, limit) {
+    if is_full(ds, draft, limit)? {
         return Ok(Some(Refusal::TableFull));
     }
     Ok(None)
@@ -177,10 +185,7 @@ pub fn closing_tests(
     if let Some(refusal) = fit_test(ds, draft, &keys) {
         return Ok(Some(refusal));
     }
-    if is_full(ds, draft, &keys, limit) {
-        return Ok(Some(Refusal::TableFull));
-    }
-    Ok(None)
+    room_test(ds, draft, limit)
 }
 
 /// Ends a job: refuses by the closing tests, or makes the draft's table the table, keeps the difference as the last

@@ -1,9 +1,12 @@
 use Rattle.std.proofs.Common.{◌≡◌, drop}
-use Rattle.download.specs.Tell.{mentions, all_told, AreTellable}
+use Rattle.std.specs.List.{AllByRecursion, fold}
+use Rattle.osm_base.specs.declared.key.Key.{Key}
+use Rattle.osm_table.specs.Table.{IsPositive}
+use Rattle.osm_table.specs.Told.{with_mention}
 use Rattle.download.proofs.telling.mention_all.Given as goal
 
-abbrev pub invariant-loop-object : goal.invariant-loop-object
-invariant-loop-object l = record {
-  tellable : AreTellable (drop l.object-index l.objects);
-  left : all_told l.told (mentions (drop l.object-index l.objects)) ≡ all_told l.fn.told (mentions l.objects);
+abbrev pub invariant-loop-key : goal.invariant-loop-key
+invariant-loop-key l = record {
+  positive : AllByRecursion (λ (key : Key). IsPositive key.id) (drop l.key-index l.keys);
+  left : fold with_mention l.told (drop l.key-index l.keys) ≡ fold with_mention l.fn.told l.keys;
 }

@@ -1,8 +1,6 @@
-use Rattle.std.proofs.Common.{◌≡◌, ◌∙◌, None, sym, ap, subst}
-use Rattle.osm_table.specs.Table.{TableValue}
+use Rattle.std.proofs.Common.{◌∙◌, sym, ap, subst}
 use Rattle.dataset.specs.Sound.{IsSound}
 use Rattle.tool_api.specs.Closing.{room_test}
-use Rattle.tool_api.specs.Merged.{merged}
 use Rattle.tool_api.specs.Plain.{Answer}
 use Rattle.merge_tool.specs.Intake.{SoFar}
 use Rattle.merge_tool.proofs.Ends.{kept_out, no_room, taken_in}
