@@ -16,7 +16,7 @@ use Rattle.osm_table.proofs.Each.{same_table, get_with}
 use Rattle.dataset.specs.declared.edit.Edit.{Edit}
 use Rattle.dataset.specs.declared.writes.Write.{Write}
 use Rattle.dataset.specs.Patch.{Entries, placed, edited, in_order, edit_at}
-use Rattle.dataset.specs.Sides.{side, led, is_fresh, fresh, is_bare, bare, write_of, writes_of, written}
+use Rattle.dataset.specs.Sides.{side, led, is_fresh, fresh, is_gone, gone, write_of, writes_of, written}
 use Rattle.dataset.proofs.Laws.{by_edit}
 use Rattle.dataset.proofs.Looked.{get_placed, get_edited, tail_none, tail_order, found, found_key, all_from_found}
 
@@ -105,17 +105,17 @@ undone_case s e (Some x) None z w is stands rest = rest refl
 undone_case s e (Some x) (Some y) z w is stands rest = rest refl
 
 -- a table that differs only at keys that come is led back where it was
-undone : (forth : Bool) (es : List Edit) (t u : TableValue) → T (in_order es) → Stands (side (not forth)) es t → ((q : Key) → passed (is_fresh forth) (edit_at q es) ≡ None → entry_of u q ≡ entry_of t q) → u.next ≡ t.next → led (side (not forth)) (bare (not forth) es) u ≡ t
+undone : (forth : Bool) (es : List Edit) (t u : TableValue) → T (in_order es) → Stands (side (not forth)) es t → ((q : Key) → passed (is_fresh forth) (edit_at q es) ≡ None → entry_of u q ≡ entry_of t q) → u.next ≡ t.next → led (side (not forth)) (gone (not forth) es) u ≡ t
 undone forth es t u h stands rest next = same_table _ t
-    (λ q. get_part (side (not forth)) (is_bare (not forth)) es u q h
+    (λ q. get_part (side (not forth)) (is_gone (not forth)) es u q h
     ∙ by_edit _ (edit_at q es)
-    (λ none. ap (λ (o : Option Edit). option_map_or (side (not forth)) (passed (is_bare (not forth)) o) (entry_of u q)) none ∙ rest q (ap (passed (is_fresh forth)) none))
-    (λ e some. ap (λ (o : Option Edit). option_map_or (side (not forth)) (passed (is_bare (not forth)) o) (entry_of u q)) some
+    (λ none. ap (λ (o : Option Edit). option_map_or (side (not forth)) (passed (is_gone (not forth)) o) (entry_of u q)) none ∙ rest q (ap (passed (is_fresh forth)) none))
+    (λ e some. ap (λ (o : Option Edit). option_map_or (side (not forth)) (passed (is_gone (not forth)) o) (entry_of u q)) some
     ∙ undone_case (side (not forth)) e (side (not forth) e) (side forth e) (entry_of u q) (entry_of t q) refl (stands_found (side (not forth)) es t stands q e some)
     (λ none. rest q (ap (passed (is_fresh forth)) some ∙ none))))
     next
 
-pub keys_undone : (forth : Bool) (es : List Edit) (t u : TableValue) → T (in_order es) → Stands (side (not forth)) es t → u ≡ led (side forth) (fresh forth es) t → led (side (not forth)) (bare (not forth) es) u ≡ t
+pub keys_undone : (forth : Bool) (es : List Edit) (t u : TableValue) → T (in_order es) → Stands (side (not forth)) es t → u ≡ led (side forth) (fresh forth es) t → led (side (not forth)) (gone (not forth) es) u ≡ t
 keys_undone forth es t u h stands is = undone forth es t u h stands
     (λ q none. ap (λ (v : TableValue). entry_of v q) is ∙ get_part (side forth) (is_fresh forth) es t q h ∙ ap (λ (o : Option Edit). option_map_or (side forth) o (entry_of t q)) none)
     (ap (λ (v : TableValue). v.next) is)
@@ -134,7 +134,7 @@ none_later p (suc i) [] q h = h
 none_later p (suc i) (e ∷ es) q h = none_later p i es q (not_passed (p e) q e (filter p es) h)
 
 -- so it is while some of the new keys are still to come
-pub some_undone : (forth : Bool) (es : List Edit) (i : ℕ) (t u : TableValue) → T (in_order es) → Stands (side (not forth)) es t → led (side forth) (fresh forth (drop i es)) u ≡ led (side forth) (fresh forth es) t → led (side (not forth)) (bare (not forth) es) u ≡ t
+pub some_undone : (forth : Bool) (es : List Edit) (i : ℕ) (t u : TableValue) → T (in_order es) → Stands (side (not forth)) es t → led (side forth) (fresh forth (drop i es)) u ≡ led (side forth) (fresh forth es) t → led (side (not forth)) (gone (not forth) es) u ≡ t
 some_undone forth es i t u h stands is = undone forth es t u h stands
     (λ q none.
     let all : edit_at q (fresh forth es) ≡ None = find_passed (is_fresh forth) es q h ∙ none in
@@ -230,21 +230,21 @@ parts_case s e None y z is = refl
 parts_case s e (Some x) None z is = refl
 parts_case s e (Some x) (Some y) z is = refl
 
-whole : (forth : Bool) (es : List Edit) (t : TableValue) → T (in_order es) → led (side forth) (bare forth es) (led (side forth) (filter (stays forth) es) (led (side forth) (fresh forth es) t)) ≡ led (side forth) es t
+whole : (forth : Bool) (es : List Edit) (t : TableValue) → T (in_order es) → led (side forth) (gone forth es) (led (side forth) (filter (stays forth) es) (led (side forth) (fresh forth es) t)) ≡ led (side forth) es t
 whole forth es t h = same_table _ (led (side forth) es t)
     (λ q.
-    let P : Option Edit → Option Entry = λ o. option_map_or (side forth) (passed (is_bare forth) o) (option_map_or (side forth) (passed (stays forth) o) (option_map_or (side forth) (passed (is_fresh forth) o) (entry_of t q))) in
+    let P : Option Edit → Option Entry = λ o. option_map_or (side forth) (passed (is_gone forth) o) (option_map_or (side forth) (passed (stays forth) o) (option_map_or (side forth) (passed (is_fresh forth) o) (entry_of t q))) in
     let all : P (edit_at q es) ≡ option_map_or (side forth) (edit_at q es) (entry_of t q) =
     by_edit _ (edit_at q es)
     (λ none. ap P none ∙ sym (ap (λ (o : Option Edit). option_map_or (side forth) o (entry_of t q)) none))
     (λ e some. ap P some ∙ parts_case (side forth) e (side forth e) (side (not forth) e) (entry_of t q) refl ∙ sym (ap (λ (o : Option Edit). option_map_or (side forth) o (entry_of t q)) some)) in
-    get_part (side forth) (is_bare forth) es (led (side forth) (filter (stays forth) es) (led (side forth) (fresh forth es) t)) q h
-    ∙ ap (option_map_or (side forth) (passed (is_bare forth) (edit_at q es))) (get_part (side forth) (stays forth) es (led (side forth) (fresh forth es) t) q h
+    get_part (side forth) (is_gone forth) es (led (side forth) (filter (stays forth) es) (led (side forth) (fresh forth es) t)) q h
+    ∙ ap (option_map_or (side forth) (passed (is_gone forth) (edit_at q es))) (get_part (side forth) (stays forth) es (led (side forth) (fresh forth es) t) q h
     ∙ ap (option_map_or (side forth) (passed (stays forth) (edit_at q es))) (get_part (side forth) (is_fresh forth) es t q h))
     ∙ all ∙ sym (get_edited (side forth) es t.entries q))
     refl
 
-pub led_whole : (forth : Bool) (es : List Edit) (ws : List Write) (t put wrote new : TableValue) → T (in_order es) → ws ≡ writes_of forth es → put ≡ led (side forth) (fresh forth es) t → wrote ≡ written ws put → new ≡ led (side forth) (bare forth es) wrote → new ≡ led (side forth) es t
+pub led_whole : (forth : Bool) (es : List Edit) (ws : List Write) (t put wrote new : TableValue) → T (in_order es) → ws ≡ writes_of forth es → put ≡ led (side forth) (fresh forth es) t → wrote ≡ written ws put → new ≡ led (side forth) (gone forth es) wrote → new ≡ led (side forth) es t
 led_whole forth es ws t put wrote new h made is_put is_wrote is_new =
-    is_new ∙ ap (led (side forth) (bare forth es)) (is_wrote ∙ ap (λ (vs : List Write). written vs put) made ∙ written_part forth es put ∙ ap (led (side forth) (filter (stays forth) es)) is_put)
+    is_new ∙ ap (led (side forth) (gone forth es)) (is_wrote ∙ ap (λ (vs : List Write). written vs put) made ∙ written_part forth es put ∙ ap (led (side forth) (filter (stays forth) es)) is_put)
     ∙ whole forth es t h

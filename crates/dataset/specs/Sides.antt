@@ -24,11 +24,11 @@ abbrev pub fresh : Bool → List Edit → List Edit
 fresh forth es = filter (is_fresh forth) es
 
 -- those that take their keys out: the side that they lead to has none
-abbrev pub is_bare : Bool → Edit → Bool
-is_bare forth e = not (is_some (side forth e))
+abbrev pub is_gone : Bool → Edit → Bool
+is_gone forth e = not (is_some (side forth e))
 
-abbrev pub bare : Bool → List Edit → List Edit
-bare forth es = filter (is_bare forth) es
+abbrev pub gone : Bool → List Edit → List Edit
+gone forth es = filter (is_gone forth) es
 
 -- what an edit writes over the entry of its key, where both sides have one
 abbrev pub write_of : Bool → Edit → Option Write

@@ -53,7 +53,7 @@ impl Draft {
         ensures { IfOk result (λ draft. draft ≡ record { puts = map.empty; next = ds.now.next }) }
     {
         let mut draft = Draft::new(ds);
-        draft.puts = IndexMap::with_capacity(ds.alloc(), keys)?;
+        draft.puts.reserve(keys)?;
         Ok(draft)
     }
 

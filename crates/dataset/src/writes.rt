@@ -4,7 +4,7 @@ ghost use Rattle.std.specs.Prelude.{◌≡◌, ◌∷◌, ◌++◌, [], not, T, 
 ghost use Rattle.std.specs.List.{AllByRecursion};
 ghost use Rattle.osm_table.specs.Table.{entry_of, with_entry};
 ghost use Rattle.dataset.specs.Patch.{in_order};
-ghost use Rattle.dataset.specs.Sides.{side, led, fresh, bare, writes_of, written};
+ghost use Rattle.dataset.specs.Sides.{side, led, fresh, gone, writes_of, written};
 
 use crate::edit::Edit;
 use crate::pairs::side;
@@ -68,8 +68,8 @@ pub fn put_keys(table: &mut Table, edits: &[Edit], forth: bool) -> Result<(), Al
     Ok(())
 }
 
-fn drop_bare(table: &mut Table, edit: &Edit, forth: bool)
-    ensures { table.new ≡ led (side forth) (bare forth (edit.now ∷ [])) table.old }
+fn drop_gone(table: &mut Table, edit: &Edit, forth: bool)
+    ensures { table.new ≡ led (side forth) (gone forth (edit.now ∷ [])) table.old }
 {
     if side(edit, forth).is_none() {
         table.remove(edit.key);
@@ -79,10 +79,10 @@ fn drop_bare(table: &mut Table, edit: &Edit, forth: bool)
 /// Takes the keys out for which a side has no entry. It begins at the last, since a table gives up
 /// its newest keys at least cost.
 pub fn drop_keys(table: &mut Table, edits: &[Edit], forth: bool)
-    ensures { table.new ≡ led (side forth) (bare forth edits.now) table.old }
+    ensures { table.new ≡ led (side forth) (gone forth edits.now) table.old }
 {
     for i in (0..edits.len()).rev() {
-        drop_bare(table, &edits[i], forth);
+        drop_gone(table, &edits[i], forth);
     }
 }
 
