@@ -1,5 +1,5 @@
 -- Tests joined by `and` and `or`.
-use Rattle.std.proofs.Common.{◌≡◌, ◌&&◌, ◌||◌, Bool, true, false, refl, ap}
+use Rattle.std.proofs.Common.{◌≡◌, ◌&&◌, ◌||◌, Bool, true, false, refl, ap, sym}
 use mathlib.Core.Logic.{◌⊎◌, inl, inr}
 
 pub or_left : (a b : Bool) → a ≡ true → (a || b) ≡ true
@@ -15,6 +15,10 @@ or_true false = refl
 
 pub or_none : (a b : Bool) → a ≡ false → b ≡ false → (a || b) ≡ false
 or_none a b e f = rw (e, f) refl
+
+pub or_false : (a b : Bool) → b ≡ false → a ≡ (a || b)
+or_false true b e = refl
+or_false false b e = sym e
 
 pub none_of_two : (a b : Bool) → (a || b) ≡ false → (a ≡ false) × (b ≡ false)
 none_of_two true b e = cc

@@ -42,6 +42,23 @@ in_with_new q seen (k ∷ ks) = step q k seen ks (is_named seen k) refl (λ more
 pub in_distinct : (q : Key) (ks : List Key) → is_named (distinct ks) q ≡ is_named ks q
 in_distinct q ks = in_with_new q [] ks
 
+-- keys that follow are put behind those that were seen
+append_new : (seen ks more : List Key) → with_new seen (ks ++ more) ≡ with_new (with_new seen ks) more
+append_new seen [] more = refl
+append_new seen (k ∷ ks) more = append_new (if is_named seen k then seen else seen ++ k ∷ []) ks more
+
+one_once : (seen : List Key) (k : Key) (b : Bool) → is_named seen k ≡ b → distinct seen ≡ seen → distinct (if b then seen else seen ++ k ∷ []) ≡ (if b then seen else seen ++ k ∷ [])
+one_once seen k true is once = once
+one_once seen k false is once = append_new [] seen (k ∷ []) ∙ ap (λ s. with_new s (k ∷ [])) once ∙ ap (λ b. if b then seen else seen ++ k ∷ []) is
+
+stays_once : (seen ks : List Key) → distinct seen ≡ seen → distinct (with_new seen ks) ≡ with_new seen ks
+stays_once seen [] once = once
+stays_once seen (k ∷ ks) once = stays_once (if is_named seen k then seen else seen ++ k ∷ []) ks (one_once seen k (is_named seen k) refl once)
+
+-- none of them comes twice
+pub distinct_once : (ks : List Key) → distinct (distinct ks) ≡ distinct ks
+distinct_once ks = stays_once [] ks refl
+
 -- and `==` finds it there
 pub finds_distinct : (q : Key) (ks found : List Key) → found ≡ distinct ks → list_any (eq q) found ≡ is_named ks q
 finds_distinct q ks found is = found_named found q ∙ ap (λ xs. is_named xs q) is ∙ in_distinct q ks

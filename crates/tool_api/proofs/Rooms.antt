@@ -18,6 +18,7 @@ use Rattle.dataset.specs.Patch.{Entries, placed}
 use Rattle.dataset.specs.Draft.{DraftValue, overlaid, drafted}
 use Rattle.dataset.proofs.Looked.{fore, aft, no_tie, get_placed}
 use Rattle.tool_api.specs.Closing.{is_full}
+use Rattle.tool_api.proofs.Bools.{or_false}
 
 abbrev Puts : Type 0
 Puts = List (Key × Option Entry)
@@ -116,10 +117,6 @@ len_full d t ks limit before after len keys is_before is_after is_len =
     more limit before after len (fin.len (drafted d t).entries)
     (ap (λ n. fin.len (drafted d t).entries + n) (is_before ∙ ap (count_by (λ k. is_some (entry_of t k))) keys) ∙ len_drafted d t
     ∙ (let a = sym (is_after ∙ ap (count_by (λ k. is_some (entry_of (drafted d t) k))) keys) in let b = sym is_len in λ i. b i + a i))
-
-or_false : (a b : Bool) → b ≡ false → a ≡ (a || b)
-or_false true b e = refl
-or_false false b e = sym e
 
 pub too_many : (d : DraftValue) (t : TableValue) (ks : List Key) (limit before after len : ℕ) → ks ≡ fin.keys d.puts → before ≡ count_by (λ k. is_some (entry_of t k)) ks → after ≡ count_by (λ k. is_some (entry_of (drafted d t) k)) ks
     → len ≡ fin.len t.entries → d.next ≤ 1000000000000000000 → nat_lt (limit + before) (len + after) ≡ is_full limit (drafted d t)

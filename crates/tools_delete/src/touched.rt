@@ -5,6 +5,7 @@ ghost use Rattle.std.specs.Option.{option_copied};
 ghost use Rattle.osm_base.specs.Content.{node};
 ghost use Rattle.osm_base.specs.declared.key.Key.{Key};
 ghost use Rattle.tool_api.specs.Changes.{content_of};
+ghost use Rattle.tool_api.specs.Distinct.{distinct};
 ghost use Rattle.tool_api.specs.Gone.{is_bare, is_mended};
 ghost use Rattle.tool_api.specs.Tests.{is_named};
 ghost use Rattle.tools_delete.specs.Touched.{falls_short, is_free, is_left_by, is_untagged_node, lives_as_relation, lives_as_way, loses_members, way_nodes};
@@ -39,7 +40,8 @@ fn other_ways(ds: &DataSet, named: &KeySet, keys: &[Key]) -> Result<Vec<Key>, Al
 /// # Errors
 /// No memory was left.
 pub fn mended_ways(ds: &DataSet, named: &KeySet) -> Result<Vec<Key>, AllocError>
-    ensures { IfOk result (λ ways. (key : Key) → is_named ways.items key ≡ is_mended ds.now named.now key) }
+    ensures found { IfOk result (λ ways. (key : Key) → is_named ways.items key ≡ is_mended ds.now named.now key) }
+    ensures once { IfOk result (λ ways. distinct ways.items ≡ ways.items) }
 {
     let users = all_users(ds, named.as_slice())?;
     let ways = other_ways(ds, named, &users)?;
@@ -196,7 +198,8 @@ pub fn losing_relations(
     falling: &KeySet,
     going: &KeySet,
 ) -> Result<Vec<Key>, AllocError>
-    ensures { IfOk result (λ relations. (key : Key) → is_named relations.items key ≡ loses_members ds.now falling.now going.now key) }
+    ensures found { IfOk result (λ relations. (key : Key) → is_named relations.items key ≡ loses_members ds.now falling.now going.now key) }
+    ensures once { IfOk result (λ relations. distinct relations.items ≡ relations.items) }
 {
     let users = all_users(ds, going.as_slice())?;
     let relations = other_relations(ds, falling, &users)?;

@@ -13,9 +13,9 @@ returns c =
     let falling = c.in_ok-falling.falling in
     IfOk-weaker c.mended_draft.result _ _
     (λ draft is. is ∙ erased_by t named c.in_ok-ways.ways.items falling c.in_ok-going.going c.deref-4.result.now c.deref-3.result.now
-    c.in_ok-ways.ensures
+    c.in_ok-ways.ensures.found
     (λ q. c.in_ok-falling.ensures q ∙ ap (λ (ks : List Key). is_named named q || (falls_short t named q && is_named ks q)) c.deref.ensures.value)
     c.in_ok-going.ensures
-    (λ q. ap (λ (ks : List Key). is_named ks q) c.deref-4.ensures.value ∙ c.in_ok-relations.ensures q)
+    (λ q. ap (λ (ks : List Key). is_named ks q) c.deref-4.ensures.value ∙ c.in_ok-relations.ensures.found q)
     (c.deref-3.ensures.value ∙ c.in_ok-staying.ensures ∙ ap (filter (λ k. not (is_named falling k))) c.deref-2.ensures.value))
     c.mended_draft.ensures
