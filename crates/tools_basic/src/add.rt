@@ -8,9 +8,8 @@ ghost use Rattle.tool_api.specs.Changes.{new_key};
 ghost use Rattle.tool_api.specs.Patches.{Kept};
 ghost use Rattle.tool_api.specs.Plain.{answered};
 
-use crate::references::references;
 use dataset::{DataSet, Draft, Patch};
-use osm_base::{Content, Key, Keys, Kind};
+use osm_base::{Content, Key, Keys, Kind, push_references};
 use osm_table::{Base, Entry};
 use std::alloc::{AllocError, Global};
 use tool_api::{Job, Reply, Steps, Tool, Verb, finish, reference_tests};
@@ -65,7 +64,8 @@ fn add(
     ensures err_table { OnErr result (ds.new ≡ ds.old) }
     ensures err_done { OnErr result (steps.new.0 ≡ steps.old.0) }
 {
-    let refs = references(ds.alloc(), &content)?;
+    let mut refs = Vec::new(ds.alloc());
+    push_references(&content, &mut refs)?;
     if let Some(refusal) = reference_tests(ds, &refs) {
         return Ok(Reply::Refused(refusal));
     }

@@ -1,13 +1,12 @@
 //! Gives an object another place, other nodes or other members. Its tags stay.
-ghost use Rattle.std.specs.Prelude.{◌≡◌, [], IfOk, OnOk, OnErr};
+ghost use Rattle.std.specs.Prelude.{◌≡◌, [], map, IfOk, OnOk, OnErr};
 ghost use Rattle.tool_api.specs.Basic.{place, set_nodes, set_members};
 ghost use Rattle.tool_api.specs.Patches.{Kept};
 ghost use Rattle.tool_api.specs.Plain.{answered};
 
 use crate::edit::edit_each;
-use crate::references::member_keys;
 use dataset::{DataSet, Patch};
-use osm_base::{Content, Coord, Key, Members, Refs};
+use osm_base::{Content, Coord, Key, Member, Members, Refs};
 use std::alloc::{AllocError, Global};
 use tool_api::{
     EditContent, Job, Kinds, Reply, Steps, Tool, Verb, node_keys, reference_tests, target_test,
@@ -122,6 +121,12 @@ fn set_nodes(
     ds.sound();
     let rule = NewNodes { refs };
     edit_each(steps, ds, &[key], &rule, limit)
+}
+
+fn member_keys(alloc: Global, members: &[Member]) -> Result<Vec<Key>, AllocError>
+    ensures { IfOk result (λ keys. keys.items ≡ map (λ m. m.key) members.now) }
+{
+    members.iter().map(|member| member.key).collect(alloc)
 }
 
 fn set_members(

@@ -12,7 +12,6 @@
 mod add;
 mod change;
 mod edit;
-mod references;
 mod shift;
 mod tag;
 
