@@ -1,5 +1,5 @@
 -- Back and on again, and on and back again.
-use Rattle.std.proofs.Common.{◌≡◌, ℕ, suc, zero, ◌<◌, ◌≤◌, ◌+◌, List, [], ◌∷◌, length, sym, ◌∙◌, ap, subst, refl, arith, Bool}
+use Rattle.std.proofs.Common.{◌≡◌, ℕ, suc, zero, ◌≤◌, ◌+◌, List, [], ◌∷◌, length, sym, ◌∙◌, ap, refl, arith, Bool}
 use Rattle.osm_table.specs.Table.{TableValue}
 use Rattle.edit_history.specs.declared.counts.Group.{Group}
 use Rattle.edit_history.specs.Machine.{State, went_back, went_on}

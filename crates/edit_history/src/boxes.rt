@@ -2,7 +2,7 @@
 //!
 //! A function `_box` repeats a clause of the trait at a box; its `_at` or `_all` says the same of the vector, by the
 //! lists of what each box keeps. All above speaks of those lists alone.
-ghost use Rattle.std.specs.Prelude.{◌≡◌, ◌≢◌, ◌<◌, ℕ, List, [], ◌∷◌, ◌++◌, length, map, get_or, slice_get, slice_set, vec_len, Some, IfSome, IfNone, OnOk, OnErr, IfOk};
+ghost use Rattle.std.specs.Prelude.{◌≡◌, ◌≢◌, ◌<◌, ℕ, [], ◌∷◌, ◌++◌, length, map, get_or, slice_get, slice_set, vec_len, Some, IfSome, IfNone, OnOk, IfOk};
 ghost use Rattle.dataset.specs.Patch.{StandsBefore, StandsAfter, after_of, before_of};
 ghost use Rattle.dataset.specs.Sound.{IsSound};
 ghost use Rattle.tool_api.specs.Plain.{verb_of, plain, IsWellFormed};
@@ -188,20 +188,24 @@ pub fn no_boxes(alloc: Global) -> Vec<Box<dyn Tool>>
     Vec::new(alloc)
 }
 
-/// One box more, of a tool that has done nothing yet. It comes after the others: of two boxes with one verb the first
-/// runs the jobs.
+/// The boxes and one more, of a tool that has done nothing yet. It comes after the others: of two boxes with one verb the
+/// first runs the jobs.
 ///
 /// # Errors
-/// Want of memory.
-pub fn add_box(tools: &mut Vec<Box<dyn Tool>>, tool: Box<dyn Tool>) -> Result<(), AllocError>
-    requires dones { KeepNothing (map (λ b. done b) tools.old.items) }
-    requires undones { KeepNothing (map (λ b. undone b) tools.old.items) }
+/// No memory was left.
+pub fn with_box(
+    tools: Vec<Box<dyn Tool>>,
+    tool: Box<dyn Tool>,
+) -> Result<Vec<Box<dyn Tool>>, AllocError>
+    requires dones { KeepNothing (map (λ b. done b) tools.items) }
+    requires undones { KeepNothing (map (λ b. undone b) tools.items) }
     requires done { done tool ≡ [] }
     requires undone { undone tool ≡ [] }
-    ensures dones { OnOk result (KeepNothing (map (λ b. done b) tools.new.items)) }
-    ensures undones { OnOk result (KeepNothing (map (λ b. undone b) tools.new.items)) }
-    ensures kinds { OnOk result (map (λ b. kind b) tools.new.items ≡ map (λ b. kind b) tools.old.items ++ kind tool ∷ []) }
+    ensures dones { IfOk result (λ more. KeepNothing (map (λ b. done b) more.items)) }
+    ensures undones { IfOk result (λ more. KeepNothing (map (λ b. undone b) more.items)) }
+    ensures kinds { IfOk result (λ more. map (λ b. kind b) more.items ≡ map (λ b. kind b) tools.items ++ kind tool ∷ []) }
 {
+    let mut tools = tools;
     tools.push(tool)?;
-    Ok(())
+    Ok(tools)
 }

@@ -1,5 +1,5 @@
 //! The history of a session.
-ghost use Rattle.std.specs.Prelude.{◌≡◌, ◌≢◌, ◌≤◌, ◌<◌, ◌+◌, ◌↔◌, if◌then◌else◌, nat_le, length, map, slice_get, Some, IsTrue, OnOk, OnErr, IfOk};
+ghost use Rattle.std.specs.Prelude.{◌≡◌, ◌≢◌, ◌≤◌, ◌<◌, ◌+◌, ◌↔◌, if◌then◌else◌, nat_le, length, map, Some, IsTrue, OnOk, OnErr, IfOk};
 ghost use Rattle.dataset.specs.Patch.{StandsBefore, after_of};
 ghost use Rattle.dataset.specs.Sound.{IsSound};
 ghost use Rattle.tool_api.specs.Plain.{verb_of, plain, IsWellFormed};

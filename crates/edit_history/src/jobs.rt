@@ -1,5 +1,5 @@
 //! Jobs through the boxes: which box did each, done, undone and done again.
-ghost use Rattle.std.specs.Prelude.{◌≡◌, ◌<◌, ◌≤◌, [], ◌∷◌, length, take, drop, slice_get, Some, OnOk, OnErr, IfOk};
+ghost use Rattle.std.specs.Prelude.{◌≡◌, ◌<◌, ◌≤◌, [], ◌∷◌, length, take, drop, slice_get, Some, OnOk, IfOk};
 ghost use Rattle.dataset.specs.Patch.{after_of, before_of};
 ghost use Rattle.tool_api.specs.Plain.{verb_of, plain, IsWellFormed};
 ghost use Rattle.tool_api.specs.Patches.{first_patch};

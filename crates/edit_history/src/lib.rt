@@ -20,7 +20,7 @@ mod stack;
 #[cfg(test)]
 mod tests;
 
-pub use boxes::{add_box, no_boxes};
+pub use boxes::{no_boxes, with_box};
 pub use counts::Group;
 pub use history::History;
 pub use law::back_and_on_again;

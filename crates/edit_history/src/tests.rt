@@ -3,7 +3,7 @@ ghost use Rattle.std.specs.Prelude.{◌≡◌};
 ghost use Rattle.edit_history.specs.Shown.{shown, Valid};
 ghost use Rattle.edit_history.specs.declared.counts.Group.TheVariants.{Outside};
 
-use crate::{History, add_box, no_boxes};
+use crate::{History, no_boxes, with_box};
 use dataset::{DataSet, Draft, Patch};
 use osm_base::Keys;
 use std::alloc::AllocError;
@@ -69,8 +69,7 @@ fn no_memory(rt: HostRuntime) -> Result<(), Fail> {
     let poor = Poor {
         steps: Steps::new(rt.alloc()),
     };
-    let mut tools = no_boxes(rt.alloc());
-    add_box(&mut tools, Box::new(rt.alloc(), poor)?)?;
+    let tools = with_box(no_boxes(rt.alloc()), Box::new(rt.alloc(), poor)?)?;
     let mut history = History::new(rt.alloc(), tools);
     let job = Job::Erase {
         keys: Keys::new(rt.alloc()),

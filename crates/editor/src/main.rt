@@ -8,7 +8,7 @@
 ghost use Rattle.std.specs.Prelude.{◌≡◌, ◌↔◌, None, IfOk, map, string_bytes};
 ghost use Rattle.edit_session.specs.Session.{script_name};
 
-use edit_history::{add_box, no_boxes};
+use edit_history::{no_boxes, with_box};
 use edit_session::{Status, run_session};
 use merge_tool::MergeTool;
 use osm_outside::{HostShelf, HostSink};
@@ -46,18 +46,18 @@ fn run_with(rt: &HostRuntime, words: &[String]) -> Result<Status, AllocError>
     ensures words { IfOk result (λ status. (status ≡ Status.BadWords) ↔ (script_name (map string_bytes words.now) ≡ None)) }
 {
     let alloc = rt.alloc();
-    let mut tools = no_boxes(alloc);
-    add_box(&mut tools, Box::new(alloc, AddTool::new(alloc))?)?;
-    add_box(&mut tools, Box::new(alloc, TagTool::new(alloc))?)?;
-    add_box(&mut tools, Box::new(alloc, MoveTool::new(alloc))?)?;
-    add_box(&mut tools, Box::new(alloc, ChangeTool::new(alloc))?)?;
-    add_box(&mut tools, Box::new(alloc, DeleteTool::new(alloc))?)?;
-    add_box(&mut tools, Box::new(alloc, EraseTool::new(alloc))?)?;
-    add_box(&mut tools, Box::new(alloc, PurgeTool::new(alloc))?)?;
-    add_box(&mut tools, Box::new(alloc, SplitTool::new(alloc))?)?;
-    add_box(&mut tools, Box::new(alloc, CombineTool::new(alloc))?)?;
-    add_box(&mut tools, Box::new(alloc, ReverseTool::new(alloc))?)?;
-    add_box(&mut tools, Box::new(alloc, MergeTool::new(alloc))?)?;
+    let tools = no_boxes(alloc);
+    let tools = with_box(tools, Box::new(alloc, AddTool::new(alloc))?)?;
+    let tools = with_box(tools, Box::new(alloc, TagTool::new(alloc))?)?;
+    let tools = with_box(tools, Box::new(alloc, MoveTool::new(alloc))?)?;
+    let tools = with_box(tools, Box::new(alloc, ChangeTool::new(alloc))?)?;
+    let tools = with_box(tools, Box::new(alloc, DeleteTool::new(alloc))?)?;
+    let tools = with_box(tools, Box::new(alloc, EraseTool::new(alloc))?)?;
+    let tools = with_box(tools, Box::new(alloc, PurgeTool::new(alloc))?)?;
+    let tools = with_box(tools, Box::new(alloc, SplitTool::new(alloc))?)?;
+    let tools = with_box(tools, Box::new(alloc, CombineTool::new(alloc))?)?;
+    let tools = with_box(tools, Box::new(alloc, ReverseTool::new(alloc))?)?;
+    let tools = with_box(tools, Box::new(alloc, MergeTool::new(alloc))?)?;
     let mut shelf = HostShelf::new(rt.clone()?);
     let mut out = HostSink::new(io::writer(rt));
     Ok(run_session(alloc, words, tools, &mut shelf, &mut out))

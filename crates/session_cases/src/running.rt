@@ -7,7 +7,7 @@ ghost use Rattle.session_cases.specs.Named.{is_named, LacksUnnamed};
 use crate::case::{Case, CaseFile, Tools};
 use crate::poor::PoorTool;
 use anyhow::Result;
-use edit_history::{add_box, no_boxes};
+use edit_history::{no_boxes, with_box};
 use edit_session::{Status, run_session};
 use merge_tool::MergeTool;
 use osm_outside::{Calls, Files, MemoryShelf, MemorySink};
@@ -78,18 +78,18 @@ fn run_with_all(
     shelf: &mut MemoryShelf,
     sink: &mut MemorySink,
 ) -> Result<Status, AllocError> {
-    let mut tools = no_boxes(alloc);
-    add_box(&mut tools, Box::new(alloc, AddTool::new(alloc))?)?;
-    add_box(&mut tools, Box::new(alloc, TagTool::new(alloc))?)?;
-    add_box(&mut tools, Box::new(alloc, MoveTool::new(alloc))?)?;
-    add_box(&mut tools, Box::new(alloc, ChangeTool::new(alloc))?)?;
-    add_box(&mut tools, Box::new(alloc, DeleteTool::new(alloc))?)?;
-    add_box(&mut tools, Box::new(alloc, EraseTool::new(alloc))?)?;
-    add_box(&mut tools, Box::new(alloc, PurgeTool::new(alloc))?)?;
-    add_box(&mut tools, Box::new(alloc, SplitTool::new(alloc))?)?;
-    add_box(&mut tools, Box::new(alloc, CombineTool::new(alloc))?)?;
-    add_box(&mut tools, Box::new(alloc, ReverseTool::new(alloc))?)?;
-    add_box(&mut tools, Box::new(alloc, MergeTool::new(alloc))?)?;
+    let tools = no_boxes(alloc);
+    let tools = with_box(tools, Box::new(alloc, AddTool::new(alloc))?)?;
+    let tools = with_box(tools, Box::new(alloc, TagTool::new(alloc))?)?;
+    let tools = with_box(tools, Box::new(alloc, MoveTool::new(alloc))?)?;
+    let tools = with_box(tools, Box::new(alloc, ChangeTool::new(alloc))?)?;
+    let tools = with_box(tools, Box::new(alloc, DeleteTool::new(alloc))?)?;
+    let tools = with_box(tools, Box::new(alloc, EraseTool::new(alloc))?)?;
+    let tools = with_box(tools, Box::new(alloc, PurgeTool::new(alloc))?)?;
+    let tools = with_box(tools, Box::new(alloc, SplitTool::new(alloc))?)?;
+    let tools = with_box(tools, Box::new(alloc, CombineTool::new(alloc))?)?;
+    let tools = with_box(tools, Box::new(alloc, ReverseTool::new(alloc))?)?;
+    let tools = with_box(tools, Box::new(alloc, MergeTool::new(alloc))?)?;
     Ok(run_session(alloc, words, tools, shelf, sink))
 }
 
@@ -100,10 +100,10 @@ fn run_with_poor(
     shelf: &mut MemoryShelf,
     sink: &mut MemorySink,
 ) -> Result<Status, AllocError> {
-    let mut tools = no_boxes(alloc);
-    add_box(&mut tools, Box::new(alloc, PoorTool::new(alloc))?)?;
-    add_box(&mut tools, Box::new(alloc, TagTool::new(alloc))?)?;
-    add_box(&mut tools, Box::new(alloc, AddTool::new(alloc))?)?;
+    let tools = no_boxes(alloc);
+    let tools = with_box(tools, Box::new(alloc, PoorTool::new(alloc))?)?;
+    let tools = with_box(tools, Box::new(alloc, TagTool::new(alloc))?)?;
+    let tools = with_box(tools, Box::new(alloc, AddTool::new(alloc))?)?;
     Ok(run_session(alloc, words, tools, shelf, sink))
 }
 
