@@ -1,6 +1,5 @@
 //! The lines of a script, one function for each form.
-ghost use Rattle.std.specs.Prelude.{◌≡◌, IfOk};
-ghost use Rattle.opl_text.specs.Text.{unescaped};
+ghost use Rattle.std.specs.Prelude.{IfOk};
 ghost use Rattle.edit_script.specs.Answers.{Gives};
 ghost use Rattle.edit_script.specs.Forms.{download, add_node, add_way, add_relation, set_tags, shift, place, set_nodes, set_members, delete, erase, purge, split, combine, reverse, undo, redo, alone, with_one, with_two, with_three, act_of};
 ghost use Rattle.edit_script.specs.Items.{words_of};

@@ -1,5 +1,5 @@
 //! The words of a line, and what each of them spells.
-ghost use Rattle.std.specs.Prelude.{◌≡◌, ◌∷◌, ◌<◌, ◌≤◌, [], length, MatchOption, IfOk};
+ghost use Rattle.std.specs.Prelude.{◌≡◌, ◌∷◌, ◌<◌, ◌≤◌, [], MatchOption, IfOk};
 ghost use Rattle.opl_line.specs.Line.{is_blank};
 ghost use Rattle.osm_base.specs.Number.{key_text};
 ghost use Rattle.osm_base.specs.Coord.{coord_text};

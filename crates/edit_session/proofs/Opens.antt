@@ -1,5 +1,5 @@
 -- A job leaves a group open where one was open.
-use Rattle.std.proofs.Common.{◌≡◌, true, false, refl, ap, ◌∙◌}
+use Rattle.std.proofs.Common.{◌≡◌, false, refl, ap}
 use Rattle.osm_table.specs.Table.{TableValue}
 use Rattle.tool_api.specs.declared.reply.Reply.{Reply}
 use Rattle.tool_api.specs.declared.reply.Reply.TheVariants as reply

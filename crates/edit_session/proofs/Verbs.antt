@@ -4,6 +4,7 @@ use Rattle.std.specs.Prelude.{slice_get, if◌then◌else◌}
 use Rattle.std.proofs.lemmas.Bool.Decides.{nat_tests}
 use Rattle.tool_api.specs.declared.verb.Verb.{Verb}
 use Rattle.tool_api.specs.declared.verb.Verb.TheVariants.{Add, Tag, Move, Change, Delete, Erase, Purge, Split, Combine, Reverse, Merge}
+use Rattle.tool_api.proofs.Bools.{or_true}
 use Rattle.edit_history.specs.Shown.{IsThere}
 use Rattle.edit_session.specs.Needs.{verb_number, same_verb, has_verb, lacks}
 
@@ -28,10 +29,6 @@ same_is a b e = let n : verb_number a ≡ verb_number b = grind (arith, nat_test
 
 same_self : (v : Verb) → same_verb v v ≡ true
 same_self v = grind (arith, nat_tests)
-
-or_true : (a : Bool) → (a || true) ≡ true
-or_true true = refl
-or_true false = refl
 
 there_has : (v : Verb) (vs : List Verb) (i : ℕ) → slice_get vs i ≡ Some v → has_verb vs v ≡ true
 there_has v [] i e = absurd cc

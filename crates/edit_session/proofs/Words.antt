@@ -1,7 +1,6 @@
 -- Words that are no session.
 use Rattle.std.proofs.Common.{◌≡◌, ℕ, ◌≤◌, ◌<◌, List, [], ◌∷◌, Option, None, Some, IfSome, map, length, refl, arith}
 use Rattle.std.proofs.lemmas.List.{length-map}
-use Rattle.std.specs.Io.KnownBytes.{Appends}
 use Rattle.osm_outside.specs.Outside.{Shelved}
 use Rattle.osm_outside.proofs.Along.{along-start, along-end}
 use Rattle.tool_api.specs.declared.verb.Verb.{Verb}

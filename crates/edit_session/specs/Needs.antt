@@ -9,7 +9,7 @@ use Rattle.tool_api.specs.declared.verb.Verb.{Verb}
 use Rattle.tool_api.specs.declared.verb.Verb.TheVariants.{Add, Tag, Move, Change, Delete, Erase, Purge, Split, Combine, Reverse, Merge}
 use Rattle.tool_api.specs.Plain.{verb_of}
 use Rattle.edit_script.specs.declared.step.Act.{Act}
-use Rattle.edit_script.specs.declared.step.Act.TheVariants.{Job, Download, Begin, End, Undo, Redo, Print, Count}
+use Rattle.edit_script.specs.declared.step.Act.TheVariants.{Job, Download}
 use Rattle.edit_script.specs.declared.step.Step.{Step}
 
 -- the verb of the tool that an act needs, if it needs one

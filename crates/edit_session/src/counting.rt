@@ -1,5 +1,5 @@
 //! The text of `count`.
-ghost use Rattle.std.specs.Prelude.{◌≡◌, ◌++◌, ◌<◌, ◌^◌, OnOk, OnErr, length};
+ghost use Rattle.std.specs.Prelude.{◌≡◌, ◌++◌, ◌<◌, OnOk, OnErr};
 ghost use Rattle.osm_base.specs.Extends.{Extends};
 ghost use Rattle.osm_table.specs.Table.{is_living};
 ghost use Rattle.edit_session.specs.Counted.{count_text, counts_text, kinds_text, states_text, counts_among, part, with_one, with_key, HasRoom, is_node, is_way, is_relation, is_incomplete, is_deleted, is_in_conflict};

@@ -22,6 +22,8 @@ mod sending;
 mod session;
 mod status;
 mod stop;
+#[cfg(test)]
+mod tests;
 mod turns;
 
 pub use counting::write_count;

@@ -1,5 +1,5 @@
 //! Text that goes to the sink.
-ghost use Rattle.std.specs.Prelude.{◌≡◌, ◌++◌, List, ℕ, OnOk, OnErr};
+ghost use Rattle.std.specs.Prelude.{◌≡◌, OnOk, OnErr};
 ghost use Rattle.std.specs.Io.KnownBytes.{Appends};
 ghost use Rattle.osm_outside.specs.Outside.{AppendsFront, HasCause};
 ghost use Rattle.osm_base.specs.Meta.{empty_meta};

@@ -1,6 +1,5 @@
 //! A whole session.
 ghost use Rattle.std.specs.Prelude.{◌≡◌, ◌⊎◌, ◌↔◌, None, Some, IfSome, IfOk, IsSome, OnErr, map, string_bytes};
-ghost use Rattle.std.specs.Io.KnownBytes.{Appends};
 ghost use Rattle.osm_outside.specs.Outside.{AppendsFront, Rose};
 ghost use Rattle.tool_api.specs.declared.verb.Verb.{Verb};
 ghost use Rattle.edit_script.specs.Script.{steps_of};

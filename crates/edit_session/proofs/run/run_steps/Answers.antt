@@ -1,7 +1,6 @@
-use Rattle.std.proofs.Common.{◌∙◌, None, ap, sym, arith, drop, subst, ◌+◌}
+use Rattle.std.proofs.Common.{◌∙◌, ap, sym, arith, drop, subst, ◌+◌}
 use Rattle.std.proofs.lemmas.Result.{err_from_is_err_and}
 use Rattle.edit_script.specs.Order.{IsOrderly}
-use Rattle.edit_history.specs.Shown.{shown}
 use Rattle.edit_session.specs.Needs.{missing_verb}
 use Rattle.edit_session.specs.Session.{output_from}
 use Rattle.edit_session.proofs.Steps.{goes_on, fails_in, orderly_at, there_at}

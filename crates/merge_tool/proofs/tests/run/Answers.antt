@@ -1,4 +1,4 @@
-use Rattle.std.proofs.Common.{◌≡◌, sym, ap, subst, List}
+use Rattle.std.proofs.Common.{sym, ap, subst, List}
 use Rattle.dataset.specs.Patch.{PatchValue, StandsBefore, after_of}
 use Rattle.dataset.specs.Sound.{IsSound}
 use Rattle.tool_api.specs.declared.reply.Reply.{Reply}
