@@ -188,22 +188,25 @@ pub fn no_boxes(alloc: Global) -> Vec<Box<dyn Tool>>
     Vec::new(alloc)
 }
 
-/// The boxes and one more, of a tool that has done nothing yet. It comes after the others: of two boxes with one verb the
-/// first runs the jobs.
+/// The boxes and one more, of a tool for the jobs of this verb that has done nothing yet. It comes after the others: of
+/// two boxes with one verb the first runs the jobs. The verb is there to be read, by people and by proofs, where the boxes
+/// are made; the tool knows it.
 ///
 /// # Errors
 /// No memory was left.
 pub fn with_box(
     tools: Vec<Box<dyn Tool>>,
+    _verb: Verb,
     tool: Box<dyn Tool>,
 ) -> Result<Vec<Box<dyn Tool>>, AllocError>
     requires dones { KeepNothing (map (λ b. done b) tools.items) }
     requires undones { KeepNothing (map (λ b. undone b) tools.items) }
+    requires kind { kind tool ≡ _verb }
     requires done { done tool ≡ [] }
     requires undone { undone tool ≡ [] }
     ensures dones { IfOk result (λ more. KeepNothing (map (λ b. done b) more.items)) }
     ensures undones { IfOk result (λ more. KeepNothing (map (λ b. undone b) more.items)) }
-    ensures kinds { IfOk result (λ more. map (λ b. kind b) more.items ≡ map (λ b. kind b) tools.items ++ kind tool ∷ []) }
+    ensures kinds { IfOk result (λ more. map (λ b. kind b) more.items ≡ map (λ b. kind b) tools.items ++ _verb ∷ []) }
 {
     let mut tools = tools;
     tools.push(tool)?;

@@ -69,7 +69,11 @@ fn no_memory(rt: HostRuntime) -> Result<(), Fail> {
     let poor = Poor {
         steps: Steps::new(rt.alloc()),
     };
-    let tools = with_box(no_boxes(rt.alloc()), Box::new(rt.alloc(), poor)?)?;
+    let tools = with_box(
+        no_boxes(rt.alloc()),
+        Verb::Erase,
+        Box::new(rt.alloc(), poor)?,
+    )?;
     let mut history = History::new(rt.alloc(), tools);
     let job = Job::Erase {
         keys: Keys::new(rt.alloc()),

@@ -6,6 +6,7 @@
 #![tactic(auto)]
 
 ghost use Rattle.std.specs.Prelude.{◌≡◌, ◌↔◌, None, IfOk, map, string_bytes};
+ghost use Rattle.tool_api.specs.declared.verb.Verb.{Verb};
 ghost use Rattle.edit_session.specs.Session.{script_name};
 
 use edit_history::{no_boxes, with_box};
@@ -16,6 +17,7 @@ use std::alloc::AllocError;
 use std::env;
 use std::io::{self, ErrorKind};
 use std::process::ExitCode;
+use tool_api::Verb;
 use tools_basic::{AddTool, ChangeTool, MoveTool, TagTool};
 use tools_delete::{DeleteTool, EraseTool, PurgeTool};
 use way_combine::{CombineTool, ReverseTool};
@@ -41,23 +43,40 @@ fn words(rt: &HostRuntime) -> io::Result<Vec<String>> {
     Ok(env::args(rt)?.collect(rt.alloc())?)
 }
 
-// One tool for each verb, the files of the folder, and standard output.
+// One tool for each verb, so that no step misses its tool, the files of the folder, and standard output.
 fn run_with(rt: &HostRuntime, words: &[String]) -> Result<Status, AllocError>
     ensures words { IfOk result (λ status. (status ≡ Status.BadWords) ↔ (script_name (map string_bytes words.now) ≡ None)) }
+    ensures tools { (verb : Verb) → IfOk result (λ status. status ≡ Status.NoTool verb → ⊥) }
 {
     let alloc = rt.alloc();
     let tools = no_boxes(alloc);
-    let tools = with_box(tools, Box::new(alloc, AddTool::new(alloc))?)?;
-    let tools = with_box(tools, Box::new(alloc, TagTool::new(alloc))?)?;
-    let tools = with_box(tools, Box::new(alloc, MoveTool::new(alloc))?)?;
-    let tools = with_box(tools, Box::new(alloc, ChangeTool::new(alloc))?)?;
-    let tools = with_box(tools, Box::new(alloc, DeleteTool::new(alloc))?)?;
-    let tools = with_box(tools, Box::new(alloc, EraseTool::new(alloc))?)?;
-    let tools = with_box(tools, Box::new(alloc, PurgeTool::new(alloc))?)?;
-    let tools = with_box(tools, Box::new(alloc, SplitTool::new(alloc))?)?;
-    let tools = with_box(tools, Box::new(alloc, CombineTool::new(alloc))?)?;
-    let tools = with_box(tools, Box::new(alloc, ReverseTool::new(alloc))?)?;
-    let tools = with_box(tools, Box::new(alloc, MergeTool::new(alloc))?)?;
+    let tools = with_box(tools, Verb::Add, Box::new(alloc, AddTool::new(alloc))?)?;
+    let tools = with_box(tools, Verb::Tag, Box::new(alloc, TagTool::new(alloc))?)?;
+    let tools = with_box(tools, Verb::Move, Box::new(alloc, MoveTool::new(alloc))?)?;
+    let tools = with_box(
+        tools,
+        Verb::Change,
+        Box::new(alloc, ChangeTool::new(alloc))?,
+    )?;
+    let tools = with_box(
+        tools,
+        Verb::Delete,
+        Box::new(alloc, DeleteTool::new(alloc))?,
+    )?;
+    let tools = with_box(tools, Verb::Erase, Box::new(alloc, EraseTool::new(alloc))?)?;
+    let tools = with_box(tools, Verb::Purge, Box::new(alloc, PurgeTool::new(alloc))?)?;
+    let tools = with_box(tools, Verb::Split, Box::new(alloc, SplitTool::new(alloc))?)?;
+    let tools = with_box(
+        tools,
+        Verb::Combine,
+        Box::new(alloc, CombineTool::new(alloc))?,
+    )?;
+    let tools = with_box(
+        tools,
+        Verb::Reverse,
+        Box::new(alloc, ReverseTool::new(alloc))?,
+    )?;
+    let tools = with_box(tools, Verb::Merge, Box::new(alloc, MergeTool::new(alloc))?)?;
     let mut shelf = HostShelf::new(rt.clone()?);
     let mut out = HostSink::new(io::writer(rt));
     Ok(run_session(alloc, words, tools, &mut shelf, &mut out))

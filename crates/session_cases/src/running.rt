@@ -12,6 +12,7 @@ use edit_session::{Status, run_session};
 use merge_tool::MergeTool;
 use osm_outside::{Calls, Files, MemoryShelf, MemorySink};
 use std::alloc::{AllocError, Global};
+use tool_api::Verb;
 use tools_basic::{AddTool, ChangeTool, MoveTool, TagTool};
 use tools_delete::{DeleteTool, EraseTool, PurgeTool};
 use way_combine::{CombineTool, ReverseTool};
@@ -79,17 +80,33 @@ fn run_with_all(
     sink: &mut MemorySink,
 ) -> Result<Status, AllocError> {
     let tools = no_boxes(alloc);
-    let tools = with_box(tools, Box::new(alloc, AddTool::new(alloc))?)?;
-    let tools = with_box(tools, Box::new(alloc, TagTool::new(alloc))?)?;
-    let tools = with_box(tools, Box::new(alloc, MoveTool::new(alloc))?)?;
-    let tools = with_box(tools, Box::new(alloc, ChangeTool::new(alloc))?)?;
-    let tools = with_box(tools, Box::new(alloc, DeleteTool::new(alloc))?)?;
-    let tools = with_box(tools, Box::new(alloc, EraseTool::new(alloc))?)?;
-    let tools = with_box(tools, Box::new(alloc, PurgeTool::new(alloc))?)?;
-    let tools = with_box(tools, Box::new(alloc, SplitTool::new(alloc))?)?;
-    let tools = with_box(tools, Box::new(alloc, CombineTool::new(alloc))?)?;
-    let tools = with_box(tools, Box::new(alloc, ReverseTool::new(alloc))?)?;
-    let tools = with_box(tools, Box::new(alloc, MergeTool::new(alloc))?)?;
+    let tools = with_box(tools, Verb::Add, Box::new(alloc, AddTool::new(alloc))?)?;
+    let tools = with_box(tools, Verb::Tag, Box::new(alloc, TagTool::new(alloc))?)?;
+    let tools = with_box(tools, Verb::Move, Box::new(alloc, MoveTool::new(alloc))?)?;
+    let tools = with_box(
+        tools,
+        Verb::Change,
+        Box::new(alloc, ChangeTool::new(alloc))?,
+    )?;
+    let tools = with_box(
+        tools,
+        Verb::Delete,
+        Box::new(alloc, DeleteTool::new(alloc))?,
+    )?;
+    let tools = with_box(tools, Verb::Erase, Box::new(alloc, EraseTool::new(alloc))?)?;
+    let tools = with_box(tools, Verb::Purge, Box::new(alloc, PurgeTool::new(alloc))?)?;
+    let tools = with_box(tools, Verb::Split, Box::new(alloc, SplitTool::new(alloc))?)?;
+    let tools = with_box(
+        tools,
+        Verb::Combine,
+        Box::new(alloc, CombineTool::new(alloc))?,
+    )?;
+    let tools = with_box(
+        tools,
+        Verb::Reverse,
+        Box::new(alloc, ReverseTool::new(alloc))?,
+    )?;
+    let tools = with_box(tools, Verb::Merge, Box::new(alloc, MergeTool::new(alloc))?)?;
     Ok(run_session(alloc, words, tools, shelf, sink))
 }
 
@@ -101,9 +118,9 @@ fn run_with_poor(
     sink: &mut MemorySink,
 ) -> Result<Status, AllocError> {
     let tools = no_boxes(alloc);
-    let tools = with_box(tools, Box::new(alloc, PoorTool::new(alloc))?)?;
-    let tools = with_box(tools, Box::new(alloc, TagTool::new(alloc))?)?;
-    let tools = with_box(tools, Box::new(alloc, AddTool::new(alloc))?)?;
+    let tools = with_box(tools, Verb::Tag, Box::new(alloc, PoorTool::new(alloc))?)?;
+    let tools = with_box(tools, Verb::Tag, Box::new(alloc, TagTool::new(alloc))?)?;
+    let tools = with_box(tools, Verb::Add, Box::new(alloc, AddTool::new(alloc))?)?;
     Ok(run_session(alloc, words, tools, shelf, sink))
 }
 
