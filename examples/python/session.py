@@ -15,8 +15,9 @@ Needs Python 3.8 and nothing else. A whole use:
         print(thing.key, thing.tags)
 
 `run` raises `Refused` at the first refused step, so that nothing that a later step did goes on unseen. `Script.node`,
-`way` and `relation` answer with the id that the new object gets where no addition before it is refused; as `run` stops
-at a refusal, an id that was wrong never gets further than that.
+`way` and `relation` answer with the key that the new object gets where no addition before it is refused; as `run` stops
+at a refusal, a key that was wrong never gets further than that. Behind a `split`, and behind lines of your own, they
+answer None: the reply has the key then.
 """
 import pathlib
 import re
@@ -86,75 +87,82 @@ class Script:
         self.made = 0
 
     def step(self, *words):
+        """Any line, such as `undo 1`. No id is foretold behind it, since it may make objects or give ids back."""
+        self._step(*words)
+        self.made = None
+
+    def _step(self, *words):
         self.lines.append(' '.join(words))
 
     def _new(self, letter):
+        if self.made is None:
+            return None
         self.made += 1
         return '{}-{}'.format(letter, self.made)
 
     def download(self, name):
-        self.step('download', quote(str(name)))
+        self._step('download', quote(str(name)))
 
     def node(self, lon, lat, pairs):
-        self.step('node', 'x' + degrees(lon), 'y' + degrees(lat), 'T' + tags(pairs))
+        self._step('node', 'x' + degrees(lon), 'y' + degrees(lat), 'T' + tags(pairs))
         return self._new('n')
 
     def way(self, nodes, pairs):
-        self.step('way', 'T' + tags(pairs), 'N' + ','.join(nodes))
+        self._step('way', 'T' + tags(pairs), 'N' + ','.join(nodes))
         return self._new('w')
 
     def relation(self, members, pairs):
         """Members are pairs of key and role."""
-        self.step('relation', 'T' + tags(pairs), 'M' + ','.join('{}@{}'.format(key, quote(role)) for key, role in members))
+        self._step('relation', 'T' + tags(pairs), 'M' + ','.join('{}@{}'.format(key, quote(role)) for key, role in members))
         return self._new('r')
 
     def tag(self, keys, pairs):
         """Sets tags; an empty value takes the tag away."""
-        self.step('tag', ','.join(keys), 'T' + tags(pairs))
+        self._step('tag', ','.join(keys), 'T' + tags(pairs))
 
     def move(self, keys, lon, lat):
-        self.step('move', ','.join(keys), degrees(lon), degrees(lat))
+        self._step('move', ','.join(keys), degrees(lon), degrees(lat))
 
     def place(self, key, lon, lat):
-        self.step('place', key, 'x' + degrees(lon), 'y' + degrees(lat))
+        self._step('place', key, 'x' + degrees(lon), 'y' + degrees(lat))
 
     def nodes(self, key, nodes):
-        self.step('nodes', key, 'N' + ','.join(nodes))
+        self._step('nodes', key, 'N' + ','.join(nodes))
 
     def members(self, key, members):
-        self.step('members', key, 'M' + ','.join('{}@{}'.format(member, quote(role)) for member, role in members))
+        self._step('members', key, 'M' + ','.join('{}@{}'.format(member, quote(role)) for member, role in members))
 
     def delete(self, keys):
-        self.step('delete', ','.join(keys))
+        self._step('delete', ','.join(keys))
 
     def erase(self, keys):
-        self.step('erase', ','.join(keys))
+        self._step('erase', ','.join(keys))
 
     def purge(self, keys):
-        self.step('purge', ','.join(keys))
+        self._step('purge', ','.join(keys))
 
     def combine(self, keys):
         """Ways in the direction of travel."""
-        self.step('combine', ','.join(keys))
+        self._step('combine', ','.join(keys))
 
     def reverse(self, key):
-        self.step('reverse', key)
+        self._step('reverse', key)
 
     def split(self, key, nodes):
-        """The pieces' ids aren't foretold, since their number isn't known here: name no new object behind it."""
+        """The pieces' ids stand in the reply. No id is foretold behind it, since the number of pieces isn't known here."""
         self.step('split', key, ','.join(nodes))
 
     def begin(self):
-        self.step('begin')
+        self._step('begin')
 
     def end(self):
-        self.step('end')
+        self._step('end')
 
     def print(self):
-        self.step('print')
+        self._step('print')
 
     def count(self):
-        self.step('count')
+        self._step('count')
 
     def __str__(self):
         return ''.join(line + '\n' for line in self.lines)

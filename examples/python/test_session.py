@@ -87,6 +87,14 @@ class Sessions(unittest.TestCase):
         script.delete(['w5'])
         self.run_script(script, allow_refused=True)
 
+    def test_foretells_no_key_that_it_cannot_know(self):
+        script = self.script()
+        self.assertEqual(script.node(13, 1, {}), 'n-1')
+        script.split('w5', ['n2'])
+        self.assertIsNone(script.node(13, 1, {}))
+        answer = self.run_script(script)
+        self.assertEqual([reply.rest for reply in answer.replies], ['', 'n-1', 'w-2', 'n-3'])
+
     def test_changes_are_those_that_count_counts(self):
         script = self.script()
         script.node(13.65, 0.05, {'amenity': 'bench'})
