@@ -1,0 +1,70 @@
+#!/usr/bin/env python3
+"""changes.py BEFORE AFTER: writes what a session changed, as an osmChange document, to standard output.
+
+BEFORE is the OPL file that was downloaded, AFTER the output of the session, whose last line is a `print`. An object
+counts as changed where `count` counts it: its tags, place, nodes or members aren't those before, or it is new or
+deleted. Each change names the version that it was made from, as the API wants it. Objects that a session purged are in
+neither part. Nothing is sent, and nothing is compared with what the server has by now.
+"""
+import sys
+from xml.sax.saxutils import quoteattr
+
+from session import degrees, read_objects
+
+ELEMENTS = {'n': 'node', 'w': 'way', 'r': 'relation'}
+KINDS = 'nwr'
+
+
+def rank(key):
+    """Nodes before ways before relations, positive ids rising and then -1, -2 and on."""
+    number = int(key[1:])
+    return KINDS.index(key[0]), number < 0, abs(number)
+
+
+def changes(before, after):
+    """The objects that are new, other ones, and deleted, each by rank, of two maps by key."""
+    things = [after[key] for key in sorted(after, key=rank)]
+    content = lambda thing: (thing.tags, thing.lon, thing.lat, thing.nodes, thing.members)
+    created = [thing for thing in things if thing.key[1] == '-']
+    deleted = [thing for thing in things if thing.deleted]
+    modified = [thing for thing in things if not thing.deleted and thing.key in before and content(thing) != content(before[thing.key])]
+    return created, modified, deleted
+
+
+def element(thing, changeset):
+    name = ELEMENTS[thing.key[0]]
+    words = ['id="{}"'.format(thing.key[1:]), 'version="{}"'.format(thing.version), 'changeset="{}"'.format(changeset)]
+    if thing.lon is not None:
+        words += ['lat="{}"'.format(degrees(thing.lat)), 'lon="{}"'.format(degrees(thing.lon))]
+    yield '    <{} {}>'.format(name, ' '.join(words))
+    for node in thing.nodes:
+        yield '      <nd ref="{}"/>'.format(node[1:])
+    for key, role in thing.members:
+        yield '      <member type="{}" ref="{}" role={}/>'.format(ELEMENTS[key[0]], key[1:], attribute(role))
+    for key, value in thing.tags.items():
+        yield '      <tag k={} v={}/>'.format(attribute(key), attribute(value))
+    yield '    </{}>'.format(name)
+
+
+def attribute(text):
+    return quoteattr(text, {'\n': '&#10;', '\r': '&#13;', '\t': '&#9;'})
+
+
+def document(before, after, changeset=0):
+    """The osmChange document: first what is created, then what is modified, then what is deleted, users first."""
+    created, modified, deleted = changes(before, after)
+    yield '<osmChange version="0.6" generator="yokeorange">'
+    for name, things in [('create', created), ('modify', modified), ('delete', deleted[::-1])]:
+        if things:
+            yield '  <{}>'.format(name)
+            for thing in things:
+                yield from element(thing, changeset)
+            yield '  </{}>'.format(name)
+    yield '</osmChange>'
+
+
+if __name__ == '__main__':
+    if len(sys.argv) != 3:
+        sys.exit('changes.py BEFORE AFTER')
+    for line in document(read_objects(sys.argv[1]), read_objects(sys.argv[2])):
+        print(line)

@@ -1,0 +1,131 @@
+#!/usr/bin/env python3
+"""test_session.py [PROGRAM]: tries the driver on the example town. Run it in the folder examples/; bench/pages does."""
+import sys
+import unittest
+from decimal import Decimal
+
+import changes
+from session import Answer, Refused, Script, Stopped, degrees, parse_object, quote, read_objects, run, unquote
+
+PROGRAM = sys.argv.pop() if len(sys.argv) > 1 else 'yokeorange'
+
+
+class Texts(unittest.TestCase):
+    def test_quotes_what_the_format_uses(self):
+        self.assertEqual(quote('a b,c=d@e%'), 'a%20%b%2c%c%3d%d%40%e%25%')
+
+    def test_reads_back(self):
+        for text in ('', 'Straße', '中山路', 'tab\tline\nfeed', '\u2028\u0085', '😀'):
+            self.assertEqual(unquote(quote(text)), text)
+
+    def test_refuses_long_texts(self):
+        quote('é' * 255)
+        self.assertRaises(ValueError, quote, 'é' * 256)
+
+    def test_degrees(self):
+        self.assertEqual([degrees(n) for n in (13.65, -0.00000001, 1e-7, Decimal('180'), -5)], ['13.65', '0', '0.0000001', '180', '-5'])
+
+
+class Sessions(unittest.TestCase):
+    def script(self):
+        script = Script()
+        script.download('town.opl')
+        return script
+
+    def run_script(self, script, **options):
+        return run(script, PROGRAM, **options)
+
+    def test_replies_and_objects(self):
+        script = self.script()
+        script.begin()
+        bench = script.node(13.65, 0.05, {'amenity': 'bench', 'note': 'a, b = c'})
+        path = script.way(['n2', bench], {'highway': 'footway'})
+        script.relation([(path, ''), (bench, 'a role')], {'type': 'site'})
+        script.move(['n3'], 0, -0.05)
+        script.end()
+        script.print()
+        script.count()
+        answer = self.run_script(script)
+        self.assertEqual([reply.word for reply in answer.replies], ['ok'] * 9)
+        self.assertEqual([answer.replies[2].rest, answer.replies[3].rest, answer.replies[4].rest], [bench, path, 'r-3'])
+        things = {thing.key: thing for thing in answer.objects()}
+        self.assertEqual(things[bench].tags, {'amenity': 'bench', 'note': 'a, b = c'})
+        self.assertEqual((things[bench].lon, things[bench].lat), (Decimal('13.65'), Decimal('0.05')))
+        self.assertEqual(things[path].nodes, ['n2', bench])
+        self.assertEqual(things['r-3'].members, [(path, ''), (bench, 'a role')])
+        self.assertEqual(things['n1'].user, 'A B')
+        self.assertEqual(answer.counts()['changed'], 4)
+
+    def test_stops_at_the_first_refusal(self):
+        script = self.script()
+        script.tag(['n9'], {'name': 'nowhere'})
+        script.delete(['n1'])
+        with self.assertRaises(Refused) as seen:
+            self.run_script(script)
+        self.assertEqual((seen.exception.number, seen.exception.reply.line, seen.exception.step), (1, 2, 'tag n9 Tname=nowhere'))
+        answer = self.run_script(script, allow_refused=True)
+        self.assertEqual([reply.word for reply in answer.replies], ['ok', 'refused', 'refused'])
+
+    def test_says_why_nothing_ran(self):
+        script = self.script()
+        script.step('tga n1')
+        with self.assertRaises(Stopped) as seen:
+            self.run_script(script)
+        self.assertEqual(seen.exception.status, 4)
+
+    def test_each_call_is_a_line_of_the_grammar(self):
+        script = self.script()
+        script.tag(['n1'], {'ref': '7', 'name': ''})
+        script.place('n1', 13.5, 0)
+        script.nodes('w5', ['n1', 'n2', 'n3'])
+        script.members('r9', [('w5', ''), ('n4', 'stop')])
+        script.split('w5', ['n2'])
+        script.combine(['w-1', 'w5'])
+        script.reverse('w5')
+        script.purge(['n4', 'r9'])
+        script.erase(['n1'])
+        script.delete(['w5'])
+        self.run_script(script, allow_refused=True)
+
+    def test_foretells_no_key_that_it_cannot_know(self):
+        script = self.script()
+        self.assertEqual(script.node(13, 1, {}), 'n-1')
+        script.split('w5', ['n2'])
+        self.assertIsNone(script.node(13, 1, {}))
+        answer = self.run_script(script)
+        self.assertEqual([reply.rest for reply in answer.replies], ['', 'n-1', 'w-2', 'n-3'])
+
+    def test_changes_are_those_that_count_counts(self):
+        script = self.script()
+        script.node(13.65, 0.05, {'amenity': 'bench'})
+        script.tag(['n1'], {'name': 'a & "b"'})
+        script.delete(['r9'])
+        script.delete(['w5'])
+        script.count()
+        script.print()
+        answer = self.run_script(script)
+        after = {thing.key: thing for thing in answer.objects()}
+        created, modified, deleted = changes.changes(read_objects('town.opl'), after)
+        self.assertEqual([[thing.key for thing in part] for part in (created, modified, deleted)], [['n-1'], ['n1'], ['w5', 'r9']])
+        self.assertEqual(answer.counts()['changed'], 4)
+        text = '\n'.join(changes.document(read_objects('town.opl'), after))
+        self.assertIn('<tag k="name" v=\'a &amp; "b"\'/>', text)
+        self.assertLess(text.index('<relation id="9" version="1"'), text.index('<way id="5" version="1"'))
+
+
+class Objects(unittest.TestCase):
+    def test_fields_in_any_order(self):
+        thing = parse_object('n1 v3 dV c7 t2024-02-29T12:00:00Z i5 uA%20%B Tname=x%20%y y-0.0000001 x13.5000000')
+        self.assertEqual((thing.version, thing.changeset, thing.uid, thing.user, thing.tags, thing.lon), (3, 7, 5, 'A B', {'name': 'x y'}, Decimal('13.5')))
+
+    def test_deleted(self):
+        self.assertTrue(parse_object('w5 v1 dD c0 t i0 u T N').deleted)
+
+    def test_text_behind_replies(self):
+        answer = Answer('1 ok\nn1 v1 dV c0 t i0 u T x1 y1\n2 refused 5 n1 w5\n3 skipped\n')
+        self.assertEqual([(reply.line, reply.word, reply.rest, len(reply.text)) for reply in answer.replies],
+                         [(1, 'ok', '', 1), (2, 'refused', '5 n1 w5', 0), (3, 'skipped', '', 0)])
+
+
+if __name__ == '__main__':
+    unittest.main()
