@@ -12,3 +12,4 @@ pub mod Split
 pub mod Combine
 pub mod Merged
 pub mod Plain
+pub mod Planned

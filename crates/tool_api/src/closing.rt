@@ -15,9 +15,11 @@ ghost use Rattle.tool_api.specs.Changes.{content_of};
 ghost use Rattle.tool_api.specs.Closing.{closing, closing_tests, disturb_test, fit_test, room_test, disturbs, spoils, in_conflict, is_full};
 ghost use Rattle.tool_api.specs.Patches.{Kept};
 ghost use Rattle.tool_api.specs.Plain.{answered};
+ghost use Rattle.tool_api.specs.Planned.{Plans};
 ghost use Rattle.tool_api.specs.declared.reply.Reply.TheVariants.{Done};
 
 use crate::contents::content;
+use crate::plan::Plan;
 use crate::refusal::Refusal;
 use crate::reply::Reply;
 use crate::steps::Steps;
@@ -186,6 +188,26 @@ pub fn closing_tests(
         return Ok(Some(refusal));
     }
     room_test(ds, draft, limit)
+}
+
+/// The plan of a job that makes the closing tests: refused by them, or the draft with the keys that it makes.
+///
+/// # Errors
+/// No memory was left.
+pub fn closed(
+    ds: &DataSet,
+    draft: Draft,
+    named: &[Key],
+    limit: u64,
+    made: Keys,
+) -> Result<Plan, AllocError>
+    requires sound { closing_tests ds.now limit named.now (drafted draft ds.now) ≡ None → IsSound (drafted draft ds.now) }
+    ensures { IfOk result (Plans ds.now (closing ds.now limit named.now (record { keys = made; table = drafted draft ds.now }))) }
+{
+    match closing_tests(ds, &draft, named, limit)? {
+        Some(refusal) => Ok(Plan::Refused(refusal)),
+        None => Ok(Plan::Change { draft, made }),
+    }
 }
 
 /// Ends a job: refuses by the closing tests, or makes the draft's table the table, keeps the difference as the last

@@ -1,12 +1,17 @@
 //! Drafts in which each of several objects has its content edited.
-ghost use Rattle.std.specs.Prelude.{◌≡◌, OnOk, IfOk};
+ghost use Rattle.std.specs.Prelude.{◌≡◌, None, OnOk, IfOk};
 ghost use Rattle.std.specs.Option.{option_map};
 ghost use Rattle.osm_base.specs.declared.content.Content.{Content};
 ghost use Rattle.dataset.specs.Draft.{drafted};
-ghost use Rattle.tool_api.specs.Changes.{changed, edit, with_mine};
+ghost use Rattle.dataset.specs.Sound.{IsSound};
+ghost use Rattle.tool_api.specs.Changes.{changed, edit, with_mine, done};
+ghost use Rattle.tool_api.specs.Closing.{closing, closing_tests};
+ghost use Rattle.tool_api.specs.Planned.{Plans};
 
+use crate::closing::closed;
+use crate::plan::Plan;
 use dataset::{DataSet, Draft};
-use osm_base::{Content, Key};
+use osm_base::{Content, Key, Keys};
 use osm_table::Entry;
 use std::alloc::AllocError;
 
@@ -94,4 +99,23 @@ pub fn edited_draft<E: EditContent>(
     let mut draft = Draft::new(ds);
     edit_all(ds, keys, rule, &mut draft)?;
     Ok(draft)
+}
+
+/// The plan of a job that edits the content of each of the keys, after the closing tests. It makes no key. A look-up and
+/// a copy each.
+///
+/// # Errors
+/// No memory was left.
+pub fn edits_plan<E: EditContent>(
+    ds: &DataSet,
+    keys: &[Key],
+    rule: &E,
+    named: &[Key],
+    limit: u64,
+) -> Result<Plan, AllocError>
+    requires sound { closing_tests ds.now limit named.now (changed ds.now (edit ds.now (E.edited rule.now)) keys.now) ≡ None → IsSound (changed ds.now (edit ds.now (E.edited rule.now)) keys.now) }
+    ensures { IfOk result (Plans ds.now (closing ds.now limit named.now (done (changed ds.now (edit ds.now (E.edited rule.now)) keys.now)))) }
+{
+    let draft = edited_draft(ds, keys, rule)?;
+    closed(ds, draft, named, limit, Keys::new(ds.alloc()))
 }

@@ -1,16 +1,18 @@
 //! What a command does, and how the history of a session knows it.
 //!
-//! A *job* is one command with its arguments; a *tool* is a box that runs the jobs of one verb over a data set,
-//! keeps the patch of each job that it did, and can take the last one back or do it again. What each job means,
-//! its reply and the new table, is one small definition in `specs/`: `plain`. A tool is proved to do just that.
+//! A *job* is one step of a script with its arguments. A *command* plans the jobs of one verb: it is lent the data set
+//! and answers a draft of the change, or a refusal. A *tool* runs jobs over the data set, keeps the patch of each that
+//! it did, and can take the last one back or do it again; `Undoable` is the tool of any command. What each job means,
+//! its reply and the new table, is one small definition in `specs/`: `plain`. A command is proved to plan just that.
 //!
 //! To add a command: add its variant to `Job` (and to `Refusal`, with the next number, where it refuses in a new
 //! way); write its definition in a file of `specs/` from the words of `specs/Tests`, `Changes` and `Closing`, with
-//! a worked example in `proofs/Examples`; add its line to `outcome` in `specs/Plain`; then write its tool over the
-//! calls of this crate: the tests, a draft of the change, and `finish`.
+//! a worked example in `proofs/Examples`; add its line to `outcome` in `specs/Plain`; then write its `Command` over the
+//! calls of this crate: the tests, a draft of the change, and `closed`.
 #![tactic(auto)]
 
 mod closing;
+mod command;
 mod contents;
 mod deletion;
 mod edits;
@@ -19,23 +21,27 @@ mod key_set;
 mod kinds;
 mod nodes;
 mod order;
+mod plan;
 mod refusal;
 mod reply;
 mod steps;
 mod tests;
 mod tool;
+mod undoable;
 mod uses;
 mod verb;
 
-pub use closing::{accept, closing_tests, finish, room_test};
+pub use closing::{accept, closed, closing_tests, finish, room_test};
+pub use command::Command;
 pub use contents::{content_of, is_relation, refs_at};
 pub use deletion::delete_all;
-pub use edits::{EditContent, edit_all, edited_draft};
+pub use edits::{EditContent, edit_all, edited_draft, edits_plan};
 pub use job::Job;
 pub use key_set::{KeySet, distinct};
 pub use kinds::Kinds;
 pub use nodes::node_keys;
 pub use order::ranked;
+pub use plan::Plan;
 pub use refusal::Refusal;
 pub use reply::Reply;
 pub use steps::Steps;
@@ -43,5 +49,6 @@ pub use tests::{
     complete_test, is_named, list_tests, reference_tests, target_test, target_tests, twice_test,
 };
 pub use tool::Tool;
+pub use undoable::Undoable;
 pub use uses::{all_users, use_test, use_tests};
 pub use verb::Verb;

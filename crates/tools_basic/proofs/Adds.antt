@@ -14,7 +14,6 @@ use Rattle.tool_api.specs.Tests.{ref_tests}
 use Rattle.tool_api.specs.Changes.{new_key, added}
 use Rattle.tool_api.specs.Closing.{closing}
 use Rattle.tool_api.specs.Basic.{add}
-use Rattle.tool_api.specs.Plain.{answered}
 
 pub drafted_added : (t : TableValue) (c : Content) (k : Key) (kind : Kind) (d : DraftValue) → d ≡ record { puts = fin.insert fin.empty k (Some (Known New (Some c) None)); next = t.next + 1 }
     → k ≡ new_key kind t.next → kind ≡ kind_of_content c → drafted d t ≡ added t c
@@ -25,5 +24,5 @@ drafted_added t c k kind d put key same =
     ∙ ap (λ (x : Key). record { entries = fin.insert t.entries x (Known New (Some c) None); next = t.next + 1 }) (key ∙ ap (λ (x : Kind). new_key x t.next) same)
 
 pub add_ends : (t u : TableValue) (c : Content) (limit : ℕ) (named keys : List Key) (k : Key) (kind : Kind) → ref_tests t (refs_of c) ≡ None → named ≡ [] → keys ≡ k ∷ []
-    → k ≡ new_key kind t.next → kind ≡ kind_of_content c → u ≡ added t c → answered t (closing t limit named (record { keys = keys; table = u })) ≡ answered t (add t limit c)
+    → k ≡ new_key kind t.next → kind ≡ kind_of_content c → u ≡ added t c → closing t limit named (record { keys = keys; table = u }) ≡ add t limit c
 add_ends t u c limit named keys k kind passed nil one key same is = rw (nil, one, key, same, is, passed) refl

@@ -1,5 +1,4 @@
 pub mod Adds
-pub mod Edited
 pub mod Moved
 pub mod Replaced
 pub mod Retags

@@ -1,5 +1,5 @@
 -- A move keeps the table sound, and ends as the definition says.
-use Rattle.std.proofs.Common.{◌≡◌, ℕ, ℤ, true, List, [], Some, None, refl, sym, ap, ◌∙◌, subst}
+use Rattle.std.proofs.Common.{◌≡◌, ℕ, ℤ, true, List, Some, None, refl, sym, ap, ◌∙◌, subst}
 use mathlib.Core.Logic.{inl}
 use Rattle.osm_base.specs.Content.{refers, kind_of_content}
 use Rattle.osm_base.specs.declared.coord.Coord.{Coord}
@@ -12,9 +12,8 @@ use Rattle.osm_table.specs.Table.{TableValue, entry_of, IsThere}
 use Rattle.dataset.specs.Sound.{IsSound}
 use Rattle.tool_api.specs.declared.kinds.Kinds.TheVariants.{NodesAndWays}
 use Rattle.tool_api.specs.Basic.{shift, moved, moved_nodes, move_entry_test, with_place}
-use Rattle.tool_api.specs.Changes.{changed, edit}
+use Rattle.tool_api.specs.Changes.{changed, edit, done}
 use Rattle.tool_api.specs.Closing.{closing, closing_tests}
-use Rattle.tool_api.specs.Plain.{answered}
 use Rattle.tool_api.specs.Tests.{first_of, is_named, list_tests}
 use Rattle.tool_api.proofs.Passed.{Lives, lives, passes}
 use Rattle.tool_api.proofs.Sounds.{edit_sound}
@@ -45,23 +44,18 @@ moved_lives t keys dx dy s passed movable k e named is =
     move_lives dx dy k e (subst IsThere is (moved_there t keys k s passed named))
     (ap (move_entry_test dx dy k) (sym is) ∙ passes (λ n. move_entry_test dx dy n (entry_of t n)) (moved_nodes t keys) k movable named)
 
--- the table of a move
-abbrev pub shifted_table : TableValue → List Key → ℤ → ℤ → TableValue
-shifted_table t keys dx dy = changed t (edit t (with_place (moved dx dy))) (moved_nodes t keys)
+-- the table of a move of nodes
+abbrev pub with_moved : TableValue → ℤ → ℤ → List Key → TableValue
+with_moved t dx dy nodes = changed t (edit t (with_place (moved dx dy))) nodes
 
-pub shift_sound : (t u : TableValue) (ks nodes : List Key) (dx dy : ℤ) (limit : ℕ) → list_tests t NodesAndWays ks ≡ None → nodes ≡ moved_nodes t ks
-    → first_of (λ n. move_entry_test dx dy n (entry_of t n)) nodes ≡ None → u ≡ changed t (edit t (with_place (moved dx dy))) nodes → IsSound t → closing_tests t limit ks u ≡ None → IsSound u
-shift_sound t u ks nodes dx dy limit passed are movable is s closed =
-    let to : u ≡ shifted_table t ks dx dy = is ∙ ap (changed t (edit t (with_place (moved dx dy)))) are in
-    let all : first_of (λ n. move_entry_test dx dy n (entry_of t n)) (moved_nodes t ks) ≡ None = ap (first_of (λ n. move_entry_test dx dy n (entry_of t n))) (sym are) ∙ movable in
-    subst IsSound (sym to)
-    (edit_sound t (with_place (moved dx dy)) (moved_nodes t ks) limit ks (place_kind (moved dx dy)) (λ c r used. inl (sym (place_refs (moved dx dy) c r) ∙ used))
-    (moved_lives t ks dx dy s passed all) s (ap (closing_tests t limit ks) (sym to) ∙ closed))
+pub shift_sound : (t : TableValue) (ks nodes : List Key) (dx dy : ℤ) (limit : ℕ) → list_tests t NodesAndWays ks ≡ None → nodes ≡ moved_nodes t ks → IsSound t
+    → first_of (λ n. move_entry_test dx dy n (entry_of t n)) nodes ≡ None → closing_tests t limit ks (with_moved t dx dy nodes) ≡ None → IsSound (with_moved t dx dy nodes)
+shift_sound t ks nodes dx dy limit passed are s =
+    subst (λ ns. first_of (λ n. move_entry_test dx dy n (entry_of t n)) ns ≡ None → closing_tests t limit ks (with_moved t dx dy ns) ≡ None → IsSound (with_moved t dx dy ns)) (sym are)
+    (λ movable closed. edit_sound t (with_place (moved dx dy)) (moved_nodes t ks) limit ks (place_kind (moved dx dy)) (λ c r used. inl (sym (place_refs (moved dx dy) c r) ∙ used))
+    (moved_lives t ks dx dy s passed movable) s closed)
 
-pub shift_ends : (t u : TableValue) (ks nodes keys : List Key) (dx dy : ℤ) (limit : ℕ) → list_tests t NodesAndWays ks ≡ None → nodes ≡ moved_nodes t ks
-    → first_of (λ n. move_entry_test dx dy n (entry_of t n)) nodes ≡ None → u ≡ changed t (edit t (with_place (moved dx dy))) nodes → keys ≡ []
-    → answered t (closing t limit ks (record { keys = keys; table = u })) ≡ answered t (shift t limit ks dx dy)
-shift_ends t u ks nodes keys dx dy limit passed are movable is none =
-    let to : u ≡ shifted_table t ks dx dy = is ∙ ap (changed t (edit t (with_place (moved dx dy)))) are in
-    let all : first_of (λ n. move_entry_test dx dy n (entry_of t n)) (moved_nodes t ks) ≡ None = ap (first_of (λ n. move_entry_test dx dy n (entry_of t n))) (sym are) ∙ movable in
-    rw (none, to, passed, all) refl
+pub shift_ends : (t : TableValue) (ks nodes : List Key) (dx dy : ℤ) (limit : ℕ) → list_tests t NodesAndWays ks ≡ None → nodes ≡ moved_nodes t ks
+    → first_of (λ n. move_entry_test dx dy n (entry_of t n)) nodes ≡ None → closing t limit ks (done (with_moved t dx dy nodes)) ≡ shift t limit ks dx dy
+shift_ends t ks nodes dx dy limit passed are =
+    subst (λ ns. first_of (λ n. move_entry_test dx dy n (entry_of t n)) ns ≡ None → closing t limit ks (done (with_moved t dx dy ns)) ≡ shift t limit ks dx dy) (sym are) (λ movable. rw (passed, movable) refl)

@@ -1,24 +1,24 @@
 //! Adds an object.
-ghost use Rattle.std.specs.Prelude.{◌≡◌, ◌+◌, ◌∷◌, [], Some, None, IfOk, OnOk, OnErr};
+ghost use Rattle.std.specs.Prelude.{◌≡◌, ◌+◌, ◌∷◌, [], Some, None, IfOk};
 ghost use Rattle.std.specs.FinMap as fin;
 ghost use Rattle.osm_table.specs.declared.entry.Base.TheVariants.{New};
 ghost use Rattle.osm_table.specs.declared.entry.Entry.TheVariants.{Known};
+ghost use Rattle.dataset.specs.Sound.{IsSound};
 ghost use Rattle.tool_api.specs.Basic.{add};
 ghost use Rattle.tool_api.specs.Changes.{new_key};
-ghost use Rattle.tool_api.specs.Patches.{Kept};
-ghost use Rattle.tool_api.specs.Plain.{answered};
+ghost use Rattle.tool_api.specs.Planned.{Plans};
 
-use dataset::{DataSet, Draft, Patch};
+use dataset::{DataSet, Draft};
 use osm_base::{Content, Key, Keys, Kind, push_references};
 use osm_table::{Base, Entry};
 use std::alloc::{AllocError, Global};
-use tool_api::{Job, Reply, Steps, Tool, Verb, finish, reference_tests};
+use tool_api::{Command, Job, Plan, Undoable, Verb, closed, reference_tests};
 
 /// The key of the next new object.
 fn next_key(ds: &DataSet, kind: Kind) -> Key
+    requires { IsSound ds.now }
     ensures { result ≡ new_key kind ds.now.next }
 {
-    ds.sound();
     Key {
         kind,
         id: ds.next_id(),
@@ -35,9 +35,9 @@ fn one_key(alloc: Global, key: Key) -> Result<Keys, AllocError>
 
 /// The draft that puts a new object, and raises the number.
 fn new_draft(ds: &DataSet, key: Key, content: Content) -> Result<Draft, AllocError>
+    requires { IsSound ds.now }
     ensures { IfOk result (λ draft. draft ≡ record { puts = fin.insert fin.empty key (Some (Known New (Some content) None)); next = ds.now.next + 1 }) }
 {
-    ds.sound();
     let mut draft = Draft::new(ds);
     draft.set_next(ds.next() + 1);
     draft.put(
@@ -51,63 +51,39 @@ fn new_draft(ds: &DataSet, key: Key, content: Content) -> Result<Draft, AllocErr
     Ok(draft)
 }
 
-fn add(
-    steps: &mut Steps,
-    ds: &mut DataSet,
-    content: Content,
-    limit: u64,
-) -> Result<Reply, AllocError>
-    ensures reply { IfOk result (λ r. r ≡ (answered ds.old (add ds.old limit content)).reply) }
-    ensures table { OnOk result (ds.new ≡ (answered ds.old (add ds.old limit content)).table) }
-    ensures done { IfOk result (λ r. Kept r ds.old ds.new steps.old.0 steps.new.0) }
-    ensures undone { steps.new.1 ≡ steps.old.1 }
-    ensures err_table { OnErr result (ds.new ≡ ds.old) }
-    ensures err_done { OnErr result (steps.new.0 ≡ steps.old.0) }
+fn add_plan(ds: &DataSet, content: Content, limit: u64) -> Result<Plan, AllocError>
+    requires sound { IsSound ds.now }
+    ensures { IfOk result (Plans ds.now (add ds.now limit content)) }
 {
     let mut refs = Vec::new(ds.alloc());
     push_references(&content, &mut refs)?;
     if let Some(refusal) = reference_tests(ds, &refs) {
-        return Ok(Reply::Refused(refusal));
+        return Ok(Plan::Refused(refusal));
     }
-    ds.sound();
     let key = next_key(ds, content.kind());
-    let keys = one_key(ds.alloc(), key)?;
+    let made = one_key(ds.alloc(), key)?;
     let draft = new_draft(ds, key, content)?;
-    finish(steps, ds, &draft, &[], limit, keys)
+    closed(ds, draft, &[], limit, made)
 }
 
 /// Adds nodes, ways and relations. A new object's id is minus the number of the next one.
 #[derive(Drop)]
-pub struct AddTool {
-    steps: Steps,
-}
+pub struct Add {}
 
-impl AddTool {
-    /// A tool that has done nothing. It takes no memory.
-    pub fn new(alloc: Global) -> AddTool
-        ensures done { ⟦<AddTool as Tool>⟧.done result ≡ [] }
-        ensures undone { ⟦<AddTool as Tool>⟧.undone result ≡ [] }
-    {
-        AddTool {
-            steps: Steps::new(alloc),
-        }
+impl Command for Add {
+    ghost use Rattle.tool_api.specs.declared.verb.Verb.TheVariants as verb;
+
+    ghost kind = { verb.Add };
+
+    fn new() -> Add {
+        Add {}
     }
-}
-
-impl Tool for AddTool {
-    ghost use Rattle.tool_api.specs.declared.verb.Verb.TheVariants.{Add};
-
-    ghost kind = { λ _. Add };
-
-    ghost done = { λ t. t.steps.0 };
-
-    ghost undone = { λ t. t.steps.1 };
 
     fn verb(&self) -> Verb {
         Verb::Add
     }
 
-    fn run(&mut self, ds: &mut DataSet, job: &Job, limit: u64) -> Result<Reply, AllocError> {
+    fn plan(&self, ds: &DataSet, job: &Job, limit: u64) -> Result<Plan, AllocError> {
         let content = match job {
             Job::AddNode { tags, at } => Content::Node {
                 tags: tags.copy()?,
@@ -123,35 +99,18 @@ impl Tool for AddTool {
             },
             _ => unreachable!(),
         };
-        add(&mut self.steps, ds, content, limit)
-    }
-
-    fn undo(&mut self, ds: &mut DataSet) -> Result<(), AllocError> {
-        self.steps.undo(ds)
-    }
-
-    fn redo(&mut self, ds: &mut DataSet) -> Result<(), AllocError> {
-        self.steps.redo(ds)
-    }
-
-    fn drop_undone(&mut self) {
-        self.steps.drop_undone()
-    }
-
-    fn clear(&mut self) {
-        self.steps.clear()
-    }
-
-    fn last(&self) -> Option<&Patch> {
-        self.steps.last()
+        add_plan(ds, content, limit)
     }
 }
+
+pub type AddTool = Undoable<Add>;
 
 #[cfg(test)]
 mod tests {
     use super::*;
     use osm_base::{Coord, Tags};
     use std::test::Fail;
+    use tool_api::{Reply, Tool};
 
     // Adds a node, and gives its id, or none where it is refused.
     fn add_node(

@@ -1,21 +1,21 @@
 //! Moves nodes.
-ghost use Rattle.std.specs.Prelude.{◌≡◌, ◌++◌, [], None, IfOk, OnOk, OnErr};
+ghost use Rattle.std.specs.Prelude.{◌≡◌, ◌++◌, None, IfOk, OnOk};
 ghost use Rattle.std.specs.Option.{option_copied};
 ghost use Rattle.osm_table.specs.Table.{entry_of};
+ghost use Rattle.dataset.specs.Sound.{IsSound};
 ghost use Rattle.tool_api.specs.declared.kinds.Kinds.TheVariants.{NodesAndWays};
 ghost use Rattle.tool_api.specs.Basic.{shift, moved, moved_nodes, move_entry_test};
 ghost use Rattle.tool_api.specs.Changes.{content_of};
-ghost use Rattle.tool_api.specs.Patches.{Kept};
-ghost use Rattle.tool_api.specs.Plain.{answered};
+ghost use Rattle.tool_api.specs.Planned.{Plans};
 ghost use Rattle.tool_api.specs.Tests.{first_of, list_tests};
 ghost use Rattle.tools_basic.specs.Moves.{moved_with, all_moved_with};
 
-use dataset::{DataSet, Patch};
-use osm_base::{Content, Coord, Key, Keys, shift};
+use dataset::DataSet;
+use osm_base::{Content, Coord, Key, shift};
 use osm_table::Entry;
-use std::alloc::{AllocError, Global};
+use std::alloc::AllocError;
 use tool_api::{
-    EditContent, Job, Kinds, Refusal, Reply, Steps, Tool, Verb, content_of, edited_draft, finish,
+    Command, EditContent, Job, Kinds, Plan, Refusal, Undoable, Verb, content_of, edits_plan,
     list_tests, node_keys, ranked,
 };
 
@@ -76,10 +76,10 @@ fn collected(ds: &DataSet, keys: &[Key]) -> Result<Vec<Key>, AllocError>
 
 /// The nodes named and those of the ways named, by rank, each once. A look-up for each of the keys, and one sort.
 fn moved_nodes(ds: &DataSet, keys: &[Key]) -> Result<Vec<Key>, AllocError>
+    requires sound { IsSound ds.now }
     requires passed { list_tests ds.now NodesAndWays keys.now ≡ None }
     ensures { IfOk result (λ nodes. nodes.items ≡ moved_nodes ds.now keys.now) }
 {
-    ds.sound();
     ranked(collected(ds, keys)?)
 }
 
@@ -122,91 +122,46 @@ fn move_tests(ds: &DataSet, nodes: &[Key], by: &Offset) -> Option<Refusal>
     None
 }
 
-fn shift_nodes(
-    steps: &mut Steps,
-    ds: &mut DataSet,
-    keys: &[Key],
-    by: &Offset,
-    limit: u64,
-) -> Result<Reply, AllocError>
-    ensures reply { IfOk result (λ r. r ≡ (answered ds.old (shift ds.old limit keys.now by.now.dx by.now.dy)).reply) }
-    ensures table { OnOk result (ds.new ≡ (answered ds.old (shift ds.old limit keys.now by.now.dx by.now.dy)).table) }
-    ensures done { IfOk result (λ r. Kept r ds.old ds.new steps.old.0 steps.new.0) }
-    ensures undone { steps.new.1 ≡ steps.old.1 }
-    ensures err_table { OnErr result (ds.new ≡ ds.old) }
-    ensures err_done { OnErr result (steps.new.0 ≡ steps.old.0) }
+fn shift_plan(ds: &DataSet, keys: &[Key], by: &Offset, limit: u64) -> Result<Plan, AllocError>
+    requires sound { IsSound ds.now }
+    ensures { IfOk result (Plans ds.now (shift ds.now limit keys.now by.now.dx by.now.dy)) }
 {
     if let Some(refusal) = list_tests(ds, Kinds::NodesAndWays, keys)? {
-        return Ok(Reply::Refused(refusal));
+        return Ok(Plan::Refused(refusal));
     }
     let nodes = moved_nodes(ds, keys)?;
     if let Some(refusal) = move_tests(ds, &nodes, by) {
-        return Ok(Reply::Refused(refusal));
+        return Ok(Plan::Refused(refusal));
     }
-    ds.sound();
-    let draft = edited_draft(ds, &nodes, by)?;
-    let made = Keys::new(ds.alloc());
-    finish(steps, ds, &draft, keys, limit, made)
+    edits_plan(ds, &nodes, by, keys, limit)
 }
 
 /// Moves the nodes that are named and those of the ways that are named, each once.
 #[derive(Drop)]
-pub struct MoveTool {
-    steps: Steps,
-}
+pub struct Move {}
 
-impl MoveTool {
-    /// A tool that has done nothing. It takes no memory.
-    pub fn new(alloc: Global) -> MoveTool
-        ensures done { ⟦<MoveTool as Tool>⟧.done result ≡ [] }
-        ensures undone { ⟦<MoveTool as Tool>⟧.undone result ≡ [] }
-    {
-        MoveTool {
-            steps: Steps::new(alloc),
-        }
+impl Command for Move {
+    ghost use Rattle.tool_api.specs.declared.verb.Verb.TheVariants as verb;
+
+    ghost kind = { verb.Move };
+
+    fn new() -> Move {
+        Move {}
     }
-}
-
-impl Tool for MoveTool {
-    ghost use Rattle.tool_api.specs.declared.verb.Verb.TheVariants.{Move};
-
-    ghost kind = { λ _. Move };
-
-    ghost done = { λ t. t.steps.0 };
-
-    ghost undone = { λ t. t.steps.1 };
 
     fn verb(&self) -> Verb {
         Verb::Move
     }
 
-    fn run(&mut self, ds: &mut DataSet, job: &Job, limit: u64) -> Result<Reply, AllocError> {
+    fn plan(&self, ds: &DataSet, job: &Job, limit: u64) -> Result<Plan, AllocError> {
         match job {
             Job::Shift { keys, dx, dy } => {
                 let by = Offset { dx: *dx, dy: *dy };
-                shift_nodes(&mut self.steps, ds, keys.as_slice(), &by, limit)
+                shift_plan(ds, keys.as_slice(), &by, limit)
             }
             _ => unreachable!(),
         }
     }
-
-    fn undo(&mut self, ds: &mut DataSet) -> Result<(), AllocError> {
-        self.steps.undo(ds)
-    }
-
-    fn redo(&mut self, ds: &mut DataSet) -> Result<(), AllocError> {
-        self.steps.redo(ds)
-    }
-
-    fn drop_undone(&mut self) {
-        self.steps.drop_undone()
-    }
-
-    fn clear(&mut self) {
-        self.steps.clear()
-    }
-
-    fn last(&self) -> Option<&Patch> {
-        self.steps.last()
-    }
 }
+
+pub type MoveTool = Undoable<Move>;

@@ -1,15 +1,14 @@
 //! Sets tags.
-ghost use Rattle.std.specs.Prelude.{◌≡◌, ◌<◌, [], T, length, IfOk, OnOk, OnErr};
+ghost use Rattle.std.specs.Prelude.{◌≡◌, ◌<◌, T, length, IfOk, OnOk};
 ghost use Rattle.osm_base.specs.Tags.{are_tags};
+ghost use Rattle.dataset.specs.Sound.{IsSound};
 ghost use Rattle.tool_api.specs.Basic.{retag_one, retagged, set_tags};
-ghost use Rattle.tool_api.specs.Patches.{Kept};
-ghost use Rattle.tool_api.specs.Plain.{answered};
+ghost use Rattle.tool_api.specs.Planned.{Plans};
 
-use crate::edit::edit_each;
-use dataset::{DataSet, Patch};
+use dataset::DataSet;
 use osm_base::{Content, Key, Tags, Text};
-use std::alloc::{AllocError, Global};
-use tool_api::{EditContent, Job, Kinds, Reply, Steps, Tool, Verb, list_tests};
+use std::alloc::AllocError;
+use tool_api::{Command, EditContent, Job, Kinds, Plan, Undoable, Verb, edits_plan, list_tests};
 
 /// Sets a pair with a value, or removes the key with an empty one. A binary search.
 fn retag_one(tags: &mut Tags, key: &Text, value: &Text) -> Result<(), AllocError>
@@ -65,85 +64,39 @@ impl<'a> EditContent for Retag<'a> {
     }
 }
 
-fn set_tags(
-    steps: &mut Steps,
-    ds: &mut DataSet,
-    keys: &[Key],
-    pairs: &Tags,
-    limit: u64,
-) -> Result<Reply, AllocError>
-    ensures reply { IfOk result (λ r. r ≡ (answered ds.old (set_tags ds.old limit keys.now pairs.now)).reply) }
-    ensures table { OnOk result (ds.new ≡ (answered ds.old (set_tags ds.old limit keys.now pairs.now)).table) }
-    ensures done { IfOk result (λ r. Kept r ds.old ds.new steps.old.0 steps.new.0) }
-    ensures undone { steps.new.1 ≡ steps.old.1 }
-    ensures err_table { OnErr result (ds.new ≡ ds.old) }
-    ensures err_done { OnErr result (steps.new.0 ≡ steps.old.0) }
+fn tags_plan(ds: &DataSet, keys: &[Key], pairs: &Tags, limit: u64) -> Result<Plan, AllocError>
+    requires sound { IsSound ds.now }
+    ensures { IfOk result (Plans ds.now (set_tags ds.now limit keys.now pairs.now)) }
 {
     if let Some(refusal) = list_tests(ds, Kinds::Any, keys)? {
-        return Ok(Reply::Refused(refusal));
+        return Ok(Plan::Refused(refusal));
     }
-    ds.sound();
-    let rule = Retag { pairs };
-    edit_each(steps, ds, keys, &rule, limit)
+    edits_plan(ds, keys, &Retag { pairs }, keys, limit)
 }
 
 /// Sets tags of objects, and removes those whose new value is empty.
 #[derive(Drop)]
-pub struct TagTool {
-    steps: Steps,
-}
+pub struct Tag {}
 
-impl TagTool {
-    /// A tool that has done nothing. It takes no memory.
-    pub fn new(alloc: Global) -> TagTool
-        ensures done { ⟦<TagTool as Tool>⟧.done result ≡ [] }
-        ensures undone { ⟦<TagTool as Tool>⟧.undone result ≡ [] }
-    {
-        TagTool {
-            steps: Steps::new(alloc),
-        }
+impl Command for Tag {
+    ghost use Rattle.tool_api.specs.declared.verb.Verb.TheVariants as verb;
+
+    ghost kind = { verb.Tag };
+
+    fn new() -> Tag {
+        Tag {}
     }
-}
-
-impl Tool for TagTool {
-    ghost use Rattle.tool_api.specs.declared.verb.Verb.TheVariants.{Tag};
-
-    ghost kind = { λ _. Tag };
-
-    ghost done = { λ t. t.steps.0 };
-
-    ghost undone = { λ t. t.steps.1 };
 
     fn verb(&self) -> Verb {
         Verb::Tag
     }
 
-    fn run(&mut self, ds: &mut DataSet, job: &Job, limit: u64) -> Result<Reply, AllocError> {
+    fn plan(&self, ds: &DataSet, job: &Job, limit: u64) -> Result<Plan, AllocError> {
         match job {
-            Job::SetTags { keys, tags } => {
-                set_tags(&mut self.steps, ds, keys.as_slice(), tags, limit)
-            }
+            Job::SetTags { keys, tags } => tags_plan(ds, keys.as_slice(), tags, limit),
             _ => unreachable!(),
         }
     }
-
-    fn undo(&mut self, ds: &mut DataSet) -> Result<(), AllocError> {
-        self.steps.undo(ds)
-    }
-
-    fn redo(&mut self, ds: &mut DataSet) -> Result<(), AllocError> {
-        self.steps.redo(ds)
-    }
-
-    fn drop_undone(&mut self) {
-        self.steps.drop_undone()
-    }
-
-    fn clear(&mut self) {
-        self.steps.clear()
-    }
-
-    fn last(&self) -> Option<&Patch> {
-        self.steps.last()
-    }
 }
+
+pub type TagTool = Undoable<Tag>;

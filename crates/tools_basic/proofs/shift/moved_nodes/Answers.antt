@@ -6,4 +6,4 @@ use Rattle.tools_basic.proofs.shift.moved_nodes.Goals as goal
 
 pub returns : goal.returns
 returns c =
-    subst (λ (ks : List Key). IfOk c.ranked.result (λ nodes. nodes.items ≡ ks)) (ap ranked c.in_ok-collected.ensures ∙ moved_is c.args.ds.now c.args.keys.now c.sound.ensures c.requires.passed) c.ranked.ensures
+    subst (λ (ks : List Key). IfOk c.ranked.result (λ nodes. nodes.items ≡ ks)) (ap ranked c.in_ok-collected.ensures ∙ moved_is c.args.ds.now c.args.keys.now c.requires.sound c.requires.passed) c.ranked.ensures

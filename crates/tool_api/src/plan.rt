@@ -1,0 +1,13 @@
+//! What a job comes to.
+use crate::refusal::Refusal;
+use dataset::Draft;
+use osm_base::Keys;
+
+/// What a job comes to, before anything has changed.
+#[derive(Drop)]
+pub enum Plan {
+    /// Why nothing is to change.
+    Refused(Refusal),
+    /// What is to change, and the keys of what that makes.
+    Change { draft: Draft, made: Keys },
+}
