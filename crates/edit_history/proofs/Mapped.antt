@@ -8,8 +8,12 @@ use Rattle.dataset.specs.Diff.{diff}
 use Rattle.tool_api.specs.declared.reply.Reply.{Reply}
 use Rattle.tool_api.specs.declared.reply.Reply.TheVariants.{Done, Refused}
 use Rattle.osm_table.specs.Table.{TableValue}
-use Rattle.tool_api.specs.Patches.{Kept}
-use Rattle.edit_history.specs.Trail.{KeptAt}
+use Rattle.tool_api.specs.Patches.{Kept, last_patch, front, first_patch, rest}
+use Rattle.edit_history.specs.declared.sides.Direction.{Direction}
+use Rattle.edit_history.specs.declared.sides.Direction.TheVariants.{Back, On}
+use Rattle.edit_history.specs.Ways.{opposite, pick}
+use Rattle.edit_history.specs.Trail.{KeptAt, LeadsOff, LeadsTo, led, next_patch, others, others_at, with_next, with_next_at}
+use Rattle.dataset.specs.Sound.{IsSound}
 
 -- f of the i-th becomes h of what g and f were there
 pub set_mapped : {X Y Z : Type 0} (f : X → Y) (g : X → Z) (h : Z → Y → Y) (xs : List X) (i : ℕ) (x w : X) (e : Y) (z : Z) → i < length xs → x ≡ get_or xs i x → f w ≡ h (g x) (f x) → map f (slice_set xs i w) ≡ slice_set (map f xs) i (h (get_or (map g xs) i z) (get_or (map f xs) i e))
@@ -23,6 +27,41 @@ set_mapped f g h xs i x w e z lt is to =
 pub set_alike : {X Y : Type 0} (f : X → Y) (xs : List X) (i : ℕ) (x w : X) → i < length xs → x ≡ get_or xs i x → f w ≡ f x → map f (slice_set xs i w) ≡ map f xs
 set_alike f xs i x w lt is to =
     map-set f xs i w ∙ ap (slice_set (map f xs) i) (to ∙ ap f is ∙ sym (get_or-map f xs i x (f x) lt)) ∙ set-get_or (map f xs) i (f x)
+
+-- what the i-th box keeps this way
+picked : {X : Type 0} (way : Direction) (f g : X → List PatchValue) (xs : List X) (i : ℕ) (x : X) → i < length xs → x ≡ get_or xs i x → get_or (pick way (map f xs) (map g xs)) i [] ≡ pick way (f x) (g x)
+picked Back f g xs i x lt is = get_or-map f xs i x [] lt ∙ sym (ap f is)
+picked On f g xs i x lt is = get_or-map g xs i x [] lt ∙ sym (ap g is)
+
+pub within_pick : {X : Type 0} (way : Direction) (f g : X → List PatchValue) (xs : List X) (i : ℕ) → i < length (pick way (map f xs) (map g xs)) → i < length xs
+within_pick Back f g xs i lt = omega (arith, length-map xs f)
+within_pick On f g xs i lt = omega (arith, length-map xs g)
+
+-- the next patch of that box leads off
+pub record LeadsOne (way : Direction) (ps : List PatchValue) (t : TableValue) : Type 0 where
+  pub some : 0 < length ps
+  pub leads : LeadsTo way (next_patch way ps) t (led way (next_patch way ps) t)
+  pub sound : IsSound (led way (next_patch way ps) t)
+
+pub leads_one : {X : Type 0} (way : Direction) (f g : X → List PatchValue) (xs : List X) (i : ℕ) (x : X) (t : TableValue) → x ≡ get_or xs i x → LeadsOff way (pick way (map f xs) (map g xs)) i t → LeadsOne way (pick way (f x) (g x)) t
+leads_one way f g xs i x t is h =
+    rw (sym (picked way f g xs i x (within_pick way f g xs i h.within) is)) (record { some = h.some; leads = h.leads; sound = h.sound })
+
+-- it has the others then, and one more the other way
+pub others_set : {X : Type 0} (way : Direction) (f g : X → List PatchValue) (xs : List X) (i : ℕ) (x w : X) → i < length xs → x ≡ get_or xs i x → pick way (f w) (g w) ≡ others way (pick way (f x) (g x)) →
+    pick way (map f (slice_set xs i w)) (map g (slice_set xs i w)) ≡ others_at way (pick way (map f xs) (map g xs)) i
+others_set Back f g xs i x w lt is to = set_mapped f f (λ (_ v : List PatchValue). front v) xs i x w [] [] lt is to
+others_set On f g xs i x w lt is to = set_mapped g g (λ (_ v : List PatchValue). rest v) xs i x w [] [] lt is to
+
+pub next_set : {X : Type 0} (way : Direction) (f g : X → List PatchValue) (xs : List X) (i : ℕ) (x w : X) → i < length xs → x ≡ get_or xs i x → pick (opposite way) (f w) (g w) ≡ with_next (opposite way) (next_patch way (pick way (f x) (g x))) (pick (opposite way) (f x) (g x)) →
+    pick (opposite way) (map f (slice_set xs i w)) (map g (slice_set xs i w)) ≡ with_next_at (opposite way) (next_patch way (get_or (pick way (map f xs) (map g xs)) i [])) (pick (opposite way) (map f xs) (map g xs)) i
+next_set Back f g xs i x w lt is to = set_mapped g f (λ (v u : List PatchValue). last_patch v ∷ u) xs i x w [] [] lt is to
+next_set On f g xs i x w lt is to = set_mapped f g (λ (v u : List PatchValue). u ++ first_patch v ∷ []) xs i x w [] [] lt is to
+
+-- the table that it leads to
+pub led_set : {X : Type 0} (way : Direction) (f g : X → List PatchValue) (xs : List X) (i : ℕ) (x : X) (t u : TableValue) → i < length xs → x ≡ get_or xs i x → u ≡ led way (next_patch way (pick way (f x) (g x))) t →
+    u ≡ led way (next_patch way (get_or (pick way (map f xs) (map g xs)) i [])) t
+led_set way f g xs i x t u lt is to = to ∙ ap (λ (ps : List PatchValue). led way (next_patch way ps) t) (sym (picked way f g xs i x lt is))
 
 -- one more is empty
 pub cleared_more : {X Y : Type 0} (f : X → List Y) (xs : List X) (i : ℕ) (w : X) → i < length xs → f w ≡ [] → ((k : ℕ) → k < i → get_or (map f xs) k [] ≡ []) → (k : ℕ) → k < i + 1 → get_or (map f (slice_set xs i w)) k [] ≡ []

@@ -1,129 +1,103 @@
 -- Steps of a history are steps of the machine.
-use Rattle.std.proofs.Common.{◌≡◌, ℕ, suc, zero, ◌<◌, ◌≤◌, ◌+◌, ◌-◌, List, [], ◌∷◌, length, take, drop, sym, ◌∙◌, ap, refl, arith, zero-add, false, true, length-drop, nat_le}
+use Rattle.std.proofs.Common.{◌≡◌, ℕ, suc, zero, ◌<◌, ◌≤◌, ◌+◌, ◌-◌, List, [], ◌∷◌, length, take, drop, sym, ◌∙◌, ap, refl, arith, zero-add, false, true, nat_le, Bool, if◌then◌else◌}
 use Rattle.std.proofs.lemmas.Bool.Decides.{nat_tests}
 use Rattle.std.proofs.lemmas.List.{length-take-le}
 use Rattle.osm_table.specs.Table.{TableValue}
-use Rattle.dataset.specs.Patch.{PatchValue, after_of, before_of}
-use Rattle.edit_history.specs.Trail.{LeadsBack, LeadsOn, back_by, on_by, onto}
-use Rattle.edit_history.specs.Machine.{State}
-use Rattle.edit_history.specs.Single.{undo_1, redo_1}
-use Rattle.edit_history.specs.Shown.{pasts, nexts, state_of}
-use Rattle.edit_history.specs.Trail.{behind, ahead}
-use Rattle.edit_history.proofs.Tables.{length-behind, length-ahead}
+use Rattle.dataset.specs.Patch.{PatchValue}
+use Rattle.tool_api.specs.declared.reply.Reply.{Reply}
 use Rattle.edit_history.specs.declared.counts.Group.{Group}
+use Rattle.edit_history.specs.declared.counts.Counts.{Counts}
+use Rattle.edit_history.specs.declared.sides.Direction.{Direction}
+use Rattle.edit_history.specs.declared.sides.Direction.TheVariants.{Back, On}
+use Rattle.edit_history.specs.declared.sides.Sides.{Sides}
+use Rattle.edit_history.specs.Ways.{opposite, pick, side, Passed}
+use Rattle.edit_history.specs.Trail.{LeadAlong, Went, led, led_by, onto, trail}
+use Rattle.edit_history.specs.Machine.{State, ran}
+use Rattle.edit_history.specs.Single.{go_1, go_n, tables, went}
+use Rattle.edit_history.specs.Moved.{Move, steps_move}
+use Rattle.edit_history.specs.Shown.{ends, state_of}
+use Rattle.edit_history.proofs.Tables.{length-trail}
+use Rattle.edit_history.proofs.Trails.{led_back}
+use Rattle.edit_history.proofs.Closed.{went_is}
 
-pub take_back : (k : ℕ) (ps : List PatchValue) (t : TableValue) → LeadsBack ps t → LeadsBack (take k ps) t
-take_back zero ps t h = tt
-take_back (suc k) [] t h = tt
-take_back (suc k) (p ∷ ps) t h = (h.0, h.1, take_back k ps (before_of p t) h.2)
+take_along : (way : Direction) (k : ℕ) (ps : List PatchValue) (t : TableValue) → LeadAlong way ps t → LeadAlong way (take k ps) t
+take_along way zero ps t h = tt
+take_along way (suc k) [] t h = tt
+take_along way (suc k) (p ∷ ps) t h = (h.0, h.1, take_along way k ps (led way p t) h.2)
 
-pub take_on : (k : ℕ) (ps : List PatchValue) (t : TableValue) → LeadsOn ps t → LeadsOn (take k ps) t
-take_on zero ps t h = tt
-take_on (suc k) [] t h = tt
-take_on (suc k) (p ∷ ps) t h = (h.0, h.1, take_on k ps (after_of p t) h.2)
-
-pub on_again : (qs fs : List PatchValue) (m : ℕ) (t : TableValue) → LeadsBack qs t → on_by (take (length qs + m) (onto qs fs)) (back_by qs t) ≡ on_by (take m fs) t
-on_again [] fs m t h = ap (λ (n : ℕ). on_by (take n fs) t) (zero-add m)
-on_again (q ∷ qs) fs m t h =
+-- the patches that were led over lead back again to t
+again : (way : Direction) (qs fs : List PatchValue) (m : ℕ) (t : TableValue) → LeadAlong way qs t → led_by (opposite way) (take (length qs + m) (onto qs fs)) (led_by way qs t) ≡ led_by (opposite way) (take m fs) t
+again way [] fs m t h = ap (λ (n : ℕ). led_by (opposite way) (take n fs) t) (zero-add m)
+again way (q ∷ qs) fs m t h =
     let e : suc (length qs) + m ≡ length qs + suc m = omega arith in
-    ap (λ (n : ℕ). on_by (take n (onto qs (q ∷ fs))) (back_by qs (before_of q t))) e
-    ∙ on_again qs (q ∷ fs) (suc m) (before_of q t) h.2
-    ∙ ap (λ (u : TableValue). on_by (take m fs) u) (sym h.0.to)
+    ap (λ (n : ℕ). led_by (opposite way) (take n (onto qs (q ∷ fs))) (led_by way qs (led way q t))) e
+    ∙ again way qs (q ∷ fs) (suc m) (led way q t) h.2
+    ∙ ap (λ (u : TableValue). led_by (opposite way) (take m fs) u) (sym (led_back way q t (led way q t) h.0))
 
-pub back_again : (qs ps : List PatchValue) (m : ℕ) (t : TableValue) → LeadsOn qs t → back_by (take (length qs + m) (onto qs ps)) (on_by qs t) ≡ back_by (take m ps) t
-back_again [] ps m t h = ap (λ (n : ℕ). back_by (take n ps) t) (zero-add m)
-back_again (q ∷ qs) ps m t h =
-    let e : suc (length qs) + m ≡ length qs + suc m = omega arith in
-    ap (λ (n : ℕ). back_by (take n (onto qs (q ∷ ps))) (on_by qs (after_of q t))) e
-    ∙ back_again qs (q ∷ ps) (suc m) (after_of q t) h.2
-    ∙ ap (λ (u : TableValue). back_by (take m ps) u) (sym h.0.back)
-
-pub drop_onto : (qs fs : List PatchValue) (m : ℕ) → drop (length qs + m) (onto qs fs) ≡ drop m fs
+drop_onto : (qs fs : List PatchValue) (m : ℕ) → drop (length qs + m) (onto qs fs) ≡ drop m fs
 drop_onto [] fs m = ap (λ (n : ℕ). drop n fs) (zero-add m)
 drop_onto (q ∷ qs) fs m =
     let e : suc (length qs) + m ≡ length qs + suc m = omega arith in
     ap (λ (n : ℕ). drop n (onto qs (q ∷ fs))) e ∙ drop_onto qs (q ∷ fs) (suc m)
 
-pub length-onto : (qs fs : List PatchValue) → length (onto qs fs) ≡ length qs + length fs
-length-onto [] fs = omega arith
-length-onto (q ∷ qs) fs = let e = length-onto qs (q ∷ fs) in omega arith
-
--- lengths of the lists of numbers after k jobs were undone
-pub fewer_behind : (k : ℕ) (bs bs₁ : List ℕ) (ls ls₁ : List (List PatchValue)) → behind bs₁ ls₁ ≡ drop k (behind bs ls) → length bs₁ ≡ length bs - k
-fewer_behind k bs bs₁ ls ls₁ e = omega (arith, length-behind bs ls, length-behind bs₁ ls₁, ap length e, length-drop k (behind bs ls))
-
-pub more_ahead : (k : ℕ) (bs fs fs₁ : List ℕ) (ls us us₁ : List (List PatchValue)) → k ≤ length bs → ahead fs₁ us₁ ≡ onto (take k (behind bs ls)) (ahead fs us) → length fs₁ ≡ length fs + k
-more_ahead k bs fs fs₁ ls us us₁ le e =
-    let n : length (take k (behind bs ls)) ≡ k = length-take-le k (behind bs ls) (omega (arith, length-behind bs ls)) in
-    omega (arith, length-ahead fs us, length-ahead fs₁ us₁, ap length e, length-onto (take k (behind bs ls)) (ahead fs us))
-
-pub fewer_ahead : (k : ℕ) (bs bs₁ : List ℕ) (ls ls₁ : List (List PatchValue)) → ahead bs₁ ls₁ ≡ drop k (ahead bs ls) → length bs₁ ≡ length bs - k
-fewer_ahead k bs bs₁ ls ls₁ e = omega (arith, length-ahead bs ls, length-ahead bs₁ ls₁, ap length e, length-drop k (ahead bs ls))
-
-pub more_behind : (k : ℕ) (bs fs fs₁ : List ℕ) (ls us us₁ : List (List PatchValue)) → k ≤ length bs → behind fs₁ us₁ ≡ onto (take k (ahead bs ls)) (behind fs us) → length fs₁ ≡ length fs + k
-more_behind k bs fs fs₁ ls us us₁ le e =
-    let n : length (take k (ahead bs ls)) ≡ k = length-take-le k (ahead bs ls) (omega (arith, length-ahead bs ls)) in
-    omega (arith, length-behind fs us, length-behind fs₁ us₁, ap length e, length-onto (take k (ahead bs ls)) (behind fs us))
-
--- the patches undone lead on again to t
-undone_again : (k : ℕ) (again : List ℕ) (ps fs : List PatchValue) (t : TableValue) → k ≤ length ps → LeadsBack ps t → nexts (k ∷ again) (onto (take k ps) fs) (back_by (take k ps) t) ≡ t ∷ nexts again fs t
-undone_again k again ps fs t le h =
+ends_again : (way : Direction) (k : ℕ) (ks : List ℕ) (ps fs : List PatchValue) (t : TableValue) → k ≤ length ps → LeadAlong way ps t → ends (opposite way) (k ∷ ks) (onto (take k ps) fs) (led_by way (take k ps) t) ≡ t ∷ ends (opposite way) ks fs t
+ends_again way k ks ps fs t le h =
     let qs : List PatchValue = take k ps in
     let n : length qs + 0 ≡ k = omega (arith, length-take-le k ps le) in
-    let to : on_by (take k (onto qs fs)) (back_by qs t) ≡ t =
-    ap (λ (m : ℕ). on_by (take m (onto qs fs)) (back_by qs t)) (sym n) ∙ on_again qs fs 0 t (take_back k ps t h) in
+    let to : led_by (opposite way) (take k (onto qs fs)) (led_by way qs t) ≡ t =
+    ap (λ (m : ℕ). led_by (opposite way) (take m (onto qs fs)) (led_by way qs t)) (sym n) ∙ again way qs fs 0 t (take_along way k ps t h) in
     let left : drop k (onto qs fs) ≡ fs = ap (λ (m : ℕ). drop m (onto qs fs)) (sym n) ∙ drop_onto qs fs 0 in
-    ap (λ (v : TableValue). v ∷ nexts again (drop k (onto qs fs)) v) to ∙ ap (λ (w : List PatchValue). t ∷ nexts again w t) left
+    ap (λ (v : TableValue). v ∷ ends (opposite way) ks (drop k (onto qs fs)) v) to ∙ ap (λ (w : List PatchValue). t ∷ ends (opposite way) ks w t) left
 
-redone_again : (k : ℕ) (steps : List ℕ) (ps fs : List PatchValue) (t : TableValue) → k ≤ length fs → LeadsOn fs t → pasts (k ∷ steps) (onto (take k fs) ps) (on_by (take k fs) t) ≡ t ∷ pasts steps ps t
-redone_again k steps ps fs t le h =
-    let qs : List PatchValue = take k fs in
-    let n : length qs + 0 ≡ k = omega (arith, length-take-le k fs le) in
-    let to : back_by (take k (onto qs ps)) (on_by qs t) ≡ t =
-    ap (λ (m : ℕ). back_by (take m (onto qs ps)) (on_by qs t)) (sym n) ∙ back_again qs ps 0 t (take_on k fs t h) in
-    let left : drop k (onto qs ps) ≡ ps = ap (λ (m : ℕ). drop m (onto qs ps)) (sym n) ∙ drop_onto qs ps 0 in
-    ap (λ (v : TableValue). v ∷ pasts steps (drop k (onto qs ps)) v) to ∙ ap (λ (w : List PatchValue). t ∷ pasts steps w t) left
+abbrev outside : List TableValue → TableValue → List TableValue → Group → State
+outside ts t us g = record { past = ts; now = t; undone = us; group = g; start = t; accepted = false }
 
--- one step undone
-pub undo_step_state : (k : ℕ) (steps₀ steps again again₁ : List ℕ) (o : ℕ) (g : Group) (ps ps₁ fs fs₁ : List PatchValue) (t t₁ : TableValue) →
-    steps₀ ≡ k ∷ steps → again₁ ≡ k ∷ again → o ≡ 0 → k ≤ length ps → LeadsBack ps t →
-    ps₁ ≡ drop k ps → fs₁ ≡ onto (take k ps) fs → t₁ ≡ back_by (take k ps) t →
-    state_of (record { steps = steps; again = again₁; waiting = o; group = g }) ps₁ fs₁ t₁ ≡ undo_1 (state_of (record { steps = steps₀; again = again; waiting = o; group = g }) ps fs t)
-undo_step_state k steps₀ steps again again₁ o g ps ps₁ fs fs₁ t t₁ es ea eo le h ep ef et =
-    rw (es, ea, eo, ep, ef, et)
-    (ap (λ (ts : List TableValue). let s : State = record { past = pasts steps (drop k ps) (back_by (take k ps) t); now = back_by (take k ps) t; undone = ts; group = g; start = back_by (take k ps) t; accepted = false } in s) (undone_again k again ps fs t le h))
+-- a step of k jobs
+pub step_state : (way : Direction) (k o : ℕ) (s s₁ bs bs₁ : Sides) (g : Group) (dones undones dones₁ undones₁ : List (List PatchValue)) (t t₁ : TableValue) →
+    Passed way k s s₁ → o ≡ 0 → k ≤ length (side way bs) → LeadAlong way (trail way (side way bs) (pick way dones undones)) t →
+    Went way k (trail way (side way bs) (pick way dones undones)) (trail (opposite way) (side (opposite way) bs) (pick (opposite way) dones undones)) t
+    (trail way (side way bs₁) (pick way dones₁ undones₁)) (trail (opposite way) (side (opposite way) bs₁) (pick (opposite way) dones₁ undones₁)) t₁ →
+    state_of (record { steps = s₁; waiting = o; group = g }) (trail Back bs₁.behind dones₁) (trail On bs₁.ahead undones₁) t₁
+    ≡ go_1 way (state_of (record { steps = s; waiting = o; group = g }) (trail Back bs.behind dones) (trail On bs.ahead undones) t)
+step_state Back k o s s₁ bs bs₁ g dones undones dones₁ undones₁ t t₁ passed eo le h w =
+    let ps = trail Back bs.behind dones in
+    let fs = trail On bs.ahead undones in
+    let u : TableValue = led_by Back (take k ps) t in
+    rw (eo, w.left, w.turned, w.table, passed.left, passed.passed)
+    (ap (λ (us : List TableValue). outside (ends Back s₁.behind (drop k ps) u) u us g) (ends_again Back k s.ahead ps fs t (omega (arith, length-trail Back bs.behind dones)) h))
+step_state On k o s s₁ bs bs₁ g dones undones dones₁ undones₁ t t₁ passed eo le h w =
+    let ps = trail Back bs.behind dones in
+    let fs = trail On bs.ahead undones in
+    let u : TableValue = led_by On (take k fs) t in
+    rw (eo, w.left, w.turned, w.table, passed.left, passed.passed)
+    (ap (λ (us : List TableValue). outside us u (ends On s₁.ahead (drop k fs) u) g) (ends_again On k s.behind fs ps t (omega (arith, length-trail On bs.ahead undones)) h))
 
--- one step redone
-pub redo_step_state : (k : ℕ) (steps steps₁ again₀ again : List ℕ) (o : ℕ) (g : Group) (ps ps₁ fs fs₁ : List PatchValue) (t t₁ : TableValue) →
-    again₀ ≡ k ∷ again → steps₁ ≡ k ∷ steps → o ≡ 0 → k ≤ length fs → LeadsOn fs t →
-    fs₁ ≡ drop k fs → ps₁ ≡ onto (take k fs) ps → t₁ ≡ on_by (take k fs) t →
-    state_of (record { steps = steps₁; again = again; waiting = o; group = g }) ps₁ fs₁ t₁ ≡ redo_1 (state_of (record { steps = steps; again = again₀; waiting = o; group = g }) ps fs t)
-redo_step_state k steps steps₁ again₀ again o g ps ps₁ fs fs₁ t t₁ ea es eo le h ef ep et =
-    rw (es, ea, eo, ep, ef, et)
-    (ap (λ (ts : List TableValue). let s : State = record { past = ts; now = on_by (take k fs) t; undone = nexts again (drop k fs) (on_by (take k fs) t); group = g; start = on_by (take k fs) t; accepted = false } in s) (redone_again k steps ps fs t le h))
+abbrev move : Bool → State → Move Bool
+move answer s = record { answer = answer; state = s }
 
-length-pasts : (ks : List ℕ) (ps : List PatchValue) (t : TableValue) → length (pasts ks ps t) ≡ length ks
-length-pasts [] ps t = refl
-length-pasts (k ∷ ks) ps t = let e = length-pasts ks (drop k ps) (back_by (take k ps) t) in omega arith
+length-ends : (way : Direction) (ks : List ℕ) (ps : List PatchValue) (t : TableValue) → length (ends way ks ps t) ≡ length ks
+length-ends way [] ps t = refl
+length-ends way (k ∷ ks) ps t = let e = length-ends way ks (drop k ps) (led_by way (take k ps) t) in omega arith
 
-length-nexts : (ks : List ℕ) (ps : List PatchValue) (t : TableValue) → length (nexts ks ps t) ≡ length ks
-length-nexts [] ps t = refl
-length-nexts (k ∷ ks) ps t = let e = length-nexts ks (drop k ps) (on_by (take k ps) t) in omega arith
+-- the state shows as many tables as there are steps
+length-tables : (way : Direction) (c : Counts) (ps fs : List PatchValue) (t : TableValue) → length (tables way (state_of c ps fs t)) ≡ length (side way c.steps)
+length-tables Back c ps fs t = length-ends Back c.steps.behind (drop c.waiting ps) (led_by Back (take c.waiting ps) t)
+length-tables On c ps fs t = length-ends On c.steps.ahead fs t
 
-pub enough_pasts : (n : ℕ) (ks : List ℕ) (ps : List PatchValue) (t : TableValue) → n ≤ length ks → true ≡ nat_le n (length (pasts ks ps t))
-enough_pasts n ks ps t h = rw (length-pasts ks ps t) (grind (arith, nat_tests))
+pub few_steps : (way : Direction) (n : ℕ) (c : Counts) (ps fs : List PatchValue) (t : TableValue) → length (side way c.steps) < n → steps_move way n (state_of c ps fs t) ≡ record { answer = false; state = state_of c ps fs t }
+few_steps way n c ps fs t h =
+    let s : State = state_of c ps fs t in
+    let e : nat_le n (length (tables way s)) ≡ false = rw (length-tables way c ps fs t) (grind (arith, nat_tests)) in
+    ap (λ (b : Bool). if b then move true (went way n s) else move false s) e
 
-pub few_pasts : (n : ℕ) (ks : List ℕ) (ps : List PatchValue) (t : TableValue) → length ks < n → false ≡ nat_le n (length (pasts ks ps t))
-few_pasts n ks ps t h = rw (length-pasts ks ps t) (grind (arith, nat_tests))
+-- n steps one by one are the move
+pub all_steps : (way : Direction) (n : ℕ) (c : Counts) (ps fs : List PatchValue) (t : TableValue) → 1 ≤ n → n ≤ length (side way c.steps) → steps_move way n (state_of c ps fs t) ≡ record { answer = true; state = go_n way n (state_of c ps fs t) }
+all_steps way n c ps fs t one h =
+    let s : State = state_of c ps fs t in
+    let enough : n ≤ length (tables way s) = rw (length-tables way c ps fs t) h in
+    let e : nat_le n (length (tables way s)) ≡ true = rw (length-tables way c ps fs t) (grind (arith, nat_tests)) in
+    ap (λ (b : Bool). if b then move true (went way n s) else move false s) e ∙ ap (move true) (sym (went_is way n s one enough))
 
-pub enough_nexts : (n : ℕ) (ks : List ℕ) (ps : List PatchValue) (t : TableValue) → n ≤ length ks → true ≡ nat_le n (length (nexts ks ps t))
-enough_nexts n ks ps t h = rw (length-nexts ks ps t) (grind (arith, nat_tests))
-
-pub few_nexts : (n : ℕ) (ks : List ℕ) (ps : List PatchValue) (t : TableValue) → length ks < n → false ≡ nat_le n (length (nexts ks ps t))
-few_nexts n ks ps t h = rw (length-nexts ks ps t) (grind (arith, nat_tests))
-
-pub enough_steps : (n : ℕ) (ks : List ℕ) (ps : List PatchValue) (t : TableValue) → n ≤ length ks → n ≤ length (pasts ks ps t)
-enough_steps n ks ps t h = rw (length-pasts ks ps t) h
-
-pub enough_again : (n : ℕ) (ks : List ℕ) (ps : List PatchValue) (t : TableValue) → n ≤ length ks → n ≤ length (nexts ks ps t)
-enough_again n ks ps t h = rw (length-nexts ks ps t) h
+-- the reply may be written as what it is
+pub ran_by : (r q : Reply) (u : TableValue) (s t : State) → r ≡ q → t ≡ ran r u s → t ≡ ran q u s
+ran_by r q u s t e h = h ∙ ap (λ (x : Reply). ran x u s) e

@@ -11,29 +11,27 @@ use Rattle.tool_api.specs.declared.reply.Reply.TheVariants as reply
 use Rattle.edit_history.specs.declared.counts.Group.{Group}
 use Rattle.edit_history.specs.declared.counts.Group.TheVariants.{Outside, Running, Refused}
 use Rattle.edit_history.specs.declared.counts.Counts.{Counts}
+use Rattle.edit_history.specs.declared.sides.Direction.{Direction}
+use Rattle.edit_history.specs.declared.sides.Direction.TheVariants.{Back, On}
+use Rattle.edit_history.specs.declared.sides.Sides.{Sides}
 use Rattle.edit_history.specs.declared.history.History.{History}
-use Rattle.edit_history.specs.Trail.{back_by, on_by}
-use Rattle.edit_history.specs.Boxes.{Holds, back_of, on_of, lists, kinds}
+use Rattle.edit_history.specs.Trail.{led_by}
+use Rattle.edit_history.specs.Boxes.{Holds, trail_of, lists, kinds}
 use Rattle.edit_history.specs.Machine.{State}
 
--- the tables at the ends of steps of so many jobs, back from t
-abbrev pub pasts : List ℕ → List PatchValue → TableValue → List TableValue
-pasts [] ps t = []
-pasts (k ∷ ks) ps t = back_by (take k ps) t ∷ pasts ks (drop k ps) (back_by (take k ps) t)
+-- the tables at the ends of steps of so many jobs, this way from t
+abbrev pub ends : Direction → List ℕ → List PatchValue → TableValue → List TableValue
+ends way [] ps t = []
+ends way (k ∷ ks) ps t = led_by way (take k ps) t ∷ ends way ks (drop k ps) (led_by way (take k ps) t)
 
--- and on from t
-abbrev pub nexts : List ℕ → List PatchValue → TableValue → List TableValue
-nexts [] fs t = []
-nexts (k ∷ ks) fs t = on_by (take k fs) t ∷ nexts ks (drop k fs) (on_by (take k fs) t)
-
--- the state that the counts and the two trails of patches tell, with the table now
+-- the state that the counts and the trails of patches back and on tell, with the table now
 abbrev pub state_of : Counts → List PatchValue → List PatchValue → TableValue → State
 state_of c ps fs t = record {
-  past = pasts c.steps (drop c.waiting ps) (back_by (take c.waiting ps) t);
+  past = ends Back c.steps.behind (drop c.waiting ps) (led_by Back (take c.waiting ps) t);
   now = t;
-  undone = nexts c.again fs t;
+  undone = ends On c.steps.ahead fs t;
   group = c.group;
-  start = back_by (take c.waiting ps) t;
+  start = led_by Back (take c.waiting ps) t;
   accepted = nat_lt 0 c.waiting;
 }
 
@@ -44,24 +42,24 @@ WaitsIn Running waiting again = 0 < waiting → again ≡ []
 WaitsIn Refused waiting again = waiting ≡ 0
 
 -- the steps count all jobs
-pub record Counted (c : Counts) (bs fs : List ℕ) : Type 0 where
-  pub behind : sum c.steps + c.waiting ≡ length bs
-  pub ahead : sum c.again ≡ length fs
-  pub waiting : WaitsIn c.group c.waiting c.again
+pub record Counted (c : Counts) (boxes : Sides) : Type 0 where
+  pub behind : sum c.steps.behind + c.waiting ≡ length boxes.behind
+  pub ahead : sum c.steps.ahead ≡ length boxes.ahead
+  pub waiting : WaitsIn c.group c.waiting c.steps.ahead
 
 -- The state that a history shows.
 abbrev pub shown : {X : Type 0} {F : X → Type 0} → (DynBox X Global F → List PatchValue) → (DynBox X Global F → List PatchValue) → History X F → State
-shown done undone h = state_of h.counts (back_of done h.jobs) (on_of undone h.jobs) h.jobs.ds
+shown done undone h = state_of h.counts (trail_of Back done undone h.jobs) (trail_of On done undone h.jobs) h.jobs.ds
 
 -- What is true of each history between two calls.
 abbrev pub Valid : {X : Type 0} {F : X → Type 0} → (DynBox X Global F → List PatchValue) → (DynBox X Global F → List PatchValue) → History X F → Type 0
-Valid done undone h = Holds done undone h.jobs × Counted h.counts h.jobs.behind h.jobs.ahead
+Valid done undone h = Holds done undone h.jobs × Counted h.counts h.jobs.boxes
 
 -- one job more that was accepted
 abbrev pub accepted_in : Group → Counts → Counts
-accepted_in Outside c = record { steps = 1 ∷ c.steps; again = []; waiting = c.waiting; group = c.group }
-accepted_in Running c = record { steps = c.steps; again = []; waiting = c.waiting + 1; group = c.group }
-accepted_in Refused c = record { steps = c.steps; again = []; waiting = c.waiting; group = c.group }
+accepted_in Outside c = record { steps = record { behind = 1 ∷ c.steps.behind; ahead = [] }; waiting = c.waiting; group = c.group }
+accepted_in Running c = record { steps = record { behind = c.steps.behind; ahead = [] }; waiting = c.waiting + 1; group = c.group }
+accepted_in Refused c = record { steps = record { behind = c.steps.behind; ahead = [] }; waiting = c.waiting; group = c.group }
 
 -- the verbs of the boxes
 abbrev pub verbs_of : {X : Type 0} {F : X → Type 0} → (DynBox X Global F → Verb) → History X F → List Verb

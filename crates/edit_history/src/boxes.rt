@@ -2,70 +2,55 @@
 //!
 //! A function `_box` repeats a clause of the trait at a box; its `_at` or `_all` says the same of the vector, by the
 //! lists of what each box keeps. All above speaks of those lists alone.
-ghost use Rattle.std.specs.Prelude.{◌≡◌, ◌≢◌, ◌<◌, ℕ, [], ◌∷◌, ◌++◌, length, map, get_or, slice_get, slice_set, vec_len, Some, IfSome, IfNone, OnOk, IfOk};
-ghost use Rattle.dataset.specs.Patch.{StandsBefore, StandsAfter, after_of, before_of};
+ghost use Rattle.std.specs.Prelude.{◌≡◌, ◌≢◌, ◌<◌, ℕ, [], ◌∷◌, ◌++◌, length, map, get_or, slice_get, slice_set, vec_len, Some, IfSome, IfNone, OnOk, OnErr, IfOk};
 ghost use Rattle.dataset.specs.Sound.{IsSound};
 ghost use Rattle.tool_api.specs.Plain.{verb_of, plain, IsWellFormed};
-ghost use Rattle.tool_api.specs.Patches.{last_patch, front, first_patch, rest, Kept};
-ghost use Rattle.edit_history.specs.Trail.{KeepNothing, KeptAt, StaysRefused};
+ghost use Rattle.tool_api.specs.Patches.{Kept};
+ghost use Rattle.edit_history.specs.Ways.{opposite, pick};
+ghost use Rattle.edit_history.specs.Trail.{KeepNothing, KeptAt, LeadsOff, LeadsTo, StaysRefused, led, next_patch, others, others_at, with_next, with_next_at};
 ghost use Rattle.edit_history.specs.Shown.{IsFirst};
 
+use crate::sides::Direction;
 use dataset::DataSet;
 use std::alloc::{AllocError, Global};
 use tool_api::{Job, Reply, Tool, Verb};
 
-/// Undoes one job of a box.
-pub fn undo_box(tool: &mut Box<dyn Tool>, ds: &mut DataSet) -> Result<(), AllocError>
-    requires some { 0 < length (done tool.old) }
-    requires stands { StandsAfter (last_patch (done tool.old)) ds.old }
-    requires sound { IsSound (before_of (last_patch (done tool.old)) ds.old) }
-    ensures table { OnOk result (ds.new ≡ before_of (last_patch (done tool.old)) ds.old) }
-    ensures done { OnOk result (done tool.new ≡ front (done tool.old)) }
-    ensures undone { OnOk result (undone tool.new ≡ last_patch (done tool.old) ∷ undone tool.old) }
+/// Undoes the last job of a box, or does the first undone one again.
+pub fn lead_box(
+    tool: &mut Box<dyn Tool>,
+    ds: &mut DataSet,
+    way: Direction,
+) -> Result<(), AllocError>
+    requires some { 0 < length (pick way (done tool.old) (undone tool.old)) }
+    requires leads { let patch = next_patch way (pick way (done tool.old) (undone tool.old)) in LeadsTo way patch ds.old (led way patch ds.old) }
+    requires sound { IsSound (led way (next_patch way (pick way (done tool.old) (undone tool.old))) ds.old) }
+    ensures table { OnOk result (ds.new ≡ led way (next_patch way (pick way (done tool.old) (undone tool.old))) ds.old) }
+    ensures left { OnOk result (pick way (done tool.new) (undone tool.new) ≡ others way (pick way (done tool.old) (undone tool.old))) }
+    ensures passed { OnOk result (pick (opposite way) (done tool.new) (undone tool.new) ≡ with_next (opposite way) (next_patch way (pick way (done tool.old) (undone tool.old))) (pick (opposite way) (done tool.old) (undone tool.old))) }
     ensures kind { kind tool.new ≡ kind tool.old }
+    ensures err { OnErr result (ds.new ≡ ds.old) }
 {
-    tool.undo(ds)
+    match way {
+        Direction::Back => tool.undo(ds),
+        Direction::On => tool.redo(ds),
+    }
 }
 
-/// Undoes one job of the i-th box.
-pub fn undo_at(tools: &mut Vec<Box<dyn Tool>>, i: usize, ds: &mut DataSet) -> Result<(), AllocError>
-    requires within { i < vec_len tools.old }
-    requires some { 0 < length (get_or (map (λ b. done b) tools.old.items) i []) }
-    requires stands { StandsAfter (last_patch (get_or (map (λ b. done b) tools.old.items) i [])) ds.old }
-    requires sound { IsSound (before_of (last_patch (get_or (map (λ b. done b) tools.old.items) i [])) ds.old) }
-    ensures table { OnOk result (ds.new ≡ before_of (last_patch (get_or (map (λ b. done b) tools.old.items) i [])) ds.old) }
-    ensures dones { OnOk result (map (λ b. done b) tools.new.items ≡ slice_set (map (λ b. done b) tools.old.items) i (front (get_or (map (λ b. done b) tools.old.items) i []))) }
-    ensures undones { OnOk result (map (λ b. undone b) tools.new.items ≡ slice_set (map (λ b. undone b) tools.old.items) i (last_patch (get_or (map (λ b. done b) tools.old.items) i []) ∷ get_or (map (λ b. undone b) tools.old.items) i [])) }
+/// Undoes the last job of the i-th box, or does its first undone one again.
+pub fn lead_at(
+    tools: &mut Vec<Box<dyn Tool>>,
+    i: usize,
+    ds: &mut DataSet,
+    way: Direction,
+) -> Result<(), AllocError>
+    requires { LeadsOff way (pick way (map (λ b. done b) tools.old.items) (map (λ b. undone b) tools.old.items)) i ds.old }
+    ensures table { OnOk result (ds.new ≡ led way (next_patch way (get_or (pick way (map (λ b. done b) tools.old.items) (map (λ b. undone b) tools.old.items)) i [])) ds.old) }
+    ensures left { OnOk result (pick way (map (λ b. done b) tools.new.items) (map (λ b. undone b) tools.new.items) ≡ others_at way (pick way (map (λ b. done b) tools.old.items) (map (λ b. undone b) tools.old.items)) i) }
+    ensures passed { OnOk result (pick (opposite way) (map (λ b. done b) tools.new.items) (map (λ b. undone b) tools.new.items) ≡ with_next_at (opposite way) (next_patch way (get_or (pick way (map (λ b. done b) tools.old.items) (map (λ b. undone b) tools.old.items)) i [])) (pick (opposite way) (map (λ b. done b) tools.old.items) (map (λ b. undone b) tools.old.items)) i) }
     ensures kinds { map (λ b. kind b) tools.new.items ≡ map (λ b. kind b) tools.old.items }
+    ensures err { OnErr result (ds.new ≡ ds.old) }
 {
-    undo_box(&mut tools[i], ds)
-}
-
-/// Does one undone job of a box again.
-pub fn redo_box(tool: &mut Box<dyn Tool>, ds: &mut DataSet) -> Result<(), AllocError>
-    requires some { 0 < length (undone tool.old) }
-    requires stands { StandsBefore (first_patch (undone tool.old)) ds.old }
-    requires sound { IsSound (after_of (first_patch (undone tool.old)) ds.old) }
-    ensures table { OnOk result (ds.new ≡ after_of (first_patch (undone tool.old)) ds.old) }
-    ensures done { OnOk result (done tool.new ≡ done tool.old ++ first_patch (undone tool.old) ∷ []) }
-    ensures undone { OnOk result (undone tool.new ≡ rest (undone tool.old)) }
-    ensures kind { kind tool.new ≡ kind tool.old }
-{
-    tool.redo(ds)
-}
-
-/// Does one undone job of the i-th box again.
-pub fn redo_at(tools: &mut Vec<Box<dyn Tool>>, i: usize, ds: &mut DataSet) -> Result<(), AllocError>
-    requires within { i < vec_len tools.old }
-    requires some { 0 < length (get_or (map (λ b. undone b) tools.old.items) i []) }
-    requires stands { StandsBefore (first_patch (get_or (map (λ b. undone b) tools.old.items) i [])) ds.old }
-    requires sound { IsSound (after_of (first_patch (get_or (map (λ b. undone b) tools.old.items) i [])) ds.old) }
-    ensures table { OnOk result (ds.new ≡ after_of (first_patch (get_or (map (λ b. undone b) tools.old.items) i [])) ds.old) }
-    ensures dones { OnOk result (map (λ b. done b) tools.new.items ≡ slice_set (map (λ b. done b) tools.old.items) i (get_or (map (λ b. done b) tools.old.items) i [] ++ first_patch (get_or (map (λ b. undone b) tools.old.items) i []) ∷ [])) }
-    ensures undones { OnOk result (map (λ b. undone b) tools.new.items ≡ slice_set (map (λ b. undone b) tools.old.items) i (rest (get_or (map (λ b. undone b) tools.old.items) i []))) }
-    ensures kinds { map (λ b. kind b) tools.new.items ≡ map (λ b. kind b) tools.old.items }
-{
-    redo_box(&mut tools[i], ds)
+    lead_box(&mut tools[i], ds, way)
 }
 
 /// Runs a job in a box.
@@ -84,6 +69,7 @@ pub fn run_box(
     ensures done { IfOk result (λ r. Kept r ds.old ds.new (done tool.old) (done tool.new)) }
     ensures undone { undone tool.new ≡ undone tool.old }
     ensures kind { kind tool.new ≡ kind tool.old }
+    ensures err { OnErr result (ds.new ≡ ds.old) }
 {
     let reply = tool.run(ds, job, limit)?;
     ds.sound();
@@ -107,6 +93,7 @@ pub fn run_at(
     ensures dones { IfOk result (λ r. KeptAt r ds.old ds.new (map (λ b. done b) tools.old.items) i (map (λ b. done b) tools.new.items)) }
     ensures undones { map (λ b. undone b) tools.new.items ≡ map (λ b. undone b) tools.old.items }
     ensures kinds { map (λ b. kind b) tools.new.items ≡ map (λ b. kind b) tools.old.items }
+    ensures err { OnErr result (ds.new ≡ ds.old) }
 {
     run_box(&mut tools[i], ds, job, limit)
 }

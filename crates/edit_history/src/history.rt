@@ -1,18 +1,21 @@
 //! The history of a session.
-ghost use Rattle.std.specs.Prelude.{◌≡◌, ◌≢◌, ◌≤◌, ◌<◌, ◌+◌, ◌↔◌, if◌then◌else◌, nat_le, length, map, Some, IsTrue, OnOk, OnErr, IfOk};
-ghost use Rattle.dataset.specs.Patch.{StandsBefore, after_of};
-ghost use Rattle.dataset.specs.Sound.{IsSound};
+ghost use Rattle.std.specs.Prelude.{◌≡◌, ◌≢◌, ◌≤◌, ◌<◌, ◌+◌, ◌↔◌, ◌⊎◌, ℕ, length, map, IsTrue, OnOk, OnErr, IfOk};
+ghost use Rattle.dataset.specs.Patch.{after_of};
 ghost use Rattle.tool_api.specs.Plain.{verb_of, plain, IsWellFormed};
-ghost use Rattle.edit_history.specs.Trail.{KeepNothing};
-ghost use Rattle.edit_history.specs.Machine.{IsWiped, fresh, first_state, ran, began, gave_up, ended, went_back, went_on, settled};
+ghost use Rattle.edit_history.specs.Trail.{IsAlong, KeepNothing};
+ghost use Rattle.edit_history.specs.Boxes.{WentBy, trail_of};
+ghost use Rattle.edit_history.specs.Machine.{IsWiped, fresh, first_state, ran, began, gave_up, ended, settled};
+ghost use Rattle.edit_history.specs.Single.{go_1, go_n};
+ghost use Rattle.edit_history.specs.Ways.{side};
 ghost use Rattle.edit_history.specs.Shown.{shown, Valid, IsThere, IsFirst, KeptByFirst, verbs_of, patches_of};
+ghost use Rattle.edit_history.specs.Moved.{Alone, Fits, IsBetween, MayRun, MaySettle, Moved, Stopped, run_move, silent, steps_move};
 ghost use Rattle.edit_history.specs.declared.counts.Group.TheVariants.{Outside, Running, Refused};
-ghost use Rattle.edit_history.specs.Single.{undo_1, redo_1, undo_n, redo_n};
+ghost use Rattle.edit_history.specs.declared.sides.Direction.TheVariants.{Back, On};
 
 use crate::boxes::find;
 use crate::counts::{Counts, Group};
 use crate::jobs::Jobs;
-use crate::stack::Stack;
+use crate::sides::{Direction, Sides};
 use dataset::{DataSet, Patch};
 use std::alloc::{AllocError, Global};
 use tool_api::{Job, Reply, Tool, Verb};
@@ -41,12 +44,10 @@ impl History {
             jobs: Jobs {
                 tools,
                 ds,
-                behind: Stack::new(alloc),
-                ahead: Stack::new(alloc),
+                boxes: Sides::new(alloc),
             },
             counts: Counts {
-                steps: Stack::new(alloc),
-                again: Stack::new(alloc),
+                steps: Sides::new(alloc),
                 waiting: 0,
                 group: Group::Outside,
             },
@@ -84,17 +85,11 @@ impl History {
     /// # Errors
     /// Want of memory. Then the table is sound, nothing can be undone or done again, and no group is open.
     pub fn run(&mut self, job: &Job, limit: u64) -> Result<Reply, AllocError>
-        requires valid { Valid (λ b. done b) (λ b. undone b) self.old }
-        requires there { IsThere (verb_of job.now) (verbs_of (λ b. kind b) self.old) }
-        requires formed { IsWellFormed job.now }
-        requires open { (shown (λ b. done b) (λ b. undone b) self.old).group ≢ Refused }
-        ensures valid { Valid (λ b. done b) (λ b. undone b) self.new }
-        ensures reply { IfOk result (λ r. r ≡ (plain job.now (shown (λ b. done b) (λ b. undone b) self.old).now limit).reply) }
-        ensures state { IfOk result (λ r. shown (λ b. done b) (λ b. undone b) self.new ≡ ran r (plain job.now (shown (λ b. done b) (λ b. undone b) self.old).now limit).table (shown (λ b. done b) (λ b. undone b) self.old)) }
+        requires { Fits (λ b. done b) (λ b. undone b) (λ b. kind b) self.old (MayRun job.now) }
+        ensures moved { Moved (λ b. done b) (λ b. undone b) (λ b. kind b) self.old self.new result (run_move job.now limit) }
         ensures first { IfOk result (λ r. KeptByFirst r (verb_of job.now) (verbs_of (λ b. kind b) self.old) (shown (λ b. done b) (λ b. undone b) self.old).now (shown (λ b. done b) (λ b. undone b) self.new).now (patches_of (λ b. done b) self.old) (patches_of (λ b. done b) self.new)) }
-        ensures err { OnErr result (IsWiped (shown (λ b. done b) (λ b. undone b) self.new)) }
-        ensures cleared { OnErr result (KeepNothing (patches_of (λ b. done b) self.new) × KeepNothing (patches_of (λ b. undone b) self.new)) }
-        ensures kinds { verbs_of (λ b. kind b) self.new ≡ verbs_of (λ b. kind b) self.old }
+        ensures stopped { OnErr result (Stopped (λ b. done b) (λ b. undone b) self.new) }
+        ensures between { OnErr result (IsBetween Back (λ b. done b) (λ b. undone b) self.old self.new ⊎ ((shown (λ b. done b) (λ b. undone b) self.new).now ≡ (plain job.now (shown (λ b. done b) (λ b. undone b) self.old).now limit).table)) }
     {
         match find(&self.jobs.tools, job.verb()) {
             None => unreachable!(),
@@ -110,11 +105,10 @@ impl History {
 
     /// Opens a group.
     pub fn begin(&mut self)
-        requires valid { Valid (λ b. done b) (λ b. undone b) self.old }
-        requires outside { (shown (λ b. done b) (λ b. undone b) self.old).group ≡ Outside }
+        requires { Fits (λ b. done b) (λ b. undone b) (λ b. kind b) self.old Alone }
         ensures valid { Valid (λ b. done b) (λ b. undone b) self.new }
         ensures state { shown (λ b. done b) (λ b. undone b) self.new ≡ began (shown (λ b. done b) (λ b. undone b) self.old) }
-        ensures kinds { verbs_of (λ b. kind b) self.new ≡ verbs_of (λ b. kind b) self.old }
+        ensures verbs { verbs_of (λ b. kind b) self.new ≡ verbs_of (λ b. kind b) self.old }
     {
         self.counts.group = Group::Running;
     }
@@ -125,13 +119,10 @@ impl History {
     /// # Errors
     /// Want of memory. Then the table is sound, nothing can be undone or done again, and no group is open.
     pub fn give_up(&mut self) -> Result<(), AllocError>
-        requires valid { Valid (λ b. done b) (λ b. undone b) self.old }
-        requires running { (shown (λ b. done b) (λ b. undone b) self.old).group ≡ Running }
-        ensures valid { Valid (λ b. done b) (λ b. undone b) self.new }
-        ensures state { OnOk result (shown (λ b. done b) (λ b. undone b) self.new ≡ gave_up (shown (λ b. done b) (λ b. undone b) self.old)) }
-        ensures err { OnErr result (IsWiped (shown (λ b. done b) (λ b. undone b) self.new)) }
-        ensures cleared { OnErr result (KeepNothing (patches_of (λ b. done b) self.new) × KeepNothing (patches_of (λ b. undone b) self.new)) }
-        ensures kinds { verbs_of (λ b. kind b) self.new ≡ verbs_of (λ b. kind b) self.old }
+        requires { Fits (λ b. done b) (λ b. undone b) (λ b. kind b) self.old (λ s _. s.group ≡ Running) }
+        ensures moved { Moved (λ b. done b) (λ b. undone b) (λ b. kind b) self.old self.new result (silent gave_up) }
+        ensures stopped { OnErr result (Stopped (λ b. done b) (λ b. undone b) self.new) }
+        ensures between { OnErr result (IsBetween Back (λ b. done b) (λ b. undone b) self.old self.new) }
     {
         match self.leave_group() {
             Ok(()) => Ok(()),
@@ -147,15 +138,12 @@ impl History {
     /// # Errors
     /// Want of memory, and then nothing is changed.
     pub fn end(&mut self) -> Result<(), AllocError>
-        requires valid { Valid (λ b. done b) (λ b. undone b) self.old }
-        requires open { (shown (λ b. done b) (λ b. undone b) self.old).group ≢ Outside }
-        ensures valid { Valid (λ b. done b) (λ b. undone b) self.new }
-        ensures state { OnOk result (shown (λ b. done b) (λ b. undone b) self.new ≡ ended (shown (λ b. done b) (λ b. undone b) self.old)) }
+        requires { Fits (λ b. done b) (λ b. undone b) (λ b. kind b) self.old (λ s _. s.group ≢ Outside) }
+        ensures moved { Moved (λ b. done b) (λ b. undone b) (λ b. kind b) self.old self.new result (silent ended) }
         ensures err { OnErr result (shown (λ b. done b) (λ b. undone b) self.new ≡ shown (λ b. done b) (λ b. undone b) self.old) }
-        ensures kinds { verbs_of (λ b. kind b) self.new ≡ verbs_of (λ b. kind b) self.old }
     {
         if self.counts.waiting > 0 {
-            self.counts.steps.push(self.counts.waiting)?;
+            self.counts.steps.behind.push(self.counts.waiting)?;
             self.counts.waiting = 0;
         }
         self.counts.group = Group::Outside;
@@ -167,26 +155,13 @@ impl History {
     /// # Errors
     /// Want of memory. Then the table is sound, nothing can be undone or done again, and no group is open.
     pub fn undo(&mut self, n: u64) -> Result<bool, AllocError>
-        requires valid { Valid (λ b. done b) (λ b. undone b) self.old }
-        requires outside { (shown (λ b. done b) (λ b. undone b) self.old).group ≡ Outside }
+        requires fits { Fits (λ b. done b) (λ b. undone b) (λ b. kind b) self.old Alone }
         requires some { 1 ≤ n }
-        ensures valid { Valid (λ b. done b) (λ b. undone b) self.new }
-        ensures answer { IfOk result (λ r. r ≡ nat_le n (length (shown (λ b. done b) (λ b. undone b) self.old).past)) }
-        ensures state { IfOk result (λ r. shown (λ b. done b) (λ b. undone b) self.new ≡ (if r then went_back n (shown (λ b. done b) (λ b. undone b) self.old) else shown (λ b. done b) (λ b. undone b) self.old)) }
-        ensures err { OnErr result (IsWiped (shown (λ b. done b) (λ b. undone b) self.new)) }
-        ensures cleared { OnErr result (KeepNothing (patches_of (λ b. done b) self.new) × KeepNothing (patches_of (λ b. undone b) self.new)) }
-        ensures kinds { verbs_of (λ b. kind b) self.new ≡ verbs_of (λ b. kind b) self.old }
+        ensures moved { Moved (λ b. done b) (λ b. undone b) (λ b. kind b) self.old self.new result (steps_move Back n) }
+        ensures stopped { OnErr result (Stopped (λ b. done b) (λ b. undone b) self.new) }
+        ensures between { OnErr result (IsBetween Back (λ b. done b) (λ b. undone b) self.old self.new) }
     {
-        if n > self.counts.steps.len() as u64 {
-            return Ok(false);
-        }
-        match self.undo_steps(n as usize) {
-            Ok(()) => Ok(true),
-            Err(e) => {
-                self.wipe();
-                Err(e)
-            }
-        }
+        self.lead(Direction::Back, n)
     }
 
     /// Does the next n undone steps again; false where there are fewer, and then nothing is changed. Costs the edits of
@@ -195,26 +170,13 @@ impl History {
     /// # Errors
     /// Want of memory. Then the table is sound, nothing can be undone or done again, and no group is open.
     pub fn redo(&mut self, n: u64) -> Result<bool, AllocError>
-        requires valid { Valid (λ b. done b) (λ b. undone b) self.old }
-        requires outside { (shown (λ b. done b) (λ b. undone b) self.old).group ≡ Outside }
+        requires fits { Fits (λ b. done b) (λ b. undone b) (λ b. kind b) self.old Alone }
         requires some { 1 ≤ n }
-        ensures valid { Valid (λ b. done b) (λ b. undone b) self.new }
-        ensures answer { IfOk result (λ r. r ≡ nat_le n (length (shown (λ b. done b) (λ b. undone b) self.old).undone)) }
-        ensures state { IfOk result (λ r. shown (λ b. done b) (λ b. undone b) self.new ≡ (if r then went_on n (shown (λ b. done b) (λ b. undone b) self.old) else shown (λ b. done b) (λ b. undone b) self.old)) }
-        ensures err { OnErr result (IsWiped (shown (λ b. done b) (λ b. undone b) self.new)) }
-        ensures cleared { OnErr result (KeepNothing (patches_of (λ b. done b) self.new) × KeepNothing (patches_of (λ b. undone b) self.new)) }
-        ensures kinds { verbs_of (λ b. kind b) self.new ≡ verbs_of (λ b. kind b) self.old }
+        ensures moved { Moved (λ b. done b) (λ b. undone b) (λ b. kind b) self.old self.new result (steps_move On n) }
+        ensures stopped { OnErr result (Stopped (λ b. done b) (λ b. undone b) self.new) }
+        ensures between { OnErr result (IsBetween On (λ b. done b) (λ b. undone b) self.old self.new) }
     {
-        if n > self.counts.again.len() as u64 {
-            return Ok(false);
-        }
-        match self.redo_steps(n as usize) {
-            Ok(()) => Ok(true),
-            Err(e) => {
-                self.wipe();
-                Err(e)
-            }
-        }
+        self.lead(Direction::On, n)
     }
 
     /// Applies a patch for good: nothing can be undone or done again after it. Costs the patch's edits.
@@ -222,14 +184,9 @@ impl History {
     /// # Errors
     /// Want of memory, and then nothing is changed.
     pub fn settle(&mut self, patch: &Patch) -> Result<(), AllocError>
-        requires valid { Valid (λ b. done b) (λ b. undone b) self.old }
-        requires outside { (shown (λ b. done b) (λ b. undone b) self.old).group ≡ Outside }
-        requires stands { StandsBefore patch.now (shown (λ b. done b) (λ b. undone b) self.old).now }
-        requires sound { IsSound (after_of patch.now (shown (λ b. done b) (λ b. undone b) self.old).now) }
-        ensures valid { Valid (λ b. done b) (λ b. undone b) self.new }
-        ensures state { OnOk result (shown (λ b. done b) (λ b. undone b) self.new ≡ settled patch.now (shown (λ b. done b) (λ b. undone b) self.old)) }
+        requires { Fits (λ b. done b) (λ b. undone b) (λ b. kind b) self.old (MaySettle patch.now) }
+        ensures moved { Moved (λ b. done b) (λ b. undone b) (λ b. kind b) self.old self.new result (silent (λ s. settled (after_of patch.now s.now) s)) }
         ensures err { OnErr result (shown (λ b. done b) (λ b. undone b) self.new ≡ shown (λ b. done b) (λ b. undone b) self.old) }
-        ensures kinds { verbs_of (λ b. kind b) self.new ≡ verbs_of (λ b. kind b) self.old }
     {
         self.jobs.ds.apply(patch)?;
         self.wipe();
@@ -240,14 +197,11 @@ impl History {
     fn wipe(&mut self)
         ensures valid { Valid (λ b. done b) (λ b. undone b) self.new }
         ensures state { shown (λ b. done b) (λ b. undone b) self.new ≡ fresh self.old.jobs.ds }
-        ensures wiped { IsWiped (shown (λ b. done b) (λ b. undone b) self.new) }
-        ensures dones { KeepNothing (patches_of (λ b. done b) self.new) }
-        ensures undones { KeepNothing (patches_of (λ b. undone b) self.new) }
-        ensures kinds { verbs_of (λ b. kind b) self.new ≡ verbs_of (λ b. kind b) self.old }
+        ensures stopped { Stopped (λ b. done b) (λ b. undone b) self.new }
+        ensures verbs { verbs_of (λ b. kind b) self.new ≡ verbs_of (λ b. kind b) self.old }
     {
         self.jobs.wipe();
         self.counts.steps.clear();
-        self.counts.again.clear();
         self.counts.waiting = 0;
         self.counts.group = Group::Outside;
     }
@@ -262,11 +216,12 @@ impl History {
         ensures valid { OnOk result (Valid (λ b. done b) (λ b. undone b) self.new) }
         ensures state { IfOk result (λ r. shown (λ b. done b) (λ b. undone b) self.new ≡ ran r (plain job.now self.old.jobs.ds limit).table (shown (λ b. done b) (λ b. undone b) self.old)) }
         ensures first { IfOk result (λ r. KeptByFirst r (verb_of job.now) (verbs_of (λ b. kind b) self.old) self.old.jobs.ds self.new.jobs.ds (patches_of (λ b. done b) self.old) (patches_of (λ b. done b) self.new)) }
-        ensures kinds { verbs_of (λ b. kind b) self.new ≡ verbs_of (λ b. kind b) self.old }
+        ensures verbs { verbs_of (λ b. kind b) self.new ≡ verbs_of (λ b. kind b) self.old }
+        ensures err { OnErr result (IsBetween Back (λ b. done b) (λ b. undone b) self.old self.new ⊎ (self.new.jobs.ds ≡ (plain job.now self.old.jobs.ds limit).table)) }
     {
         match self.jobs.run_job(i, job, limit)? {
             Reply::Done(keys) => {
-                self.jobs.behind.fits();
+                self.jobs.boxes.behind.fits();
                 self.counts.accept()?;
                 Ok(Reply::Done(keys))
             }
@@ -287,93 +242,72 @@ impl History {
         requires running { self.old.counts.group ≡ Running }
         ensures valid { OnOk result (Valid (λ b. done b) (λ b. undone b) self.new) }
         ensures state { OnOk result (shown (λ b. done b) (λ b. undone b) self.new ≡ gave_up (shown (λ b. done b) (λ b. undone b) self.old)) }
-        ensures kinds { verbs_of (λ b. kind b) self.new ≡ verbs_of (λ b. kind b) self.old }
+        ensures verbs { verbs_of (λ b. kind b) self.new ≡ verbs_of (λ b. kind b) self.old }
+        ensures err { OnErr result (IsBetween Back (λ b. done b) (λ b. undone b) self.old self.new) }
     {
         let count = self.counts.waiting;
         if count == 0 {
             self.counts.group = Group::Refused;
             return Ok(());
         }
-        self.jobs.undo_jobs(count)?;
+        self.jobs.lead_jobs(Direction::Back, count)?;
         self.jobs.forget_undone();
         self.counts.waiting = 0;
         self.counts.group = Group::Refused;
         Ok(())
     }
 
-    /// Undoes the last n steps. After an `Err` the caller wipes.
-    fn undo_steps(&mut self, n: usize) -> Result<(), AllocError>
-        requires valid { Valid (λ b. done b) (λ b. undone b) self.old }
-        requires outside { self.old.counts.group ≡ Outside }
-        requires some { n ≤ length self.old.counts.steps }
-        ensures valid { OnOk result (Valid (λ b. done b) (λ b. undone b) self.new) }
-        ensures state { OnOk result (shown (λ b. done b) (λ b. undone b) self.new ≡ undo_n n (shown (λ b. done b) (λ b. undone b) self.old)) }
-        ensures kinds { verbs_of (λ b. kind b) self.new ≡ verbs_of (λ b. kind b) self.old }
+    /// Undoes the last n steps, or does the next n undone ones again; false where there are fewer.
+    fn lead(&mut self, way: Direction, n: u64) -> Result<bool, AllocError>
+        requires fits { Fits (λ b. done b) (λ b. undone b) (λ b. kind b) self.old Alone }
+        requires some { 1 ≤ n }
+        ensures moved { Moved (λ b. done b) (λ b. undone b) (λ b. kind b) self.old self.new result (steps_move way n) }
+        ensures stopped { OnErr result (Stopped (λ b. done b) (λ b. undone b) self.new) }
+        ensures between { OnErr result (IsBetween way (λ b. done b) (λ b. undone b) self.old self.new) }
     {
-        let mut left = n;
-        while left > 0 {
-            self.undo_step()?;
-            left -= 1;
+        if n > self.counts.steps.len(way) as u64 {
+            return Ok(false);
         }
-        Ok(())
-    }
-
-    /// Undoes the last step. After an `Err` the caller wipes.
-    fn undo_step(&mut self) -> Result<(), AllocError>
-        requires valid { Valid (λ b. done b) (λ b. undone b) self.old }
-        requires outside { self.old.counts.group ≡ Outside }
-        requires some { 0 < length self.old.counts.steps }
-        ensures valid { OnOk result (Valid (λ b. done b) (λ b. undone b) self.new) }
-        ensures outside { OnOk result (self.new.counts.group ≡ Outside) }
-        ensures state { OnOk result (shown (λ b. done b) (λ b. undone b) self.new ≡ undo_1 (shown (λ b. done b) (λ b. undone b) self.old)) }
-        ensures left { OnOk result (length self.old.counts.steps ≡ length self.new.counts.steps + 1) }
-        ensures kinds { verbs_of (λ b. kind b) self.new ≡ verbs_of (λ b. kind b) self.old }
-    {
-        match self.counts.steps.pop() {
-            None => unreachable!(),
-            Some(count) => {
-                self.jobs.undo_jobs(count)?;
-                self.counts.again.push(count)?;
-                Ok(())
+        match self.lead_steps(way, n as usize) {
+            Ok(()) => Ok(true),
+            Err(e) => {
+                self.wipe();
+                Err(e)
             }
         }
     }
 
-    /// Does the next n undone steps again. After an `Err` the caller wipes.
-    fn redo_steps(&mut self, n: usize) -> Result<(), AllocError>
+    /// Undoes the last n steps, or does the next n undone ones again. After an `Err` the caller wipes.
+    fn lead_steps(&mut self, way: Direction, n: usize) -> Result<(), AllocError>
         requires valid { Valid (λ b. done b) (λ b. undone b) self.old }
         requires outside { self.old.counts.group ≡ Outside }
-        requires some { n ≤ length self.old.counts.again }
+        requires some { n ≤ length (side way self.old.counts.steps) }
         ensures valid { OnOk result (Valid (λ b. done b) (λ b. undone b) self.new) }
-        ensures state { OnOk result (shown (λ b. done b) (λ b. undone b) self.new ≡ redo_n n (shown (λ b. done b) (λ b. undone b) self.old)) }
-        ensures kinds { verbs_of (λ b. kind b) self.new ≡ verbs_of (λ b. kind b) self.old }
+        ensures state { OnOk result (shown (λ b. done b) (λ b. undone b) self.new ≡ go_n way n (shown (λ b. done b) (λ b. undone b) self.old)) }
+        ensures verbs { verbs_of (λ b. kind b) self.new ≡ verbs_of (λ b. kind b) self.old }
+        ensures err { OnErr result (IsBetween way (λ b. done b) (λ b. undone b) self.old self.new) }
     {
-        let mut left = n;
-        while left > 0 {
-            self.redo_step()?;
-            left -= 1;
+        for _led in 0..n {
+            self.lead_step(way)?;
         }
         Ok(())
     }
 
-    /// Does the next undone step again. After an `Err` the caller wipes.
-    fn redo_step(&mut self) -> Result<(), AllocError>
+    /// Undoes the last step, or does the next undone one again. After an `Err` the caller wipes.
+    fn lead_step(&mut self, way: Direction) -> Result<(), AllocError>
         requires valid { Valid (λ b. done b) (λ b. undone b) self.old }
         requires outside { self.old.counts.group ≡ Outside }
-        requires some { 0 < length self.old.counts.again }
+        requires some { 0 < length (side way self.old.counts.steps) }
         ensures valid { OnOk result (Valid (λ b. done b) (λ b. undone b) self.new) }
         ensures outside { OnOk result (self.new.counts.group ≡ Outside) }
-        ensures state { OnOk result (shown (λ b. done b) (λ b. undone b) self.new ≡ redo_1 (shown (λ b. done b) (λ b. undone b) self.old)) }
-        ensures left { OnOk result (length self.old.counts.again ≡ length self.new.counts.again + 1) }
-        ensures kinds { verbs_of (λ b. kind b) self.new ≡ verbs_of (λ b. kind b) self.old }
+        ensures state { OnOk result (shown (λ b. done b) (λ b. undone b) self.new ≡ go_1 way (shown (λ b. done b) (λ b. undone b) self.old)) }
+        ensures left { OnOk result (length (side way self.old.counts.steps) ≡ length (side way self.new.counts.steps) + 1) }
+        ensures went { OnOk result ((k : ℕ) × WentBy way k (λ b. done b) (λ b. undone b) self.old.jobs self.new.jobs) }
+        ensures verbs { verbs_of (λ b. kind b) self.new ≡ verbs_of (λ b. kind b) self.old }
+        ensures err { OnErr result (IsBetween way (λ b. done b) (λ b. undone b) self.old self.new) }
     {
-        match self.counts.again.pop() {
-            None => unreachable!(),
-            Some(count) => {
-                self.jobs.redo_jobs(count)?;
-                self.counts.steps.push(count)?;
-                Ok(())
-            }
-        }
+        let count = self.counts.steps.pass(way)?;
+        self.jobs.lead_jobs(way, count)?;
+        Ok(())
     }
 }

@@ -1,7 +1,5 @@
 //! A box that never finds memory, groups without jobs, and a patch for good.
-ghost use Rattle.std.specs.Prelude.{◌≡◌};
-ghost use Rattle.edit_history.specs.Shown.{shown, Valid};
-ghost use Rattle.edit_history.specs.declared.counts.Group.TheVariants.{Outside};
+ghost use Rattle.edit_history.specs.Moved.{Alone, Fits};
 
 use crate::{History, no_boxes, with_box};
 use dataset::{DataSet, Draft, Patch};
@@ -56,8 +54,7 @@ impl Tool for Poor {
 
 /// Settles a patch without edits.
 fn settle_nothing(history: &mut History) -> Result<(), AllocError>
-    requires valid { Valid (λ b. done b) (λ b. undone b) history.old }
-    requires outside { (shown (λ b. done b) (λ b. undone b) history.old).group ≡ Outside }
+    requires { Fits (λ b. done b) (λ b. undone b) (λ b. kind b) history.old Alone }
 {
     let draft = Draft::new(history.ds());
     let patch = history.ds().patch_of(&draft)?;
@@ -93,8 +90,7 @@ fn settled(rt: HostRuntime) -> Result<(), Fail> {
 
 /// A group that is given up. Says whether it can be undone.
 fn group_given_up(history: &mut History) -> Result<bool, AllocError>
-    requires valid { Valid (λ b. done b) (λ b. undone b) history.old }
-    requires outside { (shown (λ b. done b) (λ b. undone b) history.old).group ≡ Outside }
+    requires { Fits (λ b. done b) (λ b. undone b) (λ b. kind b) history.old Alone }
 {
     history.begin();
     history.give_up()?;

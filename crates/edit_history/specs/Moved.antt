@@ -1,0 +1,77 @@
+-- What a call asks of a history, and what it makes of it.
+--
+-- Each call is a move of the machine: of the state before it follow its answer and the state after it. The functions
+-- `done`, `undone` and `kind` say what a box keeps and which verb it has.
+use Rattle.std.specs.Prelude.{◌≡◌, ◌≢◌, ℕ, ◌≤◌, List, length, Bool, true, false, nat_le, if◌then◌else◌, Result, OnOk, IfOk, ◌⊎◌}
+use Rattle.std.specs.declared.dyn_box.DynBox.{DynBox}
+use Rattle.std.specs.declared.alloc.Global.{Global}
+use Rattle.osm_table.specs.Table.{TableValue}
+use Rattle.dataset.specs.Patch.{PatchValue, StandsBefore, after_of}
+use Rattle.dataset.specs.Sound.{IsSound}
+use Rattle.tool_api.specs.declared.verb.Verb.{Verb}
+use Rattle.tool_api.specs.declared.job.Job.{Job}
+use Rattle.tool_api.specs.declared.reply.Reply.{Reply}
+use Rattle.tool_api.specs.Plain.{verb_of, plain, IsWellFormed}
+use Rattle.edit_history.specs.declared.counts.Group.TheVariants.{Outside, Refused}
+use Rattle.edit_history.specs.declared.sides.Direction.{Direction}
+use Rattle.edit_history.specs.declared.history.History.{History}
+use Rattle.edit_history.specs.Machine.{State, IsWiped, ran, went_back, went_on}
+use Rattle.edit_history.specs.Single.{tables, went}
+use Rattle.edit_history.specs.Trail.{KeepNothing, IsAlong}
+use Rattle.edit_history.specs.Boxes.{trail_of}
+use Rattle.edit_history.specs.Shown.{shown, Valid, IsThere, verbs_of, patches_of}
+
+-- the answer of a call, and the state after it
+pub record Move (T : Type 0) : Type 0 where
+  pub answer : T
+  pub state : State
+
+-- What a call asks: the history is valid, and its state and the verbs of its boxes are as `asks` says.
+pub record Fits {X : Type 0} {F : X → Type 0} (done undone : DynBox X Global F → List PatchValue) (kind : DynBox X Global F → Verb) (h : History X F) (asks : State → List Verb → Type 0) : Type 0 where
+  pub valid : Valid done undone h
+  pub asked : asks (shown done undone h) (verbs_of kind h)
+
+-- What a call makes: the history stays valid, and its boxes keep their verbs; with Ok its answer and its state are those of the move.
+pub record Moved {X : Type 0} {F : X → Type 0} {T E : Type 0} (done undone : DynBox X Global F → List PatchValue) (kind : DynBox X Global F → Verb) (old new : History X F) (result : Result T E) (move : State → Move T) : Type 0 where
+  pub valid : Valid done undone new
+  pub verbs : verbs_of kind new ≡ verbs_of kind old
+  pub answer : IfOk result (λ answer. answer ≡ (move (shown done undone old)).answer)
+  pub state : OnOk result (shown done undone new ≡ (move (shown done undone old)).state)
+
+-- What want of memory leaves, beside a valid history: no step can be undone or done again, no group is open, and no box keeps a patch.
+pub record Stopped {X : Type 0} {F : X → Type 0} (done undone : DynBox X Global F → List PatchValue) (new : History X F) : Type 0 where
+  pub wiped : IsWiped (shown done undone new)
+  pub dones : KeepNothing (patches_of done new)
+  pub undones : KeepNothing (patches_of undone new)
+
+-- The new table stands between whole patches: k of the old trail were taken back, or gone on.
+abbrev pub IsBetween : {X : Type 0} {F : X → Type 0} → Direction → (DynBox X Global F → List PatchValue) → (DynBox X Global F → List PatchValue) → History X F → History X F → Type 0
+IsBetween way done undone old new = IsAlong way (trail_of way done undone old.jobs) (shown done undone old).now (shown done undone new).now
+
+-- a move that answers nothing
+abbrev pub silent : (State → State) → State → Move (Unit {0})
+silent step s = record { answer = tt; state = step s }
+
+-- no group is open, whatever verbs there are
+abbrev pub Alone : State → List Verb → Type 0
+Alone s verbs = s.group ≡ Outside
+
+-- a job may run
+pub record MayRun (job : Job) (s : State) (verbs : List Verb) : Type 0 where
+  pub there : IsThere (verb_of job) verbs
+  pub formed : IsWellFormed job
+  pub unrefused : s.group ≢ Refused
+
+-- a job is run
+abbrev pub run_move : Job → ℕ → State → Move Reply
+run_move job limit s = record { answer = (plain job s.now limit).reply; state = ran (plain job s.now limit).reply (plain job s.now limit).table s }
+
+-- n steps this way, where there are so many
+abbrev pub steps_move : Direction → ℕ → State → Move Bool
+steps_move way n s = if nat_le n (length (tables way s)) then record { answer = true; state = went way n s } else record { answer = false; state = s }
+
+-- a patch may be settled
+pub record MaySettle (patch : PatchValue) (s : State) (verbs : List Verb) : Type 0 where
+  pub outside : s.group ≡ Outside
+  pub stands : StandsBefore patch s.now
+  pub sound : IsSound (after_of patch s.now)
