@@ -13,7 +13,7 @@ use Rattle.osm_base.proofs.ByRank.{rises_keys}
 use Rattle.osm_table.specs.declared.entry.Entry.{Entry}
 use Rattle.osm_table.specs.Table.{TableValue, entry_of}
 use Rattle.osm_base.specs.RisingKeys.{rises, is_in}
-use Rattle.dataset.specs.declared.edit.Edit.{Edit}
+use Rattle.dataset.specs.Edit.{Edit}
 use Rattle.dataset.specs.Patch.{PatchValue, IsDiff}
 use Rattle.dataset.specs.Draft.{DiffOver}
 use Rattle.dataset.specs.Diff.{same_at, keys_of_both, edits_over, diff}

@@ -12,7 +12,7 @@ use Rattle.osm_base.proofs.ByRank.{rises_keys}
 use Rattle.osm_table.specs.declared.entry.Entry.{Entry}
 use Rattle.osm_table.specs.Table.{TableValue, entry_of}
 use Rattle.osm_base.specs.RisingKeys.{marked, rises, is_in}
-use Rattle.dataset.specs.declared.edit.Edit.{Edit}
+use Rattle.dataset.specs.Edit.{Edit}
 use Rattle.dataset.specs.Patch.{Entries, PatchValue, IsDiff, keyed, in_order, edit_at}
 use Rattle.dataset.specs.Draft.{DraftValue, DiffOver, IsEditOf, overlaid, drafted}
 use Rattle.osm_base.proofs.RisingKeys.{one_key}

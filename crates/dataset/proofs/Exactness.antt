@@ -16,7 +16,7 @@ use Rattle.osm_table.specs.Table.{TableValue, entry_of}
 use Rattle.ref_index.specs.declared.pair.Pair.{Pair}
 use Rattle.ref_index.specs.Bag.{Bag, count, times, is_pair, pair_cmp}
 use Rattle.ref_index.proofs.Agreement.{pair_parts}
-use Rattle.dataset.specs.declared.edit.Edit.{Edit}
+use Rattle.dataset.specs.Edit.{Edit}
 use Rattle.dataset.specs.Patch.{Entries, in_order, edit_at, edited}
 use Rattle.dataset.specs.Exact.{mine_at, refs_at, times_key, IsExact, pairs_of, pairs_by, moved_pairs, keeps_refs, same_lists}
 use Rattle.dataset.specs.Sides.{side}

@@ -7,7 +7,7 @@ use Rattle.osm_base.specs.declared.content.Content.TheVariants.{Way}
 use Rattle.osm_table.specs.declared.entry.Base.TheVariants.{New}
 use Rattle.osm_table.specs.declared.entry.Entry.{Entry}
 use Rattle.osm_table.specs.declared.entry.Entry.TheVariants.{Incomplete, Known}
-use Rattle.dataset.specs.declared.edit.Edit.{Edit}
+use Rattle.dataset.specs.Edit.{Edit}
 use Rattle.dataset.specs.Patch.{in_order, edit_at}
 use Rattle.dataset.specs.Diff.{same_at}
 use Rattle.dataset.specs.Exact.{refs_at, keeps_refs, pairs_by}

@@ -9,7 +9,7 @@ use Rattle.osm_base.specs.declared.key.Key.{Key}
 use Rattle.osm_table.specs.declared.entry.Entry.{Entry}
 use Rattle.osm_table.specs.Table.{TableValue, entry_of}
 use Rattle.osm_table.proofs.Each.{same_table}
-use Rattle.dataset.specs.declared.edit.Edit.{Edit}
+use Rattle.dataset.specs.Edit.{Edit}
 use Rattle.dataset.specs.Patch.{Entries, PatchValue, IsPatch, StandsBefore, StandsAfter, Leads, IsDiff, keyed, edit_at, edited, after_of, before_of}
 use Rattle.dataset.proofs.Looked.{get_edited, found, found_key, all_from_found}
 

@@ -4,7 +4,7 @@ use Rattle.std.specs.Prelude.{T}
 use Rattle.osm_table.specs.Table.{TableValue}
 use Rattle.ref_index.specs.declared.pair.Pair.{Pair}
 use Rattle.ref_index.specs.Bag.{Bag, count, times}
-use Rattle.dataset.specs.declared.edit.Edit.{Edit}
+use Rattle.dataset.specs.Edit.{Edit}
 use Rattle.dataset.specs.Patch.{PatchValue, in_order, after_of, before_of}
 use Rattle.dataset.specs.Exact.{IsExact, pairs_by}
 use Rattle.dataset.specs.Sides.{side, led}

@@ -12,7 +12,7 @@ use Rattle.osm_base.specs.RankLaws.{rank_total}
 use Rattle.osm_base.proofs.RisingKeys.{one_key, key_itself}
 use Rattle.osm_base.specs.declared.key.Key.{Key}
 use Rattle.osm_table.specs.declared.entry.Entry.{Entry}
-use Rattle.dataset.specs.declared.edit.Edit.{Edit}
+use Rattle.dataset.specs.Edit.{Edit}
 use Rattle.dataset.specs.Patch.{Entries, keyed, in_order, edit_at, placed, edited}
 
 pub fore : (a b : Bool) → T (a && b) → T a

@@ -13,7 +13,7 @@ use Rattle.osm_base.proofs.RisingKeys.{one_key}
 use Rattle.osm_table.specs.declared.entry.Entry.{Entry}
 use Rattle.osm_table.specs.Table.{TableValue, entry_of, with_entry}
 use Rattle.osm_table.proofs.Each.{same_table, get_with}
-use Rattle.dataset.specs.declared.edit.Edit.{Edit}
+use Rattle.dataset.specs.Edit.{Edit}
 use Rattle.dataset.specs.declared.writes.Write.{Write}
 use Rattle.dataset.specs.Patch.{Entries, placed, edited, in_order, edit_at}
 use Rattle.dataset.specs.Sides.{side, led, is_fresh, fresh, is_gone, gone, write_of, writes_of, written}

@@ -6,7 +6,7 @@ use Rattle.osm_base.specs.declared.key.Key.{Key}
 use Rattle.osm_table.specs.Same.{same_entry}
 use Rattle.osm_table.specs.declared.entry.Entry.{Entry}
 use Rattle.osm_table.specs.Table.{TableValue, entry_of}
-use Rattle.dataset.specs.declared.edit.Edit.{Edit}
+use Rattle.dataset.specs.Edit.{Edit}
 use Rattle.dataset.specs.Patch.{PatchValue}
 
 -- both or no entry, and the same entry

@@ -8,7 +8,7 @@ use Rattle.osm_base.specs.contracts.key.Key as key
 use Rattle.osm_table.specs.contracts.entry.Entry as entry
 use Rattle.osm_table.specs.declared.entry.Entry.{Entry}
 use Rattle.osm_table.specs.Table.{TableValue, entry_of}
-use Rattle.dataset.specs.declared.edit.Edit.{Edit}
+use Rattle.dataset.specs.Edit.{Edit}
 use Rattle.dataset.specs.Patch.{Entries, placed}
 
 -- new entries, or none, by key, and a number

@@ -12,7 +12,7 @@ use Rattle.osm_table.specs.declared.entry.Entry.{Entry}
 use Rattle.osm_table.specs.Table.{TableValue, entry_of, mine_of}
 use Rattle.ref_index.specs.declared.pair.Pair.{Pair}
 use Rattle.ref_index.specs.Bag.{Bag, count}
-use Rattle.dataset.specs.declared.edit.Edit.{Edit}
+use Rattle.dataset.specs.Edit.{Edit}
 
 -- the content that a key has now, if it lives
 abbrev pub mine_at : Option Entry → Option Content

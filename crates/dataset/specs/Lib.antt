@@ -1,3 +1,4 @@
+pub mod Edit
 pub mod Patch
 pub mod Exact
 pub mod Sides

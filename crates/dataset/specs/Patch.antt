@@ -7,7 +7,7 @@ use Rattle.osm_base.specs.Rank.{rank_cmp}
 use Rattle.osm_base.specs.declared.key.Key.{Key}
 use Rattle.osm_table.specs.declared.entry.Entry.{Entry}
 use Rattle.osm_table.specs.Table.{TableValue, entry_of}
-use Rattle.dataset.specs.declared.edit.Edit.{Edit}
+use Rattle.dataset.specs.Edit.{Edit}
 
 pub record PatchValue : Type 0 where
   pub edits : List Edit

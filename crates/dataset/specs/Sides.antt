@@ -4,7 +4,7 @@ use Rattle.std.specs.List.{filter, filter_map}
 use Rattle.std.specs.Option.{option_map}
 use Rattle.osm_table.specs.declared.entry.Entry.{Entry}
 use Rattle.osm_table.specs.Table.{TableValue, with_entry}
-use Rattle.dataset.specs.declared.edit.Edit.{Edit}
+use Rattle.dataset.specs.Edit.{Edit}
 use Rattle.dataset.specs.declared.writes.Write.{Write}
 use Rattle.dataset.specs.Patch.{edited}
 

@@ -68,6 +68,19 @@ impl Draft {
         ensures err { OnErr result (self.new ≡ self.old) }
     {
         let after = share(*self.puts.allocator(), after)?;
+        self.put_shared(key, after)?;
+        Ok(())
+    }
+
+    /// As `put`, of an entry that stands elsewhere already.
+    ///
+    /// # Errors
+    ///
+    /// Where no memory is found; then nothing changes.
+    pub fn put_shared(&mut self, key: Key, after: Option<SharedEntry>) -> Result<(), AllocError>
+        ensures ok { OnOk result (self.new ≡ record { puts = map.insert self.old.puts key after; next = self.old.next }) }
+        ensures err { OnErr result (self.new ≡ self.old) }
+    {
         self.puts.insert(key, after)?;
         Ok(())
     }

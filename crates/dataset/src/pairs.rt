@@ -22,18 +22,11 @@ pub fn pairs(alloc: Global, edits: &[Edit], forth: bool) -> Result<Vec<Pair>, Al
     Ok(pairs)
 }
 
-/// One side of an edit: what comes with `forth`, else what was.
-pub fn side(edit: &Edit, forth: bool) -> &Option<SharedEntry>
-    ensures { result.now ≡ side forth edit.now }
-{
-    if forth { &edit.after } else { &edit.before }
-}
-
 fn push_moved(pairs: &mut Vec<Pair>, edit: &Edit, forth: bool) -> Result<(), AllocError>
     ensures { OnOk result (pairs.new.items ≡ pairs.old.items ++ moved_pairs (side forth) edit.now) }
 {
     if !keeps_refs(edit) {
-        push_pairs(pairs, edit.key, side(edit, forth))?;
+        push_pairs(pairs, edit.key(), edit.side(forth))?;
     }
     Ok(())
 }
@@ -41,12 +34,12 @@ fn push_moved(pairs: &mut Vec<Pair>, edit: &Edit, forth: bool) -> Result<(), All
 fn keeps_refs(edit: &Edit) -> bool
     ensures { result ≡ keeps_refs edit.now }
 {
-    same_lists(mine_at(&edit.before), mine_at(&edit.after))
+    same_lists(mine_at(edit.before()), mine_at(edit.after()))
 }
 
 /// The content that an entry has, if it lives.
-fn mine_at(entry: &Option<SharedEntry>) -> Option<&Content>
-    ensures { option_copied result ≡ mine_at entry.now }
+fn mine_at(entry: Option<&SharedEntry>) -> Option<&Content>
+    ensures { option_copied result ≡ mine_at (option_copied entry.entry) }
 {
     match entry {
         Some(entry) => entry.value().mine(),
@@ -77,9 +70,9 @@ fn same_lists(a: Option<&Content>, b: Option<&Content>) -> bool
 fn push_pairs(
     pairs: &mut Vec<Pair>,
     user: Key,
-    entry: &Option<SharedEntry>,
+    entry: Option<&SharedEntry>,
 ) -> Result<(), AllocError>
-    ensures { OnOk result (pairs.new.items ≡ pairs.old.items ++ pairs_of user entry.now) }
+    ensures { OnOk result (pairs.new.items ≡ pairs.old.items ++ pairs_of user (option_copied entry.entry)) }
 {
     match mine_at(entry) {
         Some(content) => push_content(pairs, user, content),

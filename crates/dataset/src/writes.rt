@@ -7,7 +7,6 @@ ghost use Rattle.dataset.specs.Patch.{in_order};
 ghost use Rattle.dataset.specs.Sides.{side, led, fresh, gone, writes_of, written};
 
 use crate::edit::Edit;
-use crate::pairs::side;
 use osm_base::Key;
 use osm_table::{SharedEntry, Table};
 use std::alloc::{AllocError, Global};
@@ -22,9 +21,9 @@ pub struct Write {
 fn push_write(writes: &mut Vec<Write>, edit: &Edit, forth: bool) -> Result<(), AllocError>
     ensures { OnOk result (writes.new.items ≡ writes.old.items ++ writes_of forth (edit.now ∷ [])) }
 {
-    if let (Some(entry), Some(_)) = (side(edit, forth), side(edit, !forth)) {
+    if let (Some(entry), Some(_)) = (edit.side(forth), edit.side(!forth)) {
         writes.push(Write {
-            key: edit.key,
+            key: edit.key(),
             entry: entry.copy()?,
         })?;
     }
@@ -46,8 +45,8 @@ fn put_fresh(table: &mut Table, edit: &Edit, forth: bool) -> Result<(), AllocErr
     ensures ok { OnOk result (table.new ≡ led (side forth) (fresh forth (edit.now ∷ [])) table.old) }
     ensures err { OnErr result (table.new ≡ table.old) }
 {
-    match (side(edit, forth), side(edit, !forth)) {
-        (Some(entry), None) => table.set(edit.key, entry.copy()?),
+    match (edit.side(forth), edit.side(!forth)) {
+        (Some(entry), None) => table.set(edit.key(), entry.copy()?),
         _ => Ok(()),
     }
 }
@@ -71,8 +70,8 @@ pub fn put_keys(table: &mut Table, edits: &[Edit], forth: bool) -> Result<(), Al
 fn drop_gone(table: &mut Table, edit: &Edit, forth: bool)
     ensures { table.new ≡ led (side forth) (gone forth (edit.now ∷ [])) table.old }
 {
-    if side(edit, forth).is_none() {
-        table.remove(edit.key);
+    if edit.side(forth).is_none() {
+        table.remove(edit.key());
     }
 }
 

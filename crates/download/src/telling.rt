@@ -95,6 +95,7 @@ fn mention_all(told: &mut ToldMap, keys: &[Key]) -> Result<(), AllocError>
 mod tests {
     use super::*;
     use osm_base::{Kind, Meta, Refs, Tags};
+    use osm_table::{Base, SharedEntry};
     use std::test::Fail;
 
     // w5 of n1 and n2, and n1, which is deleted.
@@ -131,13 +132,14 @@ mod tests {
         Key { kind, id }
     }
 
-    fn word(told: Option<&Told>) -> &'static str {
-        match told {
-            None => "none",
-            Some(Told::Nothing) => "nothing",
-            Some(Told::Mentioned) => "mentioned",
-            Some(Told::Live { version: 3, .. }) => "live 3",
-            Some(Told::Gone { version: 4, .. }) => "gone 4",
+    fn word(told: Option<&SharedEntry>) -> &'static str {
+        let Some(entry) = told else {
+            return "none";
+        };
+        match entry.value().base() {
+            None => "mentioned",
+            Some(Base::Live { version: 3, .. }) => "live 3",
+            Some(Base::Gone { version: 4, .. }) => "gone 4",
             Some(_) => "another version",
         }
     }

@@ -7,12 +7,12 @@ use Rattle.osm_base.specs.Rank.{is_key}
 use Rattle.osm_base.proofs.RisingKeys.{one_key, in_filter}
 use Rattle.osm_base.specs.declared.key.Key.{Key}
 use Rattle.osm_table.specs.Table.{TableValue, entry_of}
-use Rattle.osm_table.specs.Told.{ToldValue, told_at}
+use Rattle.osm_table.specs.Told.{ToldValue, told_at, entry_told}
 use Rattle.osm_table.specs.declared.entry.Base.TheVariants as base
 use Rattle.osm_table.specs.declared.entry.Entry.{Entry}
 use Rattle.osm_table.specs.declared.entry.Entry.TheVariants.{Incomplete, Known}
 use Rattle.osm_table.specs.declared.told.Told.{Told}
-use Rattle.osm_table.specs.declared.told.Told.TheVariants.{Nothing, Mentioned, Live, Gone}
+use Rattle.osm_table.specs.declared.told.Told.TheVariants.{Mentioned, Live, Gone}
 use Rattle.osm_table.proofs.Each.{get_with, same_table}
 use Rattle.tool_api.specs.Tests.{is_named}
 use Rattle.tool_api.specs.Changes.{changed}
@@ -44,16 +44,13 @@ either_way : (o old : Option Entry) → (o ≡ old) ⊎ (o ≡ old) → o ≡ ol
 either_way o old (inl e) = e
 either_way o old (inr e) = e
 
-told_one : (s : SoFar) (k q : Key) (old : Option Entry) (news : Told) → OldOrNew s.table k old (taken old (Some news)) → entry_of (tell s k old news).table q ≡ cond (is_key q k) (taken old (Some news)) (entry_of s.table q)
-told_one s k q None Nothing has = stays s.table k q (is_key q k) None refl (either_way _ _ has)
+told_one : (s : SoFar) (k q : Key) (old : Option Entry) (news : Told) → OldOrNew s.table k old (taken old (Some news)) → entry_of (tell s k old (entry_told news)).table q ≡ cond (is_key q k) (taken old (Some news)) (entry_of s.table q)
 told_one s k q None Mentioned has = get_with s.table k Incomplete q
 told_one s k q None (Live v c m) has = get_with s.table k (Known (base.Live v c m) (Some c) None) q
 told_one s k q None (Gone v m) has = stays s.table k q (is_key q k) None refl (either_way _ _ has)
-told_one s k q (Some Incomplete) Nothing has = stays s.table k q (is_key q k) _ refl (either_way _ _ has)
 told_one s k q (Some Incomplete) Mentioned has = stays s.table k q (is_key q k) _ refl (either_way _ _ has)
 told_one s k q (Some Incomplete) (Live v c m) has = get_with s.table k (Known (base.Live v c m) (Some c) None) q
 told_one s k q (Some Incomplete) (Gone v m) has = stays s.table k q (is_key q k) _ refl (either_way _ _ has)
-told_one s k q (Some (Known b mine conflict)) Nothing has = stays s.table k q (is_key q k) _ refl (either_way _ _ has)
 told_one s k q (Some (Known b mine conflict)) Mentioned has = stays s.table k q (is_key q k) _ refl (either_way _ _ has)
 told_one s k q (Some (Known b mine conflict)) (Live v c m) has = stays s.table k q (is_key q k) _ refl (either_way _ _ has)
 told_one s k q (Some (Known b mine conflict)) (Gone v m) has = stays s.table k q (is_key q k) _ refl (either_way _ _ has)
@@ -63,7 +60,7 @@ taken_none None = refl
 taken_none (Some Incomplete) = refl
 taken_none (Some (Known b mine conflict)) = refl
 
-told_maybe : (s : SoFar) (k q : Key) (old : Option Entry) (o : Option Told) → OldOrNew s.table k old (taken old o) → entry_of (option_map_or (tell s k old) o s).table q ≡ cond (is_key q k) (taken old o) (entry_of s.table q)
+told_maybe : (s : SoFar) (k q : Key) (old : Option Entry) (o : Option Told) → OldOrNew s.table k old (taken old o) → entry_of (option_map_or (λ news. tell s k old (entry_told news)) o s).table q ≡ cond (is_key q k) (taken old o) (entry_of s.table q)
 told_maybe s k q old None has =
     let same : entry_of s.table k ≡ taken old None = either_way _ _ (subst (λ e. OldOrNew s.table k e (taken old None)) (sym (taken_none old)) has) in
     stays s.table k q (is_key q k) (taken old None) refl same
@@ -84,9 +81,8 @@ told_keys t told s (k ∷ ks) q has =
     ∙ ap (cond (is_named ks q) (taken_at t told q)) (one q)
     ∙ either (taken_at t told) q k (is_named ks q) (is_key q k) (entry_of s.table q) refl
 
-tell_number : (s : SoFar) (k : Key) (old : Option Entry) (o : Option Told) → (option_map_or (tell s k old) o s).table.next ≡ s.table.next
+tell_number : (s : SoFar) (k : Key) (old : Option Entry) (o : Option Told) → (option_map_or (λ news. tell s k old (entry_told news)) o s).table.next ≡ s.table.next
 tell_number s k old None = refl
-tell_number s k old (Some Nothing) = elim old as (λ old. (tell s k old Nothing).table.next ≡ s.table.next) [ None ↦ refl | Some e ↦ refl ]
 tell_number s k None (Some Mentioned) = refl
 tell_number s k (Some e) (Some Mentioned) = refl
 tell_number s k None (Some (Live v c m)) = refl
@@ -98,9 +94,8 @@ told_number : (t : TableValue) (told : ToldValue) (s : SoFar) (ks : List Key) �
 told_number t told s [] = refl
 told_number t told s (k ∷ ks) = told_number t told (tell_next t told s k) ks ∙ tell_number s k (entry_of t k) (told_at told k)
 
-tell_least : (s : SoFar) (k : Key) (old : Option Entry) (o : Option Told) → (option_map_or (tell s k old) o s).least ≡ cond (is_news old o) (lesser s.least k) s.least
+tell_least : (s : SoFar) (k : Key) (old : Option Entry) (o : Option Told) → (option_map_or (λ news. tell s k old (entry_told news)) o s).least ≡ cond (is_news old o) (lesser s.least k) s.least
 tell_least s k old None = refl
-tell_least s k old (Some Nothing) = refl
 tell_least s k None (Some Mentioned) = refl
 tell_least s k (Some e) (Some Mentioned) = refl
 tell_least s k None (Some (Live v c m)) = refl
@@ -202,12 +197,10 @@ refers_least t s (r ∷ rs) same =
 taken_deleted : (old : Option Entry) (o : Option Told) → is_deleted (taken old o) ≡ is_deleted old
 taken_deleted (Some (Known b mine conflict)) o = refl
 taken_deleted None None = refl
-taken_deleted None (Some Nothing) = refl
 taken_deleted None (Some Mentioned) = refl
 taken_deleted None (Some (Live v c m)) = refl
 taken_deleted None (Some (Gone v m)) = refl
 taken_deleted (Some Incomplete) None = refl
-taken_deleted (Some Incomplete) (Some Nothing) = refl
 taken_deleted (Some Incomplete) (Some Mentioned) = refl
 taken_deleted (Some Incomplete) (Some (Live v c m)) = refl
 taken_deleted (Some Incomplete) (Some (Gone v m)) = refl

@@ -18,7 +18,7 @@ use Rattle.osm_table.specs.declared.entry.Base.TheVariants as base
 use Rattle.osm_table.specs.declared.entry.Entry.{Entry}
 use Rattle.osm_table.specs.declared.entry.Entry.TheVariants.{Incomplete, Known}
 use Rattle.osm_table.specs.declared.told.Told.{Told}
-use Rattle.osm_table.specs.declared.told.Told.TheVariants.{Nothing, Mentioned, Live, Gone}
+use Rattle.osm_table.specs.declared.told.Told.TheVariants.{Mentioned, Live, Gone}
 use Rattle.dataset.specs.Sound.{IsSound, IsSoundEntry, IsNumber, LivesIn}
 use Rattle.dataset.proofs.Changes.{incomplete_entry}
 use Rattle.tool_api.specs.Tests.{is_named}
@@ -69,7 +69,6 @@ all_positive (k ∷ ks) q all e = elim (either_is (is_key q k) (is_named ks q) e
 
 told_positive : (k q : Key) (o : Option Told) → ((news : Told) → o ≡ Some news → IsTold k news) → is_named (told_refs o) q ≡ true → IsPositive q.id
 told_positive k q None all e = cc
-told_positive k q (Some Nothing) all e = cc
 told_positive k q (Some Mentioned) all e = cc
 told_positive k q (Some (Live v c m)) all e = all_positive (refs_of c) q (all (Live v c m) refl).2.1 e
 told_positive k q (Some (Gone v m)) all e = cc
@@ -109,12 +108,10 @@ live_entry n v k c m h = record {
 taken_entry : (n : ℕ) (k : Key) (old : Option Entry) (o : Option Told) (e : Entry) → taken old o ≡ Some e → ((x : Entry) → old ≡ Some x → IsSoundEntry n k x) → ((news : Told) → o ≡ Some news → IsTold k news) → IsSoundEntry n k e
 taken_entry n k (Some (Known b mine conflict)) o e is before all = before e is
 taken_entry n k (Some Incomplete) None e is before all = before e is
-taken_entry n k (Some Incomplete) (Some Nothing) e is before all = before e is
 taken_entry n k (Some Incomplete) (Some Mentioned) e is before all = before e is
 taken_entry n k (Some Incomplete) (Some (Live v c m)) e is before all = subst (IsSoundEntry n k) (let same : Known (base.Live v c m) (Some c) None ≡ e = cc in same) (live_entry n v k c m (all (Live v c m) refl))
 taken_entry n k (Some Incomplete) (Some (Gone v m)) e is before all = before e is
 taken_entry n k None None e is before all = cc
-taken_entry n k None (Some Nothing) e is before all = cc
 taken_entry n k None (Some Mentioned) e is before all = subst (IsSoundEntry n k) (let same : Incomplete ≡ e = cc in same) (incomplete_entry n k (all Mentioned refl))
 taken_entry n k None (Some (Live v c m)) e is before all = subst (IsSoundEntry n k) (let same : Known (base.Live v c m) (Some c) None ≡ e = cc in same) (live_entry n v k c m (all (Live v c m) refl))
 taken_entry n k None (Some (Gone v m)) e is before all = cc
@@ -129,7 +126,6 @@ taken_there old o false h = h
 taken_there None o true h = absurd h
 taken_there (Some (Known b mine conflict)) o true h = h
 taken_there (Some Incomplete) None true h = tt
-taken_there (Some Incomplete) (Some Nothing) true h = tt
 taken_there (Some Incomplete) (Some Mentioned) true h = tt
 taken_there (Some Incomplete) (Some (Live v c m)) true h = refl
 taken_there (Some Incomplete) (Some (Gone v m)) true h = tt
@@ -146,7 +142,6 @@ named_there (Some (Known base (Some c) conflict)) o false e = refl
 named_there (Some Incomplete) o b e = entered_there true _ (taken_there (Some Incomplete) o b tt)
 named_there None o false e = tt
 named_there None None true e = tt
-named_there None (Some Nothing) true e = tt
 named_there None (Some Mentioned) true e = tt
 named_there None (Some (Live v c m)) true e = refl
 named_there None (Some (Gone v m)) true e = tt
@@ -155,12 +150,10 @@ named_there None (Some (Gone v m)) true e = tt
 taken_uses : (old : Option Entry) (o : Option Told) (e : Entry) (r : Key) (P : Type 0) → taken old o ≡ Some e → IsTrue (uses e r) → (old ≡ Some e → P) → (is_named (told_refs o) r ≡ true → P) → P
 taken_uses (Some (Known b mine conflict)) o e r P is used before new = before is
 taken_uses (Some Incomplete) None e r P is used before new = before is
-taken_uses (Some Incomplete) (Some Nothing) e r P is used before new = before is
 taken_uses (Some Incomplete) (Some Mentioned) e r P is used before new = before is
 taken_uses (Some Incomplete) (Some (Live v c m)) e r P is used before new = new (subst (λ (e : Entry). uses e r ≡ true) (let same : e ≡ Known (base.Live v c m) (Some c) None = cc in same) used)
 taken_uses (Some Incomplete) (Some (Gone v m)) e r P is used before new = before is
 taken_uses None None e r P is used before new = cc
-taken_uses None (Some Nothing) e r P is used before new = cc
 taken_uses None (Some Mentioned) e r P is used before new = let none : uses e r ≡ false = ap (λ (e : Entry). uses e r) (let same : e ≡ Incomplete = cc in same) in let f : true ≡ false = sym used ∙ none in cc
 taken_uses None (Some (Live v c m)) e r P is used before new = new (subst (λ (e : Entry). uses e r ≡ true) (let same : e ≡ Known (base.Live v c m) (Some c) None = cc in same) used)
 taken_uses None (Some (Gone v m)) e r P is used before new = cc

@@ -6,7 +6,7 @@ use Rattle.std.proofs.lemmas.Grind.{flat_map-append}
 use Rattle.std.proofs.lemmas.List.Sums.{fold-append}
 use Rattle.osm_base.specs.declared.key.Key.{Key}
 use Rattle.osm_table.specs.Table.{TableValue, entry_of}
-use Rattle.osm_table.specs.Told.{ToldValue, told_at}
+use Rattle.osm_table.specs.Told.{ToldValue, told_at, entry_told}
 use Rattle.osm_table.specs.declared.told.Told.{Told}
 use Rattle.osm_table.specs.declared.entry.Entry.{Entry}
 use Rattle.dataset.specs.Draft.{DraftValue}
@@ -22,10 +22,10 @@ taken_more [] i x e = cc
 taken_more (y ∷ ys) zero x e = let same : y ≡ x = cc in ap (λ z. z ∷ []) same
 taken_more (y ∷ ys) (suc i) x e = ap (λ zs. y ∷ zs) (taken_more ys i x e)
 
-pub told_more : (t : TableValue) (told : ToldValue) (from s new : SoFar) (i : ℕ) (k : Key) (news : Told) → s ≡ fold (tell_next t told) from (take i told.order) → slice_get told.order i ≡ Some k → told_at told k ≡ Some news
-    → new ≡ tell s k (entry_of t k) news → new ≡ fold (tell_next t told) from (take (suc i) told.order)
-told_more t told from s new i k news before at is step =
-    let one : tell s k (entry_of t k) news ≡ tell_next t told s k = rw is refl in
+pub told_more : (t : TableValue) (told : ToldValue) (from s new : SoFar) (i : ℕ) (k : Key) (news : Told) (e : Entry) → s ≡ fold (tell_next t told) from (take i told.order) → slice_get told.order i ≡ Some k → told_at told k ≡ Some news
+    → entry_told news ≡ e → new ≡ tell s k (entry_of t k) e → new ≡ fold (tell_next t told) from (take (suc i) told.order)
+told_more t told from s new i k news e before at is kept step =
+    let one : tell s k (entry_of t k) e ≡ tell_next t told s k = rw (is, kept) refl in
     step ∙ one ∙ ap (λ z. tell_next t told z k) before
     ∙ sym (fold-append (tell_next t told) from (take i told.order) (k ∷ []))
     ∙ sym (ap (fold (tell_next t told) from) (taken_more told.order i k at))

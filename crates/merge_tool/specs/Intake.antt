@@ -7,12 +7,9 @@ use Rattle.std.specs.Prelude.{Option, Some, None}
 use Rattle.std.specs.Option.{option_map_or}
 use Rattle.osm_base.specs.declared.key.Key.{Key}
 use Rattle.osm_table.specs.Table.{TableValue, entry_of, with_entry}
-use Rattle.osm_table.specs.Told.{ToldValue, told_at}
-use Rattle.osm_table.specs.declared.entry.Base.TheVariants as base
+use Rattle.osm_table.specs.Told.{ToldValue, told_at, entry_told}
 use Rattle.osm_table.specs.declared.entry.Entry.{Entry}
 use Rattle.osm_table.specs.declared.entry.Entry.TheVariants.{Incomplete, Known}
-use Rattle.osm_table.specs.declared.told.Told.{Told}
-use Rattle.osm_table.specs.declared.told.Told.TheVariants.{Mentioned, Live, Gone}
 use Rattle.dataset.specs.Draft.{drafted}
 use Rattle.tool_api.specs.Merged.{lesser}
 use Rattle.merge_tool.specs.declared.intake.Intake.{Intake}
@@ -34,17 +31,18 @@ keep_out s k = record { table = s.table; least = lesser s.least k }
 abbrev pub enter : SoFar → Key → Entry → SoFar
 enter s k e = record { table = with_entry s.table k e; least = s.least }
 
--- What is told of a key that had such an entry: an object that isn't known enters as it is told, and news keeps out.
-abbrev pub tell : SoFar → Key → Option Entry → Told → SoFar
-tell s k entry (Gone version meta) = keep_out s k
-tell s k (Some (Known base mine conflict)) (Live version content meta) = keep_out s k
-tell s k entry (Live version content meta) = enter s k (Known (base.Live version content meta) (Some content) None)
-tell s k None Mentioned = enter s k Incomplete
-tell s k entry told = s
+-- What is told of a key that had such an entry, as the entry of which no more is known: an object that isn't known
+-- enters with it, and news keeps out.
+abbrev pub tell : SoFar → Key → Option Entry → Entry → SoFar
+tell s k None Incomplete = enter s k Incomplete
+tell s k (Some old) Incomplete = s
+tell s k old (Known base None conflict) = keep_out s k
+tell s k (Some (Known base mine conflict)) (Known told (Some content) other) = keep_out s k
+tell s k old (Known told (Some content) conflict) = enter s k (Known told (Some content) conflict)
 
 -- what is told of a key of the table
 abbrev pub tell_next : TableValue → ToldValue → SoFar → Key → SoFar
-tell_next t told s k = option_map_or (tell s k (entry_of t k)) (told_at told k) s
+tell_next t told s k = option_map_or (λ news. tell s k (entry_of t k) (entry_told news)) (told_at told k) s
 
 -- A reference: it enters as Incomplete where it isn't there, and keeps out where it is deleted.
 abbrev pub refer_at : SoFar → Key → Option Entry → SoFar

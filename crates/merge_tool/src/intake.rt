@@ -2,15 +2,13 @@
 ghost use Rattle.std.specs.Prelude.{◌≡◌, ◌++◌, None, Some, IfOk, OnOk};
 ghost use Rattle.std.specs.List.{fold};
 ghost use Rattle.osm_table.specs.Table.{TableValue, entry_of};
-ghost use Rattle.osm_table.specs.declared.entry.Base.TheVariants as base;
-ghost use Rattle.osm_table.specs.declared.entry.Entry.TheVariants as entry;
-ghost use Rattle.osm_table.specs.declared.told.Told.TheVariants as told;
+ghost use Rattle.osm_table.specs.Told.{told_of};
 ghost use Rattle.tool_api.specs.Merged.{lesser, least, references, told_refs, unbuilt, merged};
 ghost use Rattle.merge_tool.specs.Intake.{so_far, keep_out, enter, tell, tell_next, refer};
 
 use dataset::{DataSet, Draft};
-use osm_base::{Content, Key, Meta, push_references};
-use osm_table::{Base, Entry, Told, ToldMap};
+use osm_base::{Key, push_references};
+use osm_table::{Base, Entry, SharedEntry, ToldMap};
 use std::alloc::{AllocError, Global};
 
 /// What a download makes of the table, as far as it was looked through.
@@ -20,21 +18,6 @@ pub struct Intake {
     pub draft: Draft,
     /// The least key so far that keeps the download out.
     pub least: Option<Key>,
-}
-
-/// The entry of an object that is as the server has it.
-fn known(version: u32, content: &Content, meta: &Meta) -> Result<Entry, AllocError>
-    ensures { IfOk result (λ e. e ≡ entry.Known (base.Live version content.now meta.now) (Some content.now) None) }
-{
-    Ok(Entry::Known {
-        base: Base::Live {
-            version,
-            content: content.copy()?,
-            meta: meta.copy()?,
-        },
-        mine: Some(content.copy()?),
-        conflict: None,
-    })
 }
 
 fn lesser(least: Option<Key>, key: Key) -> Option<Key>
@@ -70,58 +53,28 @@ impl Intake {
         self.least = lesser(self.least, key);
     }
 
-    fn enter(&mut self, key: Key, entry: Entry) -> Result<(), AllocError>
+    fn enter(&mut self, key: Key, entry: SharedEntry) -> Result<(), AllocError>
         ensures { OnOk result ((t : TableValue) → so_far t self.new ≡ enter (so_far t self.old) key entry) }
     {
-        self.draft.put(key, Some(entry))?;
+        self.draft.put_shared(key, Some(entry))?;
         Ok(())
     }
 
-    fn tell_live(
-        &mut self,
-        ds: &DataSet,
-        key: Key,
-        version: u32,
-        content: &Content,
-        meta: &Meta,
-    ) -> Result<(), AllocError>
-        ensures { OnOk result (so_far ds.now self.new ≡ tell (so_far ds.now self.old) key (entry_of ds.now key) (told.Live version content.now meta.now)) }
-    {
-        match ds.entry(key) {
-            Some(Entry::Known { .. }) => {
-                self.keep_out(key);
-                Ok(())
-            }
-            Some(Entry::Incomplete) => self.enter(key, known(version, content, meta)?),
-            None => self.enter(key, known(version, content, meta)?),
-        }
-    }
-
-    fn mention(&mut self, ds: &DataSet, key: Key) -> Result<(), AllocError>
-        ensures { OnOk result (so_far ds.now self.new ≡ tell (so_far ds.now self.old) key (entry_of ds.now key) told.Mentioned) }
-    {
-        match ds.entry(key) {
-            None => self.enter(key, Entry::Incomplete),
-            Some(_) => Ok(()),
-        }
-    }
-
-    /// Takes in what is told of a key, or notes that it keeps the download out.
-    fn tell(&mut self, ds: &DataSet, key: Key, news: &Told) -> Result<(), AllocError>
+    /// Takes in what is told of a key, or notes that it keeps the download out. What enters shares its block.
+    fn tell(&mut self, ds: &DataSet, key: Key, news: &SharedEntry) -> Result<(), AllocError>
         ensures { OnOk result (so_far ds.now self.new ≡ tell (so_far ds.now self.old) key (entry_of ds.now key) news.now) }
     {
-        match news {
-            Told::Nothing => Ok(()),
-            Told::Mentioned => self.mention(ds, key),
-            Told::Live {
-                version,
-                content,
-                meta,
-            } => self.tell_live(ds, key, *version, content, meta),
-            Told::Gone { .. } => {
+        match (news.value(), ds.entry(key)) {
+            (Entry::Incomplete, Some(_)) => Ok(()),
+            (Entry::Known { mine: None, .. }, _) => {
                 self.keep_out(key);
                 Ok(())
             }
+            (Entry::Known { .. }, Some(Entry::Known { .. })) => {
+                self.keep_out(key);
+                Ok(())
+            }
+            (_, _) => self.enter(key, news.copy()?),
         }
     }
 
@@ -141,7 +94,7 @@ impl Intake {
         ensures { OnOk result (so_far ds.now self.new ≡ refer (so_far ds.now self.old) key) }
     {
         match self.draft.entry(ds, key) {
-            None => self.enter(key, Entry::Incomplete),
+            None => self.enter(key, SharedEntry::new(ds.alloc(), Entry::Incomplete)?),
             Some(Entry::Known { mine: None, .. }) => {
                 self.keep_out(key);
                 Ok(())
@@ -173,11 +126,11 @@ fn references(alloc: Global, told: &ToldMap) -> Result<Vec<Key>, AllocError>
     Ok(keys)
 }
 
-fn push_told(news: &Told, keys: &mut Vec<Key>) -> Result<(), AllocError>
-    ensures { OnOk result (keys.new.items ≡ keys.old.items ++ told_refs (Some news.now)) }
+fn push_told(news: &SharedEntry, keys: &mut Vec<Key>) -> Result<(), AllocError>
+    ensures { OnOk result (keys.new.items ≡ keys.old.items ++ told_refs (Some (told_of news.now))) }
 {
-    match news {
-        Told::Live { content, .. } => push_references(content, keys),
+    match news.value().base() {
+        Some(Base::Live { content, .. }) => push_references(content, keys),
         _ => Ok(()),
     }
 }

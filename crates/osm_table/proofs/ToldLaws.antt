@@ -1,19 +1,24 @@
 -- What stays true of a told map when one key is put.
-use Rattle.std.proofs.Common.{◌≡◌, ◌∙◌, ◌++◌, cond, is_some, List, [], ◌∷◌, Option, Some, None, refl, sym, ap}
+use Rattle.std.proofs.Common.{◌≡◌, ◌∙◌, ◌++◌, Bool, true, false, cond, is_some, List, [], ◌∷◌, length, Option, Some, None, refl, sym, ap, subst}
 use Rattle.std.specs.FinMap as fin
 use Rattle.std.specs.FinMap.Entries.{is_some-find}
-use Rattle.std.specs.List.{list_any}
-use Rattle.std.specs.Map.{keys_of}
+use Rattle.std.specs.List.{list_any, IsDistinct}
+use Rattle.std.specs.Map.{keys_of, lookup}
+use Rattle.std.specs.Option.{option_map}
+use Rattle.std.proofs.lemmas.List.{length-map}
 use Rattle.indexmap.specs.IndexMap.{IndexMap, get, insert_entry}
 use Rattle.indexmap.proofs.CallerLemmas.{insert_entry-new, keys-insert_entry-present}
 use Rattle.osm_base.specs.KeyEq.{eq}
 use Rattle.osm_base.specs.Rank.{rank_cmp, is_key}
 use Rattle.osm_base.specs.RankLaws.{rank_total, rank_exact, rank_ties}
 use Rattle.osm_base.specs.declared.key.Key.{Key}
+use Rattle.osm_table.specs.declared.entry.Entry.{Entry}
 use Rattle.osm_table.specs.declared.told.Told.{Told}
-use Rattle.osm_table.specs.Told.{ToldEntries, IsTold, IsToldMap}
+use Rattle.osm_table.specs.declared.told.Told.TheVariants.{Mentioned, Live, Gone}
+use Rattle.osm_table.specs.Told.{ToldEntries, IsTold, IsToldMap, entry_told, told_of}
+use Rattle.osm_table.specs.ToldCode.{each_told, told_kept, AreTold}
 use Rattle.osm_table.proofs.Each.{with_cases}
-use Rattle.osm_base.proofs.MapViews.{get_view}
+use Rattle.osm_base.proofs.MapViews.{get_view, inserted, distinct_len}
 
 -- what may be told of a key keeps a told map one
 pub told_with : (m : ToldEntries) (k : Key) (u : Told) → IsToldMap m → IsTold k u → IsToldMap (fin.insert m k u)
@@ -22,19 +27,75 @@ told_with m k u all here j t has = with_cases IsTold j k u t (fin.get m j) (is_k
 pub told_empty : IsToldMap fin.empty
 told_empty j t has = let h : None ≡ Some t = sym (fin.get-empty rank_cmp j) ∙ has in cc
 
-keys_push : (es : List (Key × Told)) (k : Key) (t : Told) → keys_of (es ++ (k, t) ∷ []) ≡ keys_of es ++ k ∷ []
+-- What is told, and the entries that are kept.
+
+pub told_again : (t : Told) → told_of (entry_told t) ≡ t
+told_again Mentioned = refl
+told_again (Live v c m) = refl
+told_again (Gone v m) = refl
+
+told_step : (b : Bool) (e : Entry) (o : Option Entry) → cond b (Some (told_of e)) (option_map told_of o) ≡ option_map told_of (cond b (Some e) o)
+told_step true e o = refl
+told_step false e o = refl
+
+pub lookup_told : (es : List (Key × Entry)) (q : Key) → lookup (eq q) (each_told es) ≡ option_map told_of (lookup (eq q) es)
+lookup_told [] q = refl
+lookup_told (e ∷ es) q = ap (cond (eq q e.0) (Some (told_of e.1))) (lookup_told es q) ∙ told_step (eq q e.0) e.1 (lookup (eq q) es)
+
+keys_told : (es : List (Key × Entry)) → keys_of (each_told es) ≡ keys_of es
+keys_told [] = refl
+keys_told (e ∷ es) = ap (λ ks. e.0 ∷ ks) (keys_told es)
+
+-- what is told of a key is read off its entry
+pub told_kept_at : (es : List (Key × Entry)) (q : Key) → fin.get (told_kept es) q ≡ option_map told_of (lookup (eq q) es)
+told_kept_at es q = sym (get_view rank_total rank_exact rank_ties (each_told es) q) ∙ lookup_told es q
+
+back_again : (o : Option Entry) → ((e : Entry) → o ≡ Some e → entry_told (told_of e) ≡ e) → o ≡ option_map entry_told (option_map told_of o)
+back_again None h = refl
+back_again (Some e) h = ap Some (sym (h e refl))
+
+-- and the entry is the one that is told so
+pub entry_kept_at : (es : List (Key × Entry)) (q : Key) → AreTold es → lookup (eq q) es ≡ option_map entry_told (fin.get (told_kept es) q)
+entry_kept_at es q all = back_again (lookup (eq q) es) (all q) ∙ ap (option_map entry_told) (sym (told_kept_at es q))
+
+-- One key put.
+
+abbrev Updates : List (Key × Entry) → List (Key × Entry) → Key → Entry → Type 0
+Updates es fs k e = (q : Key) → lookup (eq q) fs ≡ cond (eq k q) (Some e) (lookup (eq q) es)
+
+pub kept_with : (es fs : List (Key × Entry)) (k : Key) (e : Entry) → Updates es fs k e → told_kept fs ≡ fin.insert (told_kept es) k (told_of e)
+kept_with es fs k e h =
+    inserted rank_total rank_exact rank_ties (each_told es) (each_told fs) k (told_of e)
+    (λ q. lookup_told fs q ∙ ap (option_map told_of) (h q) ∙ sym (told_step (eq k q) e (lookup (eq q) es)) ∙ ap (cond (eq k q) (Some (told_of e))) (sym (lookup_told es q)))
+
+are_told_case : (b : Bool) (e f : Entry) (o : Option Entry) → cond b (Some e) o ≡ Some f → entry_told (told_of e) ≡ e → (o ≡ Some f → entry_told (told_of f) ≡ f) → entry_told (told_of f) ≡ f
+are_told_case true e f o is here there = subst (λ (x : Entry). entry_told (told_of x) ≡ x) (let h : e ≡ f = cc in h) here
+are_told_case false e f o is here there = there is
+
+pub are_told_with : (es fs : List (Key × Entry)) (k : Key) (e : Entry) → Updates es fs k e → AreTold es → entry_told (told_of e) ≡ e → AreTold fs
+are_told_with es fs k e h all here q f has = are_told_case (eq k q) e f (lookup (eq q) es) (sym (h q) ∙ has) here (all q f)
+
+keys_push : {V : Type 0} (es : List (Key × V)) (k : Key) (t : V) → keys_of (es ++ (k, t) ∷ []) ≡ keys_of es ++ k ∷ []
 keys_push [] k t = refl
 keys_push (e ∷ es) k t = ap (λ ks. e.0 ∷ ks) (keys_push es k t)
 
 -- the keys of the entries after one is put: a new key comes last
-order_cases : {S : Type 0} (m : IndexMap Key Told S) (k : Key) (t : Told) (o : Option Told) → get eq m k ≡ o → keys_of (insert_entry eq m.entries k t) ≡ cond (is_some o) (keys_of m.entries) (keys_of m.entries ++ k ∷ [])
+order_cases : {V S : Type 0} (m : IndexMap Key V S) (k : Key) (t : V) (o : Option V) → get eq m k ≡ o → keys_of (insert_entry eq m.entries k t) ≡ cond (is_some o) (keys_of m.entries) (keys_of m.entries ++ k ∷ [])
 order_cases m k t None e = ap keys_of (insert_entry-new eq m k t e) ∙ keys_push m.entries k t
 order_cases m k t (Some u) e = keys-insert_entry-present eq m k t (ap is_some e)
 
-pub order_with : {S : Type 0} (m : IndexMap Key Told S) (k : Key) (t : Told)
-    → keys_of (insert_entry eq m.entries k t) ≡ cond (is_some (fin.get (fin.from_entries {R = rank_cmp} m.entries) k)) (keys_of m.entries) (keys_of m.entries ++ k ∷ [])
-order_with m k t = order_cases m k t _ (get_view rank_total rank_exact rank_ties m.entries k)
+some_told : (o : Option Entry) → is_some o ≡ is_some (option_map told_of o)
+some_told None = refl
+some_told (Some e) = refl
+
+pub order_with : {S : Type 0} (m : IndexMap Key Entry S) (k : Key) (e : Entry)
+    → keys_of (insert_entry eq m.entries k e) ≡ cond (is_some (fin.get (told_kept m.entries) k)) (keys_of m.entries) (keys_of m.entries ++ k ∷ [])
+order_with m k e = order_cases m k e _ refl ∙ ap (λ b. cond b (keys_of m.entries) (keys_of m.entries ++ k ∷ [])) (some_told (get eq m k) ∙ ap is_some (sym (told_kept_at m.entries k)))
 
 -- the keys in order are those of the map
-pub order_any : (es : List (Key × Told)) (q : Key) → list_any (is_key q) (keys_of es) ≡ is_some (fin.get (fin.from_entries {R = rank_cmp} es) q)
-order_any es q = sym (is_some-find rank_cmp q es) ∙ ap is_some (sym (fin.get-from_entries rank_total es q))
+pub order_any : (es : List (Key × Entry)) (q : Key) → list_any (is_key q) (keys_of es) ≡ is_some (fin.get (told_kept es) q)
+order_any es q = ap (list_any (is_key q)) (sym (keys_told es)) ∙ sym (is_some-find rank_cmp q (each_told es)) ∙ ap is_some (sym (fin.get-from_entries rank_total (each_told es) q))
+
+-- as many are told of as there are entries
+pub told_len : (es : List (Key × Entry)) → IsDistinct eq (keys_of es) → length es ≡ fin.len (told_kept es)
+told_len es h = sym (length-map es (λ (e : Key × Entry). (e.0, told_of e.1))) ∙ distinct_len rank_total rank_exact rank_ties (each_told es) (subst (IsDistinct eq) (sym (keys_told es)) h)

@@ -14,6 +14,21 @@ use Rattle.osm_table.specs.declared.entry.Entry.{Entry}
 use Rattle.osm_table.specs.declared.entry.Entry.TheVariants.{Incomplete, Known}
 use Rattle.osm_table.specs.Same.{same_mine}
 
+-- whether no more is known of an object than that it is at the server
+abbrev pub is_incomplete : Entry → Bool
+is_incomplete Incomplete = true
+is_incomplete (Known base mine conflict) = false
+
+-- the state that the edits began from
+abbrev pub base_of : Entry → Option Base
+base_of Incomplete = None
+base_of (Known base mine conflict) = Some base
+
+-- the conflict that isn't resolved yet
+abbrev pub conflict_of : Entry → Option Conflict
+conflict_of Incomplete = None
+conflict_of (Known base mine conflict) = conflict
+
 -- the content of a living entry
 abbrev pub mine_of : Entry → Option Content
 mine_of Incomplete = None

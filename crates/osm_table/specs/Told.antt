@@ -1,5 +1,5 @@
 -- What a download tells of the objects.
-use Rattle.std.specs.Prelude.{◌≡◌, ◌≤◌, ◌++◌, ℕ, if◌then◌else◌, is_some, List, [], ◌∷◌, Option, Some}
+use Rattle.std.specs.Prelude.{◌≡◌, ◌≤◌, ◌++◌, ℕ, if◌then◌else◌, is_some, List, [], ◌∷◌, Option, Some, None}
 use Rattle.std.specs.List.{AllByRecursion}
 use Rattle.std.specs.FinMap as fin
 use Rattle.osm_base.specs.Rank.{rank_cmp}
@@ -7,8 +7,11 @@ use Rattle.osm_base.specs.Content.{refs_of, kind_of_content}
 use Rattle.osm_base.specs.declared.key.Key.{Key}
 use Rattle.osm_base.specs.declared.content.Content.{Content}
 use Rattle.osm_table.specs.Table.{IsPositive}
+use Rattle.osm_table.specs.declared.entry.Base.TheVariants as base
+use Rattle.osm_table.specs.declared.entry.Entry.{Entry}
+use Rattle.osm_table.specs.declared.entry.Entry.TheVariants.{Incomplete, Known}
 use Rattle.osm_table.specs.declared.told.Told.{Told}
-use Rattle.osm_table.specs.declared.told.Told.TheVariants.{Nothing, Mentioned, Live, Gone}
+use Rattle.osm_table.specs.declared.told.Told.TheVariants.{Mentioned, Live, Gone}
 
 abbrev pub ToldEntries : Type 0
 ToldEntries = fin.FinMap rank_cmp Told
@@ -17,6 +20,19 @@ ToldEntries = fin.FinMap rank_cmp Told
 pub record ToldValue : Type 0 where
   pub told : ToldEntries
   pub order : List Key
+
+-- the entry of an object of which no more is known than what is told
+abbrev pub entry_told : Told → Entry
+entry_told Mentioned = Incomplete
+entry_told (Live version content meta) = Known (base.Live version content meta) (Some content) None
+entry_told (Gone version meta) = Known (base.Gone version meta) None None
+
+-- what is told of an object with such an entry; no server tells of a base that is New
+abbrev pub told_of : Entry → Told
+told_of Incomplete = Mentioned
+told_of (Known base.New mine conflict) = Mentioned
+told_of (Known (base.Live version content meta) mine conflict) = Live version content meta
+told_of (Known (base.Gone version meta) mine conflict) = Gone version meta
 
 -- what is told of a key, none where it isn't there
 abbrev pub told_at : ToldValue → Key → Option Told
@@ -38,9 +54,8 @@ IsVersion version = (1 ≤ version) × (version ≤ 2000000000)
 abbrev pub IsServerContent : Key → Content → Type 0
 IsServerContent key content = (kind_of_content content ≡ key.kind) × AllByRecursion (λ r. IsPositive r.id) (refs_of content)
 
--- What may be told of a key: something, of a positive id, with a version and a content of a server.
+-- What may be told of a key: it has a positive id, and a version and a content of a server.
 abbrev pub IsTold : Key → Told → Type 0
-IsTold key Nothing = ⊥
 IsTold key Mentioned = IsPositive key.id
 IsTold key (Live version content meta) = IsPositive key.id × IsVersion version × IsServerContent key content
 IsTold key (Gone version meta) = IsPositive key.id × IsVersion version

@@ -2,7 +2,7 @@
 ghost use Rattle.std.specs.Prelude.{◌≡◌, IfOk, IsTrue, ◌↔◌};
 ghost use Rattle.std.specs.Option.{option_copied};
 ghost use Rattle.osm_table.specs.Same.{same_base, same_conflict, same_conflicts, same_mine, same_entry};
-ghost use Rattle.osm_table.specs.Table.{mine_of, is_living, is_changed, is_new, known_side, held_by, version_of};
+ghost use Rattle.osm_table.specs.Table.{base_of, conflict_of, is_incomplete, mine_of, is_living, is_changed, is_new, known_side, held_by, version_of};
 
 use crate::shared::Shared;
 use osm_base::{Content, Meta, same};
@@ -155,6 +155,39 @@ impl Conflict {
 }
 
 impl Entry {
+    /// Whether no more is known than that it is at the server.
+    pub fn is_incomplete(&self) -> bool
+        ensures { result ≡ is_incomplete self.now }
+    {
+        match self {
+            Entry::Incomplete => true,
+            Entry::Known { .. } => false,
+        }
+    }
+
+    /// The state that the edits began from: none where it is `Incomplete`.
+    pub fn base(&self) -> Option<&Base>
+        ensures { option_copied result ≡ base_of self.now }
+    {
+        match self {
+            Entry::Incomplete => None,
+            Entry::Known { base, .. } => Some(base),
+        }
+    }
+
+    /// The conflict that isn't resolved yet.
+    pub fn conflict(&self) -> Option<&Conflict>
+        ensures { option_copied result ≡ conflict_of self.now }
+    {
+        match self {
+            Entry::Known {
+                conflict: Some(conflict),
+                ..
+            } => Some(conflict.value()),
+            _ => None,
+        }
+    }
+
     /// The content that the user has now: none where the object is deleted, or `Incomplete`.
     pub fn mine(&self) -> Option<&Content>
         ensures { option_copied result ≡ mine_of self.now }

@@ -1,42 +1,48 @@
 //! What a download tells of the objects.
 ghost use Rattle.std.specs.Prelude.{◌≡◌, ◌<◌, [], Some, IfOk, OnOk, OnErr, length, slice_get, is_some};
-ghost use Rattle.std.specs.Option.{option_copied};
+ghost use Rattle.std.specs.Option.{option_copied, option_map};
 ghost use Rattle.std.specs.List.{list_any, IsDistinct};
 ghost use Rattle.std.specs.FinMap as map;
 ghost use Rattle.osm_base.specs.KeyEq.{eq};
 ghost use Rattle.osm_base.specs.Rank.{is_key};
 ghost use Rattle.osm_table.specs.Table.{IsPositive};
-ghost use Rattle.osm_table.specs.Told.{told_at, with_told, with_mention, IsTold, IsToldMap};
+ghost use Rattle.osm_table.specs.Told.{entry_told, told_of, told_at, with_told, with_mention, IsTold, IsToldMap};
 
+use crate::entry::Entry;
+use crate::shared::SharedEntry;
 use crate::told::Told;
 use indexmap::IndexMap;
 use osm_base::Key;
 use std::alloc::{AllocError, Global};
 use std::marker::Model;
 
-/// What a download tells of the objects: a map from keys of a server to what it tells of them.
-/// A key that isn't in it is told `Nothing`. The keys keep the order in which they were first
-/// put.
+/// What a download tells of the objects: a map from keys of a server to what it tells of them. The
+/// keys keep the order in which they were first put.
+///
+/// What is told of an object is kept as the entry of which no more is known, in the block that the
+/// table and its patches share later. All that are mentioned share one.
 #[derive(Drop)]
 pub struct ToldMap {
-    entries: IndexMap<Key, Told>,
+    entries: IndexMap<Key, SharedEntry>,
+    mentioned: SharedEntry,
 }
 
 impl Model for ToldMap {
-    ghost use Rattle.std.specs.FinMap as map;
+    ghost use Rattle.std.specs.Prelude.{◌≡◌};
     ghost use Rattle.std.specs.Map.{keys_of};
     ghost use Rattle.std.specs.List.{IsDistinct};
     ghost use Rattle.osm_base.specs.KeyEq.{eq};
+    ghost use Rattle.osm_table.specs.declared.entry.Entry.TheVariants.{Incomplete};
     ghost use Rattle.osm_table.specs.Told.{ToldValue, IsToldMap};
-    ghost use Rattle.osm_table.specs.ToldCode.{told_code};
+    ghost use Rattle.osm_table.specs.ToldCode.{told_code, told_kept, AreTold};
 
     ghost Value = { ToldValue };
 
     ghost coded = { told_code };
 
-    ghost view = { λ m. record { told = map.from_entries m.entries.entries; order = keys_of m.entries.entries } };
+    ghost view = { λ m. record { told = told_kept m.entries.entries; order = keys_of m.entries.entries } };
 
-    ghost invariant = { λ m. IsToldMap (map.from_entries m.entries.entries) × IsDistinct eq (keys_of m.entries.entries) };
+    ghost invariant = { λ m. IsToldMap (told_kept m.entries.entries) × AreTold m.entries.entries × IsDistinct eq (keys_of m.entries.entries) × (m.mentioned ≡ Incomplete) };
 }
 
 impl ToldMap {
@@ -49,6 +55,7 @@ impl ToldMap {
     {
         Ok(ToldMap {
             entries: IndexMap::with_capacity(alloc, keys)?,
+            mentioned: SharedEntry::new(alloc, Entry::Incomplete)?,
         })
     }
 
@@ -61,8 +68,8 @@ impl ToldMap {
         ensures ok { OnOk result (self.new ≡ with_told self.old key told) }
         ensures err { OnErr result (self.new ≡ self.old) }
     {
-        self.entries.insert(key, told)?;
-        Ok(())
+        let entry = SharedEntry::new(*self.entries.allocator(), told.into_entry()?)?;
+        self.set(key, entry)
     }
 
     /// Mentions a key, where nothing is told of it yet. One look-up, and one more for a new key.
@@ -76,13 +83,26 @@ impl ToldMap {
     {
         match self.get(key) {
             Some(_) => Ok(()),
-            None => self.put(key, Told::Mentioned),
+            None => {
+                let entry = self.mentioned.copy()?;
+                self.set(key, entry)
+            }
         }
     }
 
-    /// What is told of a key.
-    pub fn get(&self, key: Key) -> Option<&Told>
-        ensures value { option_copied result ≡ told_at self.now key }
+    fn set(&mut self, key: Key, entry: SharedEntry) -> Result<(), AllocError>
+        requires told { IsTold key (told_of entry) }
+        requires entry { entry_told (told_of entry) ≡ entry }
+        ensures ok { OnOk result (self.new ≡ with_told self.old key (told_of entry)) }
+        ensures err { OnErr result (self.new ≡ self.old) }
+    {
+        self.entries.insert(key, entry)?;
+        Ok(())
+    }
+
+    /// The entry of an object of which no more is known than what is told of this key.
+    pub fn get(&self, key: Key) -> Option<&SharedEntry>
+        ensures value { option_copied result ≡ option_map entry_told (told_at self.now key) }
         ensures told_map { IsToldMap self.now.told }
     {
         self.entries.get(&key)
@@ -107,14 +127,16 @@ impl ToldMap {
         *key
     }
 
-    /// The `i`th key that was put, and what is told of it. It costs no look-up.
-    pub fn entry_at(&self, i: usize) -> (Key, &Told)
+    /// The `i`th key that was put, and the entry of which no more is known than what is told of it.
+    /// It costs no look-up.
+    pub fn entry_at(&self, i: usize) -> (Key, &SharedEntry)
         requires { i < length self.now.order }
         ensures key { slice_get self.now.order i ≡ Some result.0 }
-        ensures told { told_at self.now result.0 ≡ Some result.1.now }
+        ensures told { told_at self.now result.0 ≡ Some (told_of result.1.now) }
+        ensures entry { entry_told (told_of result.1.now) ≡ result.1.now }
     {
-        let (key, told) = self.entries.get_index(i).unwrap();
-        (*key, told)
+        let (key, entry) = self.entries.get_index(i).unwrap();
+        (*key, entry)
     }
 
     /// What every told map keeps. Costs nothing.
@@ -156,15 +178,18 @@ mod tests {
             id: 7,
         };
         for (key, version) in [(way, Some(3)), (node, Some(0)), (other, None)] {
-            assert_eq!(rt; map.get(key).map(version_of), version);
+            assert_eq!(rt;
+                map.get(key).map(|entry| version_of(entry.value())),
+                version
+            );
         }
         Ok(())
     }
 
-    fn version_of(told: &Told) -> u32 {
-        match told {
-            Told::Gone { version, .. } => *version,
-            _ => 0,
+    fn version_of(entry: &Entry) -> u32 {
+        match entry.base() {
+            Some(base) => base.version(),
+            None => 0,
         }
     }
 }

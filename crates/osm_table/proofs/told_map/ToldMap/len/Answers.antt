@@ -1,9 +1,8 @@
 use Rattle.std.proofs.Common.{ap, ◌∙◌}
 use Rattle.std.specs.FinMap as map
-use Rattle.osm_base.proofs.MapViews.{distinct_len}
-use Rattle.osm_base.specs.RankLaws.{rank_total, rank_exact, rank_ties}
 use Rattle.osm_table.specs.Told.{ToldValue}
+use Rattle.osm_table.proofs.ToldLaws.{told_len}
 use Rattle.osm_table.proofs.told_map.ToldMap.len.Goals as goal
 
 pub returns-clause-value : goal.returns-clause-value
-returns-clause-value c = c.len.ensures.len ∙ distinct_len rank_total rank_exact rank_ties c.self.inside.entries.entries c.len.ensures.unique ∙ ap (λ (m : ToldValue). map.len m.told) c.self.view_is
+returns-clause-value c = c.len.ensures.len ∙ told_len c.self.inside.entries.entries c.len.ensures.unique ∙ ap (λ (m : ToldValue). map.len m.told) c.self.view_is

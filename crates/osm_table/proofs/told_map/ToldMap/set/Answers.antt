@@ -1,0 +1,25 @@
+use Rattle.std.proofs.Common.{sym, ap, subst, ◌∙◌}
+use Rattle.std.specs.Map.{keys_of}
+use Rattle.osm_table.specs.Told.{ToldValue, IsToldMap, told_of, with_told}
+use Rattle.osm_table.specs.ToldCode.{told_kept}
+use Rattle.osm_table.proofs.ToldLaws.{told_with, kept_with, are_told_with, order_with}
+use Rattle.osm_table.proofs.told_map.ToldMap.set.Goals as goal
+
+pub invariant_of-self-2 : goal.invariant_of-self-2
+invariant_of-self-2 c =
+    let es = c.self.inside.entries.entries in
+    let updates = c.in_ok-insert.ensures.updates.0 in (
+      subst IsToldMap (sym (kept_with es c.insert.new.self.entries c.args.key c.args.entry updates)) (told_with (told_kept es) c.args.key (told_of c.args.entry) c.self.invariant.0 c.requires.told),
+      are_told_with es c.insert.new.self.entries c.args.key c.args.entry updates c.self.invariant.1 c.requires.entry,
+      c.in_ok-insert.ensures.unique,
+      c.self.invariant.3,
+    )
+
+pub returns-clause-ok : goal.returns-clause-ok
+returns-clause-ok c =
+    let es = c.self.inside.entries.entries in
+    (λ i. record {
+      told = kept_with es c.insert.new.self.entries c.args.key c.args.entry c.in_ok-insert.ensures.updates.0 i;
+      order = (ap (λ fs. keys_of fs) c.in_ok-insert.ensures.entries ∙ order_with c.self.inside.entries c.args.key c.args.entry) i;
+    })
+    ∙ ap (λ (m : ToldValue). with_told m c.args.key (told_of c.args.entry)) c.self.view_is
