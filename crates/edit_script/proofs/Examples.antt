@@ -6,6 +6,7 @@ use Rattle.std.specs.Str.{is_utf8, chars}
 use lib.Utf8.{encode}
 use Rattle.osm_base.specs.Coord.{coord_text, size_text, whole_text, pointed_text, part_text}
 use Rattle.osm_base.specs.Number.{number_text, id_text, kind_letter, key_text}
+use Rattle.osm_base.specs.Place.{place_at}
 use Rattle.osm_base.specs.declared.key.Key.{Key}
 use Rattle.osm_base.specs.declared.key.Kind.TheVariants.{Node, Way, Relation}
 use Rattle.opl_text.specs.Text.{unescaped}
@@ -38,8 +39,8 @@ unfolding kind_of_line act_of alone
 no_file = refl
 
 -- A node's longitude stands before its latitude.
-node_read : line_of (codes "node x1.5 y-2 T") ≡ Some (Asks (act.Job (job.AddNode [] (record { lon = pos 15000000; lat = negsuc 19999999 }))))
-unfolding kind_of_line act_of with_three add_node place_words tags_word tags_text coord_text size_text whole_text pointed_text part_text number_text
+node_read : line_of (codes "node x1.5 y-2 T") ≡ Some (Asks (act.Job (job.AddNode [] (record { lon = pos 15000000; lat = negsuc 19999999; on_map = refl }))))
+unfolding kind_of_line act_of with_three add_node place_words tags_word tags_text coord_text size_text whole_text pointed_text part_text number_text place_at
 node_read = refl
 
 node_swapped : line_of (codes "node y1 x2 T") ≡ None
@@ -47,7 +48,7 @@ unfolding kind_of_line act_of with_three add_node place_words coord_text size_te
 node_swapped = refl
 
 node_off_the_map : line_of (codes "node x181 y0 T") ≡ None
-unfolding kind_of_line act_of with_three add_node place_words coord_text size_text whole_text pointed_text part_text number_text
+unfolding kind_of_line act_of with_three add_node place_words coord_text size_text whole_text pointed_text part_text number_text place_at
 node_off_the_map = refl
 
 way_read : line_of (codes "way T Nn1,n-2") ≡ Some (Asks (act.Job (job.AddWay [] (pos 1 ∷ negsuc 1 ∷ []))))
@@ -72,8 +73,8 @@ move_read : line_of (codes "move n1 0.0000001 -999") ≡ Some (Asks (act.Job (jo
 unfolding kind_of_line act_of with_three shift keys_word key_text id_text kind_letter number_text coord_text size_text whole_text pointed_text part_text
 move_read = refl
 
-place_read : line_of (codes "place n1 x2 y3") ≡ Some (Asks (act.Job (job.Place (node 1) (record { lon = pos 20000000; lat = pos 30000000 }))))
-unfolding kind_of_line act_of with_three place place_words key_text id_text kind_letter number_text coord_text size_text whole_text pointed_text part_text
+place_read : line_of (codes "place n1 x2 y3") ≡ Some (Asks (act.Job (job.Place (node 1) (record { lon = pos 20000000; lat = pos 30000000; on_map = refl }))))
+unfolding kind_of_line act_of with_three place place_words key_text id_text kind_letter number_text coord_text size_text whole_text pointed_text part_text place_at
 place_read = refl
 
 nodes_read : line_of (codes "nodes w1 N") ≡ Some (Asks (act.Job (job.SetNodes (way 1) [])))

@@ -1,5 +1,6 @@
 //! The whole texts of `print` and `count`.
 ghost use Rattle.std.specs.Prelude.{◌≡◌, [], Some, None, IfOk, pos};
+ghost use Rattle.std.proofs.Common.{refl};
 ghost use Rattle.std.specs.FinMap as fin;
 ghost use Rattle.osm_base.specs.declared.content.Content.TheVariants.{Node};
 ghost use Rattle.osm_table.specs.declared.entry.Base.TheVariants.{New};
@@ -25,7 +26,7 @@ const PLACE: Coord = Coord {
 };
 
 fn new_node(alloc: Global) -> Entry
-    ensures { result ≡ Known New (Some (Node [] (record { lon = pos 15000000; lat = pos 5000000 }))) None }
+    ensures { result ≡ Known New (Some (Node [] (record { lon = pos 15000000; lat = pos 5000000; on_map = refl }))) None }
 {
     Entry::Known {
         base: Base::New,

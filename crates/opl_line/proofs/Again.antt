@@ -10,8 +10,10 @@ use Rattle.osm_base.specs.Tags.{Pair}
 use Rattle.osm_base.specs.Number.{IsId, number_text, key_written}
 use Rattle.osm_base.specs.Coord.{coord_text, size_text, whole_text, coord_written}
 use Rattle.osm_base.specs.Content.{refs_of, node}
+use Rattle.osm_base.specs.OnMap.{is_longitude, is_latitude}
 use Rattle.osm_base.proofs.KeyLaw.{number_again, id_again}
 use Rattle.osm_base.proofs.CoordLaw.{coord_again}
+use Rattle.osm_base.proofs.PlaceLaws.{place_is}
 use Rattle.osm_base.specs.declared.key.Kind.{Kind}
 use Rattle.osm_base.specs.declared.key.Kind.TheVariants.{Node, Way, Relation}
 use Rattle.osm_base.specs.declared.key.Key.{Key}
@@ -25,14 +27,16 @@ use Rattle.opl_text.specs.Text.{unescaped, escaped}
 use Rattle.opl_text.specs.Time.{time_text, time_written}
 use Rattle.opl_line.specs.declared.mode.Mode.{Mode}
 use Rattle.opl_line.specs.declared.mode.Mode.TheVariants.{Download, Import}
+use Rattle.opl_line.specs.declared.fault.LineFault.TheVariants as faults
 use Rattle.opl_line.specs.declared.letter.Letter.TheVariants as letters
 use Rattle.opl_line.specs.declared.object.OplObject.{OplObject}
+use Rattle.opl_line.specs.Reads.{or_fault}
 use Rattle.opl_line.specs.Cut.{split}
 use Rattle.opl_line.specs.Field.{is, is_allowed, letter_of as field_of, number_to, visible_text, place_text, tags_text, refs_text, members_text}
 use Rattle.opl_line.specs.Line.{is_blank, key_at, id_at, version_of, location_of, content_of, side_of, completed, freed}
 use Rattle.opl_line.specs.Spelling.{AreFields, Spells}
 use Rattle.opl_line.specs.Written.{spaced, tag_written, ref_written, member_written, sight, front_pieces, back_pieces, content_pieces, side_pieces, pieces_of, written, object_with, IsOneLine}
-use Rattle.opl_line.specs.Writable.{HasVersion, AreTags, IsPlace, IsContent, IsSide, IsMeta, IsWritable, MayStand}
+use Rattle.opl_line.specs.Writable.{HasVersion, AreTags, IsContent, IsSide, IsMeta, IsWritable, MayStand}
 use Rattle.opl_line.proofs.Forward.{Pieces}
 use Rattle.opl_line.proofs.Unbroken.{Unbroken, AllUnbroken, unbroken_append, unbroken_from, unbroken_fewer, all_unbroken_fewer, all_unbroken_append, unbroken_spaced, unbroken_listed, cut_spaced, freed_same, decimal_unbroken, signed_unbroken, key_unbroken, coord_unbroken}
 use Rattle.opl_line.proofs.ListsAgain.{text_unbroken, tags_again, refs_again, members_again, kind_again}
@@ -52,11 +56,19 @@ unfolding place_text coord_text size_text whole_text number_text
 place_again limit z [] e h = absurd cc
 place_again limit z (b ∷ text) e h = rw (e, h) refl
 
-lon_again : (at : Coord) → IsPlace at → place_text 1800000000 (coord_written at.lon) ≡ Some (Some at.lon)
-lon_again at h = place_again 1800000000 at.lon (coord_written at.lon) (coord_again at.lon (grind (arith, nat_tests, h.0))) h.0
+lon_again : (at : Coord) → place_text 1800000000 (coord_written at.lon) ≡ Some (Some at.lon)
+lon_again at =
+    let h = (and_parts (is_longitude at.lon) (is_latitude at.lat) at.on_map).0 in
+    place_again 1800000000 at.lon (coord_written at.lon) (coord_again at.lon (grind (arith, nat_tests, h))) h
 
-lat_again : (at : Coord) → IsPlace at → place_text 900000000 (coord_written at.lat) ≡ Some (Some at.lat)
-lat_again at h = place_again 900000000 at.lat (coord_written at.lat) (coord_again at.lat (grind (arith, nat_tests, h.1))) h.1
+lat_again : (at : Coord) → place_text 900000000 (coord_written at.lat) ≡ Some (Some at.lat)
+lat_again at =
+    let h = (and_parts (is_longitude at.lon) (is_latitude at.lat) at.on_map).1 in
+    place_again 900000000 at.lat (coord_written at.lat) (coord_again at.lat (grind (arith, nat_tests, h))) h
+
+location_again : (at : Coord) → location_of (Some (Some at.lon)) (Some (Some at.lat)) ≡ Ok at
+unfolding location_of
+location_again at = ap (or_fault faults.NoLocation) (sym (place_is at.lon at.lat at (refl, refl)))
 
 version_again : (id : ℤ) (version : ℕ) → HasVersion id version → (version ≤ 2000000000) × (version_of id (Some version) ≡ Ok version)
 unfolding version_of
@@ -136,12 +148,12 @@ Again mode kind id version side meta =
     FrontAgain mode (record { kind = kind; id = id }) version meta →
     Pieces mode (key_written (record { kind = kind; id = id })) (pieces_of (record { kind = kind; id = id }) version side meta) (object kind id version side meta)
 
-node_again : (mode : Mode) (id : ℤ) (version : ℕ) (tags : List Pair) (at : Coord) (meta : Meta) → AreTags tags → IsPlace at → Again mode Node id version (Some (content.Node tags at)) meta
-unfolding field_of completed side_of content_of location_of visible_text
-node_again mode id version tags at meta good place f =
+node_again : (mode : Mode) (id : ℤ) (version : ℕ) (tags : List Pair) (at : Coord) (meta : Meta) → AreTags tags → Again mode Node id version (Some (content.Node tags at)) meta
+unfolding field_of completed side_of content_of visible_text
+node_again mode id version tags at meta good f =
     let t = tags_again tags good in
-    let x = lon_again at place in
-    let y = lat_again at place in
+    let x = lon_again at in
+    let y = lat_again at in
     record {
       key = f.key_is;
       fields = (
@@ -153,7 +165,7 @@ node_again mode id version tags at meta good place f =
           ((letters.Tags, refl, refl, (tags, t)), refl, common_fields mode (record { kind = Node; id = id }) version true meta f),
         ),
       );
-      values = rw (f.version_is, f.changeset_is, f.uid_is, f.time_is, f.user_is, t, x, y, f.version_kept) refl;
+      values = rw (f.version_is, f.changeset_is, f.uid_is, f.time_is, f.user_is, t, x, y, location_again at, f.version_kept) refl;
     }
 
 way_again : (mode : Mode) (id : ℤ) (version : ℕ) (tags : List Pair) (refs : List ℤ) (meta : Meta) → AreTags tags → All IsId refs → list_all (is_allowed mode) refs ≡ true → Again mode Way id version (Some (content.Way tags refs)) meta
@@ -251,7 +263,7 @@ members_may Download key tags members h =
 object_again : (mode : Mode) (kind : Kind) (id : ℤ) (version : ℕ) (side : Option Content) (meta : Meta) → IsSide (record { kind = kind; id = id }) side → MayStand mode (record { kind = kind; id = id }) side → Again mode kind id version side meta
 object_again mode kind id version None meta good may = deleted_again mode kind id version meta refl
 object_again mode kind id version (Some (content.Node tags at)) meta good may =
-    subst (λ kind. Again mode kind id version (Some (content.Node tags at)) meta) good.0 (node_again mode id version tags at meta good.1.0 good.1.1)
+    subst (λ kind. Again mode kind id version (Some (content.Node tags at)) meta) good.0 (node_again mode id version tags at meta good.1)
 object_again mode kind id version (Some (content.Way tags refs)) meta good may =
     subst (λ kind. Again mode kind id version (Some (content.Way tags refs)) meta) good.0 (way_again mode id version tags refs meta good.1.0 good.1.1 (refs_may mode (record { kind = kind; id = id }) tags refs may))
 object_again mode kind id version (Some (content.Relation tags members)) meta good may =

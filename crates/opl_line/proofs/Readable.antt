@@ -1,6 +1,6 @@
 -- What is read can be written: it has all that the written form asks for.
 use Rattle.std.proofs.Common.{◌≡◌, ℕ, ℤ, zero, suc, pos, negsuc, ◌<◌, ◌≤◌, ◌^◌, ◌⊎◌, inl, inr, Bool, true, false, T, cond, List, [], ◌∷◌, ◌++◌, length, Option, Some, None, Result, Ok, Err, subst, refl, sym, ap, ◌∙◌, arith}
-use Rattle.std.specs.Prelude.{◌==◌, nat_lt, nat_le, unsigned_abs, is_some, drop, slice_index, IfOk}
+use Rattle.std.specs.Prelude.{◌==◌, nat_lt, nat_le, is_some, drop, slice_index, IfOk}
 use Rattle.std.specs.Option.{option_map, option_and_then as and_then, unwrap_or}
 use Rattle.std.specs.List.{All, list_all}
 use Rattle.std.specs.declared.cmp.Ordering.TheVariants.{Less, Equal, Greater}
@@ -11,13 +11,11 @@ use Rattle.std.proofs.lemmas.List.Folds.{list_all-map}
 use Rattle.std.proofs.lemmas.Str.{IsUtf8-nil}
 use Rattle.osm_base.specs.Tags.{Pair, bytes_cmp, has_tag, with_tag}
 use Rattle.osm_base.specs.Number.{IsId, id_test, id_size, id_text, minus, number_text, kind_letter}
-use Rattle.osm_base.specs.Coord.{coord_text}
 use Rattle.osm_base.specs.Content.{kind_of_content, refs_of, node}
 use Rattle.osm_base.proofs.TagLaws.{are_tags_put}
 use Rattle.osm_base.specs.declared.key.Kind.{Kind}
 use Rattle.osm_base.specs.declared.key.Kind.TheVariants.{Node, Way, Relation}
 use Rattle.osm_base.specs.declared.key.Key.{Key}
-use Rattle.osm_base.specs.declared.coord.Coord.{Coord}
 use Rattle.osm_base.specs.declared.meta.Stamp.{Stamp}
 use Rattle.osm_base.specs.declared.members.Member.{Member}
 use Rattle.osm_base.specs.declared.content.Content.{Content}
@@ -36,7 +34,7 @@ use Rattle.opl_line.specs.declared.object.LineKind.{LineKind}
 use Rattle.opl_line.specs.declared.object.LineKind.TheVariants.{Skipped, Object}
 use Rattle.opl_line.specs.Reads.{◌>>=◌, or_fault, folded, Gives}
 use Rattle.opl_line.specs.Cut.{split, before, after}
-use Rattle.opl_line.specs.Field.{is, is_allowed, letter_of, number_to, place_text, tag_into, tags_text, is_place_or_none, ref_text, ref_into, refs_text, member_at, member_into, members_text}
+use Rattle.opl_line.specs.Field.{is, is_allowed, letter_of, number_to, tag_into, tags_text, is_place_or_none, ref_text, ref_into, refs_text, member_at, member_into, members_text}
 use Rattle.opl_line.specs.Line.{key_at, id_at, version_of, location_of, content_of, side_of, meta_of, completed, line_of}
 use Rattle.opl_line.specs.Spelling.{text_with, gathered, turned, ok_of}
 use Rattle.opl_line.specs.Writable.{IsText, HasVersion, AreTags, IsMember, IsContent, IsSide, IsMeta, IsWritable, MayStand, keys_of, IsReadObject}
@@ -73,15 +71,6 @@ number_within high n text e =
     let q = only_if (nat_le p.0 high) p.0 n p.2 in
     let within : p.0 ≤ high = grind (arith, nat_tests, q.0) in
     subst (λ k. k ≤ high) q.1 within
-
-place_within : (limit : ℕ) (z : ℤ) (text : List ℕ) → place_text limit text ≡ Some (Some z) → nat_le (unsigned_abs z) limit ≡ true
-unfolding place_text
-place_within limit z [] e = absurd cc
-place_within limit z (b ∷ text) e =
-    let p = field_value (λ v. cond (nat_le (unsigned_abs v) limit) (Some (Some v)) None) (coord_text (b ∷ text)) (Some z) e in
-    let q = only_if (nat_le (unsigned_abs p.0) limit) (Some p.0) (Some z) p.2 in
-    let same : p.0 ≡ z = ap (λ o. unwrap_or o p.0) q.1 in
-    ap (λ v. nat_le (unsigned_abs v) limit) (sym same) ∙ q.0
 
 text_is : (field text : List ℕ) → unescaped field ≡ Some text → IsText text
 text_is field text e = ((text_spelled field text e).1, read_has_no_zero field text e)
@@ -259,16 +248,6 @@ version_is (pos n) given version within e =
     subst (λ v. (1 ≤ v) × (v ≤ 2000000000)) same (grind (arith, nat_tests, p.0), within)
 version_is (negsuc n) given version within e = sym (ok_is 0 version e)
 
-location_is : (x y : Option (Option ℤ)) (at : Coord) → location_of x y ≡ Ok at → (x ≡ Some (Some at.lon)) × (y ≡ Some (Some at.lat))
-unfolding location_of
-location_is (Some (Some x)) (Some (Some y)) at e =
-    let same = ok_is (record { lon = x; lat = y }) at e in
-    (ap (λ (at : Coord). Some (Some at.lon)) same, ap (λ (at : Coord). Some (Some at.lat)) same)
-location_is (Some (Some x)) (Some None) at e = absurd cc
-location_is (Some (Some x)) None at e = absurd cc
-location_is (Some None) y at e = absurd cc
-location_is None y at e = absurd cc
-
 tags_hold : (fields : List (List ℕ)) → AreTags (unwrap_or (gathered fields).tags [])
 tags_hold fields = field_holds AreTags (λ t. ok_of (tags_text t)) (text_with 84 fields) [] no_tags (λ text tags o e. tags_are text tags (ok_value (tags_text text) tags e))
 
@@ -303,11 +282,8 @@ content_is : (mode : Mode) (kind : Kind) (fields : List (List ℕ)) (c : Content
 unfolding content_of
 content_is mode Node fields c found e =
     let p = bind_ok (location_of (gathered fields).x (gathered fields).y) _ c e in
-    let l = location_is (gathered fields).x (gathered fields).y p.0 p.1 in
-    let x = field_value (place_text 1800000000) (text_with 120 fields) (Some p.0.lon) l.0 in
-    let y = field_value (place_text 900000000) (text_with 121 fields) (Some p.0.lat) l.1 in
     subst (IsRead mode Node) (ok_is (content.Node (unwrap_or (gathered fields).tags []) p.0) c p.2)
-    (record { same = refl; content = (tags_hold fields, (place_within 1800000000 p.0.lon x.0 x.2, place_within 900000000 p.0.lat y.0 y.2)); refers = refl })
+    (record { same = refl; content = tags_hold fields; refers = refl })
 content_is mode Way fields c found e =
     let refs = refs_hold mode fields found in
     subst (IsRead mode Way) (ok_is (content.Way (unwrap_or (gathered fields).tags []) (unwrap_or (gathered fields).refs [])) c e)

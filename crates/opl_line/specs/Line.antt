@@ -2,6 +2,7 @@ use Rattle.std.specs.Prelude.{ℕ, ℤ, pos, negsuc, Bool, true, ◌==◌, ◌&&
 use Rattle.std.specs.Option.{unwrap_or}
 use Rattle.std.specs.List.{list_all}
 use Rattle.osm_base.specs.Number.{kind_letter, id_text}
+use Rattle.osm_base.specs.Place.{place_at}
 use Rattle.osm_base.specs.declared.key.Key.{Key}
 use Rattle.osm_base.specs.declared.key.Kind.{Kind}
 use Rattle.osm_base.specs.declared.key.Kind.TheVariants.{Node, Way, Relation}
@@ -46,9 +47,9 @@ unfoldable pub version_of : ℤ → Option ℕ → Result ℕ LineFault
 version_of (negsuc n) version = Ok 0
 version_of (pos n) version = if unwrap_or version 0 == 0 then Err faults.NoVersion else Ok (unwrap_or version 0)
 
--- A visible node has both coordinates.
+-- A visible node has both coordinates. (Each was read as one, so the place is on the map.)
 unfoldable pub location_of : Option (Option ℤ) → Option (Option ℤ) → Result Coord LineFault
-location_of (Some (Some x)) (Some (Some y)) = Ok (record { lon = x; lat = y })
+location_of (Some (Some x)) (Some (Some y)) = or_fault faults.NoLocation (place_at x y)
 location_of x y = Err faults.NoLocation
 
 -- What a visible object has; missing tags, references and members are none.

@@ -3,11 +3,9 @@ use Rattle.std.specs.Prelude.{◌≡◌, ℕ, ℤ, pos, negsuc, ◌≤◌, ◌<�
 use Rattle.std.specs.List.{All, list_all}
 use Rattle.std.specs.Str.{IsUtf8}
 use Rattle.osm_base.specs.Number.{IsId}
-use Rattle.osm_base.specs.Place.{is_longitude, is_latitude}
 use Rattle.osm_base.specs.Tags.{Pair, are_tags}
 use Rattle.osm_base.specs.Content.{kind_of_content, refs_of}
 use Rattle.osm_base.specs.declared.key.Key.{Key}
-use Rattle.osm_base.specs.declared.coord.Coord.{Coord}
 use Rattle.osm_base.specs.declared.meta.Meta.{Meta}
 use Rattle.osm_base.specs.declared.members.Member.{Member}
 use Rattle.osm_base.specs.declared.content.Content.{Content}
@@ -33,14 +31,11 @@ HasVersion (negsuc n) version = version ≡ 0
 abbrev pub AreTags : List Pair → Type 0
 AreTags tags = T (are_tags tags) × All (λ tag. IsText tag.0 × IsText tag.1) tags
 
-abbrev pub IsPlace : Coord → Type 0
-IsPlace at = (is_longitude at.lon ≡ true) × (is_latitude at.lat ≡ true)
-
 abbrev pub IsMember : Member → Type 0
 IsMember member = IsId member.key.id × IsText member.role
 
 abbrev pub IsContent : Content → Type 0
-IsContent (content.Node tags at) = AreTags tags × IsPlace at
+IsContent (content.Node tags at) = AreTags tags
 IsContent (content.Way tags refs) = AreTags tags × All IsId refs
 IsContent (content.Relation tags members) = AreTags tags × All IsMember members
 

@@ -15,7 +15,7 @@ use crate::mode::{Mode, is_allowed};
 use crate::object::{Fields, LineKind, OplObject};
 use crate::pieces::cut;
 use osm_base::{
-    Content, Coord, Key, Kind, Members, Meta, Pool, Refs, Tags, Text, kind_of, read_id,
+    Content, Coord, Key, Kind, Members, Meta, Pool, Refs, Tags, Text, coord_of, kind_of, read_id,
 };
 
 #[tactic(auto, unfolding(crate::specs::Line::id_at))]
@@ -102,13 +102,16 @@ fn version_of(id: i64, version: Option<u32>) -> Result<u32, LineAnswer>
 }
 
 #[tactic(auto, unfolding(crate::specs::Line::location_of))]
-fn location_of(x: Option<Option<i32>>, y: Option<Option<i32>>) -> Result<Coord, LineAnswer>
+fn location_of(x: Option<Option<i64>>, y: Option<Option<i64>>) -> Result<Coord, LineAnswer>
     ensures { Gives (λ at. at) result (location_of x y) }
 {
-    match (x, y) {
-        (Some(Some(lon)), Some(Some(lat))) => Ok(Coord { lon, lat }),
-        _ => Err(LineAnswer::Bad(LineFault::NoLocation)),
-    }
+    let (Some(Some(lon)), Some(Some(lat))) = (x, y) else {
+        return Err(LineAnswer::Bad(LineFault::NoLocation));
+    };
+    let Some(at) = coord_of(lon, lat) else {
+        return Err(LineAnswer::Bad(LineFault::NoLocation));
+    };
+    Ok(at)
 }
 
 fn tags_or_none(pool: &Pool, tags: Option<Tags>) -> Tags

@@ -1,6 +1,6 @@
 //! Values of fields that take no memory.
 
-ghost use Rattle.std.specs.Prelude.{◌≡◌, ◌≤◌, ◌<◌, ◌^◌, IfSome, pos, ◌≤ℤ◌, neg_ℤ, unsigned_abs};
+ghost use Rattle.std.specs.Prelude.{◌≡◌};
 ghost use Rattle.opl_line.specs.Field.{number_to, visible_text, place_text};
 
 use osm_base::{read_coord, read_digits};
@@ -32,8 +32,7 @@ pub fn read_visible(text: &[u8]) -> Option<bool>
 
 /// Nothing, or a coordinate of at most this size, in units of 10^-7 degree.
 #[tactic(auto, unfolding(crate::specs::Field::place_text))]
-pub fn read_place(text: &[u8], limit: u32) -> Option<Option<i32>>
-    requires { limit ≤ 1800000000 }
+pub fn read_place(text: &[u8], limit: u32) -> Option<Option<i64>>
     ensures { result ≡ place_text limit text.now }
 {
     if text.is_empty() {
@@ -41,7 +40,7 @@ pub fn read_place(text: &[u8], limit: u32) -> Option<Option<i32>>
     }
     let value = read_coord(text)?;
     if value.unsigned_abs() <= u64::from(limit) {
-        Some(Some(value as i32))
+        Some(Some(value))
     } else {
         None
     }

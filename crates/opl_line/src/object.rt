@@ -35,8 +35,8 @@ pub struct Fields {
     pub uid: Option<u32>,
     pub user: Option<Text>,
     pub tags: Option<Tags>,
-    pub x: Option<Option<i32>>,
-    pub y: Option<Option<i32>>,
+    pub x: Option<Option<i64>>,
+    pub y: Option<Option<i64>>,
     pub refs: Option<Refs>,
     pub members: Option<Members>,
 }

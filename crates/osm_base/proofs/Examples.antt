@@ -16,8 +16,8 @@ use Rattle.osm_base.specs.RisingKeys.{rises, with_key, without_key}
 abbrev key : Kind → ℤ → Key
 key kind id = record { kind = kind; id = id }
 
-abbrev place : ℤ → ℤ → Coord
-place lon lat = record { lon = lon; lat = lat }
+abbrev east : Coord
+east = record { lon = pos 1800000000; lat = pos 0; on_map = refl }
 
 -- ---- the rank order
 
@@ -203,20 +203,25 @@ written_zero = refl
 
 -- ---- places
 
-at_the_edge : place_at (negsuc 1799999999) (pos 900000000) ≡ Some (place (negsuc 1799999999) (pos 900000000))
+at_the_edge : place_at (negsuc 1799999999) (pos 900000000) ≡ Some (record { lon = negsuc 1799999999; lat = pos 900000000; on_map = refl })
+unfolding place_at
 at_the_edge = refl
 
 beyond_the_edge : place_at (pos 1800000001) (pos 0) ≡ None
+unfolding place_at
 beyond_the_edge = refl
 
 beyond_the_pole : place_at (pos 0) (negsuc 900000000) ≡ None
+unfolding place_at
 beyond_the_pole = refl
 
-moved_west : shifted (place (pos 100000000) (pos 0)) (negsuc 299999999) (pos 5) ≡ Some (place (negsuc 199999999) (pos 5))
+moved_west : shifted east (negsuc 299999999) (pos 5) ≡ Some (record { lon = pos 1500000000; lat = pos 5; on_map = refl })
+unfolding place_at
 moved_west = refl
 
 -- nothing goes round at 180 degrees
-moved_too_far : shifted (place (pos 1800000000) (pos 0)) (pos 1) (pos 0) ≡ None
+moved_too_far : shifted east (pos 1) (pos 0) ≡ None
+unfolding place_at
 moved_too_far = refl
 
 -- ---- rising lists of keys

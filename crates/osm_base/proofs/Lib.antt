@@ -1,8 +1,8 @@
 pub mod Digits
 pub mod KeyLaw
 pub mod Places
+pub mod PlaceLaws
 pub mod CoordLaw
-pub mod WrittenLaws
 pub mod MapViews
 pub mod RisingKeys
 pub mod ByRank

@@ -1,6 +1,6 @@
 -- The entries of a hashed map, and the finite map that they make. Each lemma holds for any order `R` of keys that is
 -- total and exact, and for the `==` of keys that answers as that order does.
-use Rattle.std.proofs.Common.{◌≡◌, ◌+◌, Bool, true, false, cond, List, [], ◌∷◌, length, Option, Some, None, refl, sym, ◌∙◌, ap, arith}
+use Rattle.std.proofs.Common.{◌≡◌, ◌+◌, Bool, false, cond, List, [], ◌∷◌, length, Option, Some, None, refl, sym, ◌∙◌, ap, arith}
 use Rattle.std.specs.Map.{lookup, keys_of}
 use Rattle.std.specs.List.{IsDistinct, AllByRecursion}
 use Rattle.std.specs.Ordering.{eq_by_cmp, is_eq}
@@ -22,10 +22,6 @@ module _ {K V : Type 0} {R : K → K → Ordering} {E : K → K → Bool} (total
   updated es fs k v h q =
       sym (get_view fs q) ∙ h q ∙ ap (λ o. cond (E k q) v o) (get_view es q)
       ∙ ap (λ b. cond b v (map.get (map.from_entries {R = R} es) q)) (ties k q ∙ (eq_by_cmp_equiv total).symm k q)
-
-  -- entries with the same look-ups make one map
-  pub same_view : (es fs : List (K × V)) → ((q : K) → lookup (E q) fs ≡ lookup (E q) es) → map.from_entries {R = R} fs ≡ map.from_entries es
-  same_view es fs h = map.same_map total exact _ _ (λ q. sym (get_view fs q) ∙ h q ∙ get_view es q)
 
   -- entries with one more, or with another value at one key
   pub inserted : (es fs : List (K × V)) (k : K) (v : V) → ((q : K) → lookup (E q) fs ≡ cond (E k q) (Some v) (lookup (E q) es)) → map.from_entries {R = R} fs ≡ map.insert (map.from_entries es) k v
@@ -49,8 +45,3 @@ module _ {K V : Type 0} {R : K → K → Ordering} {E : K → K → Bool} (total
       let more : map.len (map.from_entries {R = R} (e ∷ es)) ≡ map.len (map.from_entries {R = R} es) + 1 =
       map.len-insert total (map.from_entries es) e.0 e.1 ∙ rw none refl in
       omega arith
-
--- a value written back where it stood
-pub written_back : {V : Type 0} (b : Bool) (v : V) (o : Option V) → (b ≡ true → o ≡ Some v) → cond b (Some v) o ≡ o
-written_back true v o h = sym (h refl)
-written_back false v o h = refl

@@ -6,6 +6,7 @@ use Rattle.std.specs.Cmp.Lexicographic.{pointwise_decides}
 use Rattle.std.specs.declared.cmp.Ordering.{Ordering}
 use Rattle.std.specs.declared.cmp.Ordering.TheVariants.{Less, Equal, Greater}
 use Rattle.std.proofs.lemmas.Cmp.{tied_itself}
+use Rattle.osm_base.proofs.PlaceLaws.{coord_as}
 use Rattle.osm_base.specs.Rank.{rank_cmp, is_key}
 use Rattle.osm_base.specs.RankLaws.{rank_total, rank_exact}
 use Rattle.osm_base.specs.Tags.{Pair}
@@ -60,9 +61,6 @@ same_member_decides a b =
 
 pub same_members_decides : (a b : List Member) → Decides (same_members a b) (a ≡ b)
 same_members_decides a b = pointwise_decides same_member_decides a b
-
-coord_as : (a b : Coord) → (a.lon ≡ b.lon) × (a.lat ≡ b.lat) → a ≡ b
-coord_as a b h i = record { lon = h.0 i; lat = h.1 i }
 
 pub same_coord_decides : (a b : Coord) → Decides (same_coord a b) (a ≡ b)
 same_coord_decides a b =

@@ -1,11 +1,11 @@
 -- What a change of tags leaves: its look-ups, its order, its place.
-use Rattle.std.proofs.Common.{◌≡◌, ◌≢◌, ℕ, ◌<◌, ◌&&◌, Bool, true, false, not, cond, List, [], ◌∷◌, ◌++◌, length, Some, None, is_some, refl, sym, ◌∙◌, ap, subst, Ordering}
+use Rattle.std.proofs.Common.{◌≡◌, ℕ, ◌<◌, ◌&&◌, Bool, true, false, not, cond, List, [], ◌∷◌, ◌++◌, length, Some, is_some, refl, sym, ◌∙◌, ap, subst, Ordering}
 use Rattle.std.specs.declared.cmp.Ordering.TheVariants.{Less, Equal, Greater}
 use Rattle.std.specs.Ordering.{eq_by_cmp, is_lt, is_eq, ordering_reverse}
 use Rattle.std.specs.List.{list_all, filter}
 use Rattle.std.specs.Prelude.{nat_lt, T}
 use Rattle.std.specs.FinMap.{slice_cmp-IsAntisymmetric, nat_cmp-IsAntisymmetric, is_sorted}
-use Rattle.std.specs.FinMap.Entries.{is_sorted-put, is_sorted-where_key, find-put, find-where_key, is_some-find, same_entries, by_order, below_all}
+use Rattle.std.specs.FinMap.Entries.{is_sorted-put, is_sorted-where_key, find-put, is_some-find, by_order, below_all}
 use Rattle.std.proofs.lemmas.Bool.{lt-ltb}
 use Rattle.std.proofs.lemmas.Cmp.{nat_list_cmp_total, tied_itself}
 use Rattle.osm_base.proofs.AnyMap.{list_any_map}
@@ -30,46 +30,15 @@ one_key = slice_cmp-IsAntisymmetric nat_cmp-IsAntisymmetric
 pub key_itself : (key : List ℕ) → eq_by_cmp bytes_cmp key key ≡ true
 key_itself key = ap is_eq (tied_itself nat_list_cmp_total key)
 
-untied : (k j : List ℕ) (o : Ordering) → bytes_cmp k j ≡ o → k ≢ j → is_eq o ≡ false
-untied k j Less e apart = refl
-untied k j Equal e apart = absurd (apart (one_key k j e))
-untied k j Greater e apart = refl
-
-pub other_key : (k j : List ℕ) → k ≢ j → eq_by_cmp bytes_cmp k j ≡ false
-other_key k j apart = untied k j (bytes_cmp k j) refl apart
-
--- After a put the key has the new value,
+-- After a put the key has the new value.
 pub value_of_put : (tags : List Pair) (key value : List ℕ) → value_of (with_tag tags key value) key ≡ Some value
 value_of_put tags key value =
     find-put bytes_cmp nat_list_cmp_total key key value tags ∙ ap (λ b. cond b (Some value) (value_of tags key)) (key_itself key)
-
--- and each other key what it had.
-pub value_of_put_other : (tags : List Pair) (key value other : List ℕ) → other ≢ key → value_of (with_tag tags key value) other ≡ value_of tags other
-value_of_put_other tags key value other apart =
-    find-put bytes_cmp nat_list_cmp_total other key value tags ∙ ap (λ b. cond b (Some value) (value_of tags other)) (other_key other key apart)
-
-value_of_where : (p : List ℕ → Bool) (tags : List Pair) (key : List ℕ) → value_of (filter (λ t. p t.0) tags) key ≡ cond (p key) (value_of tags key) None
-value_of_where p tags key = find-where_key bytes_cmp p key (λ j e. ap p (sym (one_key key j e))) tags
-
--- After a take the key has no value,
-pub value_of_take : (tags : List Pair) (key : List ℕ) → value_of (without_tag tags key) key ≡ None
-value_of_take tags key =
-    value_of_where (λ j. not (eq_by_cmp bytes_cmp key j)) tags key ∙ ap (λ b. cond (not b) (value_of tags key) None) (key_itself key)
-
--- and each other key what it had.
-pub value_of_take_other : (tags : List Pair) (key other : List ℕ) → other ≢ key → value_of (without_tag tags key) other ≡ value_of tags other
-value_of_take_other tags key other apart =
-    value_of_where (λ j. not (eq_by_cmp bytes_cmp key j)) tags other ∙ ap (λ b. cond (not b) (value_of tags other) None) (other_key key other (λ e. apart (sym e)))
 
 -- A key is there exactly where it has a value.
 pub has_tag_is : (tags : List Pair) (key : List ℕ) → has_tag tags key ≡ is_some (value_of tags key)
 has_tag_is tags key =
     sym (list_any_map (eq_by_cmp bytes_cmp key) (λ (t : Pair). t.0) tags) ∙ sym (is_some-find bytes_cmp key tags)
-
--- Tags with the same values are the same tags.
-pub tags_by_values : (a b : List Pair) → T (are_tags a) → T (are_tags b) → ((key : List ℕ) → value_of a key ≡ value_of b key) → a ≡ b
-tags_by_values a b g h e =
-    same_entries bytes_cmp nat_list_cmp_total one_key a b (fore (is_sorted bytes_cmp a) _ g) (fore (is_sorted bytes_cmp b) _ h) e
 
 named_put : (key value : List ℕ) (tags : List Pair) → T (nat_lt 0 (length key)) → T (list_all (λ t. nat_lt 0 (length t.0)) tags) → T (list_all (λ t. nat_lt 0 (length t.0)) (with_tag tags key value))
 named_put key value [] k h = anded _ _ k h

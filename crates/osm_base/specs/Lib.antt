@@ -7,8 +7,9 @@ pub mod Meta
 pub mod Coord
 pub mod Number
 pub mod KeyEq
+pub mod KeyHash
 pub mod Rank
-pub mod Plain
+pub mod OnMap
 pub mod Place
 pub mod RisingKeys
 pub mod Extends

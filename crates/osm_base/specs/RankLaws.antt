@@ -1,5 +1,5 @@
 -- The rank order is a total order, and only equal keys tie.
-use Rattle.std.proofs.Common.{◌≡◌, ℤ, pos, negsuc, ◌&&◌, Bool, true, false, refl, ap, subst, rules}
+use Rattle.std.proofs.Common.{◌≡◌, ℤ, pos, negsuc, ◌&&◌, Bool, true, false, refl, ap, subst, rules, Decides}
 use Rattle.std.specs.Ordering.{nat_cmp, ordering_then, is_eq, int_eq}
 use Rattle.std.specs.Cmp.{IsTotalOrder, then_total, on_total, nat_cmp_total, both_ways, signed_Decides}
 use Rattle.std.specs.FinMap.{IsAntisymmetric, nat_cmp-IsAntisymmetric}
@@ -64,12 +64,17 @@ tied Less e = cc
 tied Equal e = refl
 tied Greater e = cc
 
+-- `==` on keys decides equality
+pub eq_decides : (x y : Key) → Decides (eq x y) (x ≡ y)
+eq_decides x y = (
+  λ e. let h = both_true (sameb the_type x.kind y.kind) (int_eq x.id y.id) e in
+      same_key x y (same_true the_type (search rules) _ _ h.0) ((signed_Decides x.id y.id).0 h.1),
+  λ same. together _ _ (true_same the_type _ _ (λ i. (same i).kind)) ((signed_Decides x.id y.id).1 (λ i. (same i).id)),
+)
+
 -- `==` on keys answers as the rank order does
 pub rank_ties : (x y : Key) → eq x y ≡ is_eq (rank_cmp x y)
 rank_ties x y =
     both_ways _ _
-    (λ e. let h = both_true (sameb the_type x.kind y.kind) (int_eq x.id y.id) e in
-    let same : x ≡ y = same_key x y (same_true the_type (search rules) _ _ h.0) ((signed_Decides x.id y.id).0 h.1) in
-    ap is_eq (subst (λ (k : Key). rank_cmp x k ≡ Equal) same (tied_itself rank_total x)))
-    (λ e. let same : x ≡ y = rank_exact x y (tied (rank_cmp x y) e) in
-    together _ _ (true_same the_type _ _ (λ i. (same i).kind)) ((signed_Decides x.id y.id).1 (λ i. (same i).id)))
+    (λ e. ap is_eq (subst (λ (k : Key). rank_cmp x k ≡ Equal) ((eq_decides x y).0 e) (tied_itself rank_total x)))
+    (λ e. (eq_decides x y).1 (rank_exact x y (tied (rank_cmp x y) e)))

@@ -8,6 +8,7 @@ ghost use Rattle.osm_base.specs.Same.{same_content};
 use crate::coord::Coord;
 use crate::key::{Key, Kind, same_key};
 use crate::members::{Member, Members};
+use crate::place::same_place;
 use crate::references::node_key;
 use crate::refs::Refs;
 use crate::tags::Tags;
@@ -95,7 +96,7 @@ pub fn same(a: &Content, b: &Content) -> bool
                 tags: others,
                 at: there,
             },
-        ) => { tags.same(others) && at == there }
+        ) => { tags.same(others) && same_place(*at, *there) }
         (
             Content::Way { tags, refs },
             Content::Way {

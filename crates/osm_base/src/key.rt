@@ -12,11 +12,14 @@ ghost use Rattle.std.specs.Prelude.{◌≡◌};
 ghost use Rattle.std.proofs.Common.{rules};
 ghost use Rattle.std.specs.Cmp.{partial_order_from_own_ties};
 ghost use Rattle.std.specs.Cmp.Rules.{comparing};
+ghost use Rattle.std.specs.Hash as fed;
 ghost use Rattle.std.specs.Ordering.{nat_cmp, on, then_cmp, as_partial_cmp};
-ghost use Rattle.osm_base.specs.RankLaws.{rank_total, rank_ties};
+ghost use Rattle.osm_base.specs.KeyHash.{key_group};
+ghost use Rattle.osm_base.specs.RankLaws.{rank_total, rank_ties, eq_decides};
 ghost use Rattle.osm_base.specs.Rank.{rank_cmp, is_key, kind_place, side, size};
 
 use std::cmp::Ordering;
+use std::hash::{Hash, Hasher};
 
 /// What an object of the map is (API 0.6).
 #[derive(Clone, Copy, Debug, PartialEq, Eq, Hash)]
@@ -30,7 +33,10 @@ pub enum Kind {
 ///
 /// An id is from -10^18 to 10^18 other than 0 wherever a text or a table gives it; the type
 /// itself holds any `i64`, and the order is total over all of them.
-#[derive(Clone, Copy, Debug, PartialEq, Eq, Hash)]
+///
+/// Four ids that follow each other are hashed alike: a hashed map keeps them in one group, and so
+/// finds an object's neighbours in the cache line that it has just read.
+#[derive(Clone, Copy, Debug, PartialEq, Eq)]
 pub struct Key {
     pub kind: Kind,
     pub id: i64,
@@ -61,6 +67,25 @@ fn size_of_id(id: i64) -> u64
     ensures { result ≡ size id }
 {
     if id < 0 { (-1 - id) as u64 } else { id as u64 }
+}
+
+// The group of four ids that a key is in, with its side and its kind.
+fn group_of(key: Key) -> u64
+    ensures { result ≡ key_group key }
+{
+    let side = u64::from(side_of(key.id));
+    let place = u64::from(key.kind.place());
+    size_of_id(key.id) / 4 * 8 + side * 4 + place
+}
+
+impl Hash for Key {
+    ghost hash_input = { λ key. fed.u64 (key_group key) };
+
+    ghost respects_eq = { (fed.same_Alike (λ key. fed.u64 (key_group key)) eq_decides).fed };
+
+    fn hash<H: Hasher>(&self, state: &mut H) {
+        state.write_u64(group_of(*self));
+    }
 }
 
 impl Ord for Key {

@@ -100,7 +100,7 @@ mends = refl
 
 -- a small town, from which n1 is erased
 abbrev p : Key → Key × Entry
-p k = (k, Known New (Some (content.Node [] (record { lon = pos 0; lat = pos 0 }))) None)
+p k = (k, Known New (Some (content.Node [] (record { lon = pos 0; lat = pos 0; on_map = refl }))) None)
 
 abbrev street : List (Key × Entry)
 street = p (n 1) ∷ p (n 2) ∷ p (n 3) ∷ p (n 4)
@@ -154,7 +154,7 @@ abbrev live : Key → Content → Key × Entry
 live k c = (k, Known (base.Live 1 c server) (Some c) None)
 
 abbrev here : Coord
-here = record { lon = pos 0; lat = pos 0 }
+here = record { lon = pos 0; lat = pos 0; on_map = refl }
 
 abbrev dot : List Pair → Content
 dot tags = content.Node tags here

@@ -20,7 +20,7 @@ abbrev node : Key
 node = record { kind = kind.Node; id = negsuc 0 }
 
 abbrev content : Content
-content = Node [] (record { lon = pos 15000000; lat = pos 5000000 })
+content = Node [] (record { lon = pos 15000000; lat = pos 5000000; on_map = refl })
 
 abbrev entry : Entry
 entry = Known New (Some content) None
