@@ -1,5 +1,5 @@
 -- What a download has made of the table once it was looked through.
-use Rattle.std.proofs.Common.{◌≡◌, ◌⊎◌, inl, inr, ◌&&◌, ◌||◌, ℕ, Bool, true, false, cond, List, [], ◌∷◌, Option, Some, None, refl, sym, ap, subst, ◌∙◌}
+use Rattle.std.proofs.Common.{◌≡◌, ◌⊎◌, inl, inr, ◌&&◌, ◌||◌, ℕ, Bool, true, false, cond, List, [], ◌∷◌, Option, Some, None, Ok, Err, refl, sym, ap, subst, ◌∙◌}
 use Rattle.std.specs.List.{fold, filter}
 use Rattle.std.specs.Option.{option_map_or, is_none}
 use Rattle.std.proofs.lemmas.List.Sums.{fold-append}
@@ -18,9 +18,7 @@ use Rattle.tool_api.specs.Tests.{is_named}
 use Rattle.tool_api.specs.Changes.{changed}
 use Rattle.tool_api.specs.declared.refusal.Refusal.{Refusal}
 use Rattle.tool_api.specs.declared.refusal.Refusal.TheVariants.{NotBuilt}
-use Rattle.tool_api.specs.declared.reply.Reply.TheVariants.{Done, Refused}
 use Rattle.tool_api.specs.Closing.{room_test}
-use Rattle.tool_api.specs.Plain.{answered}
 use Rattle.tool_api.specs.Merged.{lesser, least, references, is_news, is_deleted, unbuilt, taken, completed, merged, merge}
 use Rattle.tool_api.proofs.Looks.{entry_changed, next_changed, either}
 use Rattle.merge_tool.specs.Intake.{SoFar, tell, tell_next, refer_at, refer}
@@ -227,13 +225,13 @@ intake_ends t told s v first second =
     ∙ sym (fold-append lesser None (filter (news_at t told) told.order) (filter (λ r. is_deleted (entry_of t r)) (references told))) in
     second ∙ ap (λ z. fold refer z (references told)) ends ∙ (λ i. record { table = table i; least = out i })
 
--- Replies.
+-- Outcomes.
 
-pub kept_out : (t : TableValue) (told : ToldValue) (limit : ℕ) (k : Key) → least (unbuilt t told) ≡ Some k → answered t (merge t limit told) ≡ record { reply = Refused (NotBuilt k); table = t }
+pub kept_out : (t : TableValue) (told : ToldValue) (limit : ℕ) (k : Key) → least (unbuilt t told) ≡ Some k → merge t limit told ≡ Err (NotBuilt k)
 kept_out t told limit k out = rw out refl
 
-pub no_room : (t : TableValue) (told : ToldValue) (limit : ℕ) (r : Refusal) → least (unbuilt t told) ≡ None → room_test limit (merged t told) ≡ Some r → answered t (merge t limit told) ≡ record { reply = Refused r; table = t }
+pub no_room : (t : TableValue) (told : ToldValue) (limit : ℕ) (r : Refusal) → least (unbuilt t told) ≡ None → room_test limit (merged t told) ≡ Some r → merge t limit told ≡ Err r
 no_room t told limit r out full = rw (out, full) refl
 
-pub taken_in : (t : TableValue) (told : ToldValue) (limit : ℕ) → least (unbuilt t told) ≡ None → room_test limit (merged t told) ≡ None → answered t (merge t limit told) ≡ record { reply = Done []; table = merged t told }
-taken_in t told limit out room = rw (out, room) refl
+pub taken_in : (t u : TableValue) (told : ToldValue) (limit : ℕ) (made : List Key) → least (unbuilt t told) ≡ None → room_test limit u ≡ None → u ≡ merged t told → made ≡ [] → merge t limit told ≡ Ok (record { keys = made; table = u })
+taken_in t u told limit made out room is none = rw (none, out, is) (rw (ap (room_test limit) (sym is) ∙ room) refl)
