@@ -18,7 +18,7 @@ use Rattle.edit_script.specs.declared.line.ScriptLine.TheVariants.{Skipped, Asks
 use Rattle.edit_script.specs.declared.reply.StepRefusal.TheVariants.{Tool, BadFile}
 use Rattle.edit_script.specs.declared.reply.StepReply.TheVariants as reply
 use Rattle.edit_script.specs.declared.step.Act.TheVariants as act
-use Rattle.edit_script.specs.Forms.{download, add_node, add_way, add_relation, set_tags, shift, place, set_nodes, set_members, delete, split, combine, reverse, undo, alone, with_one, with_two, with_three, act_of}
+use Rattle.edit_script.specs.Forms.{download, add_node, add_way, add_relation, set_tags, shift, place, set_nodes, set_members, delete, split, combine, reverse, undo, way_form, delete_form, change_form, add_form, form}
 use Rattle.edit_script.specs.Items.{keys_word, tags_word, refs_word, members_word, place_words, count_word}
 use Rattle.edit_script.specs.Reply.{reply_line}
 use Rattle.edit_script.specs.Script.{kind_of_line, line_of, steps_of}
@@ -31,157 +31,157 @@ way n = record { kind = Way; id = pos n }
 
 -- A name has escapes.
 download_read : line_of (codes "download a%20%b") ≡ Some (Asks (act.Download (codes "a b")))
-unfolding kind_of_line act_of with_one download unescaped is_utf8 chars encode
+unfolding kind_of_line form download unescaped is_utf8 chars encode
 download_read = refl
 
 no_file : line_of (codes "download") ≡ None
-unfolding kind_of_line act_of alone
+unfolding kind_of_line form download
 no_file = refl
 
 -- A node's longitude stands before its latitude.
 node_read : line_of (codes "node x1.5 y-2 T") ≡ Some (Asks (act.Job (job.AddNode [] (record { lon = pos 15000000; lat = negsuc 19999999; on_map = refl }))))
-unfolding kind_of_line act_of with_three add_node place_words tags_word tags_text coord_text size_text whole_text pointed_text part_text number_text place_at
+unfolding kind_of_line form add_form add_node place_words tags_word tags_text coord_text size_text whole_text pointed_text part_text number_text place_at
 node_read = refl
 
 node_swapped : line_of (codes "node y1 x2 T") ≡ None
-unfolding kind_of_line act_of with_three add_node place_words coord_text size_text whole_text pointed_text part_text number_text
+unfolding kind_of_line form add_form add_node place_words coord_text size_text whole_text pointed_text part_text number_text
 node_swapped = refl
 
 node_off_the_map : line_of (codes "node x181 y0 T") ≡ None
-unfolding kind_of_line act_of with_three add_node place_words coord_text size_text whole_text pointed_text part_text number_text place_at
+unfolding kind_of_line form add_form add_node place_words coord_text size_text whole_text pointed_text part_text number_text place_at
 node_off_the_map = refl
 
 way_read : line_of (codes "way T Nn1,n-2") ≡ Some (Asks (act.Job (job.AddWay [] (pos 1 ∷ negsuc 1 ∷ []))))
-unfolding kind_of_line act_of with_two add_way tags_word tags_text refs_word refs_text ref_into ref_text id_text number_text
+unfolding kind_of_line form add_form add_way tags_word tags_text refs_word refs_text ref_into ref_text id_text number_text
 way_read = refl
 
 -- A reference has no location.
 no_location : line_of (codes "way T Nn1x1y2") ≡ None
-unfolding kind_of_line act_of with_two add_way tags_word tags_text refs_word
+unfolding kind_of_line form add_form add_way tags_word tags_text refs_word
 no_location = refl
 
 relation_read : line_of (codes "relation T M") ≡ Some (Asks (act.Job (job.AddRelation [] [])))
-unfolding kind_of_line act_of with_two add_relation tags_word tags_text members_word members_text
+unfolding kind_of_line form add_form add_relation tags_word tags_text members_word members_text
 relation_read = refl
 
 tags_read : line_of (codes "tag n1,w2 T") ≡ Some (Asks (act.Job (job.SetTags (node 1 ∷ way 2 ∷ []) [])))
-unfolding kind_of_line act_of with_two set_tags keys_word tags_word tags_text key_text id_text kind_letter number_text
+unfolding kind_of_line form add_form change_form set_tags keys_word tags_word tags_text key_text id_text kind_letter number_text
 tags_read = refl
 
 -- A distance may be any that a coordinate text spells.
 move_read : line_of (codes "move n1 0.0000001 -999") ≡ Some (Asks (act.Job (job.Shift (node 1 ∷ []) (pos 1) (negsuc 9989999999))))
-unfolding kind_of_line act_of with_three shift keys_word key_text id_text kind_letter number_text coord_text size_text whole_text pointed_text part_text
+unfolding kind_of_line form add_form change_form shift keys_word key_text id_text kind_letter number_text coord_text size_text whole_text pointed_text part_text
 move_read = refl
 
 place_read : line_of (codes "place n1 x2 y3") ≡ Some (Asks (act.Job (job.Place (node 1) (record { lon = pos 20000000; lat = pos 30000000; on_map = refl }))))
-unfolding kind_of_line act_of with_three place place_words key_text id_text kind_letter number_text coord_text size_text whole_text pointed_text part_text place_at
+unfolding kind_of_line form add_form change_form place place_words key_text id_text kind_letter number_text coord_text size_text whole_text pointed_text part_text place_at
 place_read = refl
 
 nodes_read : line_of (codes "nodes w1 N") ≡ Some (Asks (act.Job (job.SetNodes (way 1) [])))
-unfolding kind_of_line act_of with_two set_nodes refs_word refs_text key_text id_text kind_letter number_text
+unfolding kind_of_line form add_form change_form set_nodes refs_word refs_text key_text id_text kind_letter number_text
 nodes_read = refl
 
 members_read : line_of (codes "members r1 M") ≡ Some (Asks (act.Job (job.SetMembers (record { kind = Relation; id = pos 1 }) [])))
-unfolding kind_of_line act_of with_two set_members members_word members_text key_text id_text kind_letter number_text
+unfolding kind_of_line form add_form change_form set_members members_word members_text key_text id_text kind_letter number_text
 members_read = refl
 
 -- Leading zeros are taken.
 delete_read : line_of (codes "delete n007") ≡ Some (Asks (act.Job (job.Delete (node 7 ∷ []))))
-unfolding kind_of_line act_of with_one delete keys_word key_text id_text kind_letter number_text
+unfolding kind_of_line form add_form change_form delete_form delete keys_word key_text id_text kind_letter number_text
 delete_read = refl
 
 -- Behind a comma stands a key.
 comma_last : line_of (codes "delete n1,") ≡ None
-unfolding kind_of_line act_of with_one delete keys_word key_text id_text kind_letter number_text
+unfolding kind_of_line form add_form change_form delete_form delete keys_word key_text id_text kind_letter number_text
 comma_last = refl
 
 split_read : line_of (codes "split w1 n2") ≡ Some (Asks (act.Job (job.Split (way 1) (node 2 ∷ []))))
-unfolding kind_of_line act_of with_two split keys_word key_text id_text kind_letter number_text
+unfolding kind_of_line form add_form change_form delete_form way_form split keys_word key_text id_text kind_letter number_text
 split_read = refl
 
 -- At least two ways are combined.
 combine_read : line_of (codes "combine w1,w2") ≡ Some (Asks (act.Job (job.Combine (way 1 ∷ way 2 ∷ []))))
-unfolding kind_of_line act_of with_one combine keys_word key_text id_text kind_letter number_text
+unfolding kind_of_line form add_form change_form delete_form way_form combine keys_word key_text id_text kind_letter number_text
 combine_read = refl
 
 combine_one : line_of (codes "combine w1") ≡ None
-unfolding kind_of_line act_of with_one combine keys_word key_text id_text kind_letter number_text
+unfolding kind_of_line form add_form change_form delete_form way_form combine keys_word key_text id_text kind_letter number_text
 combine_one = refl
 
 -- The kind of a key isn't tested.
 reverse_read : line_of (codes "reverse n1") ≡ Some (Asks (act.Job (job.Reverse (node 1))))
-unfolding kind_of_line act_of with_one reverse key_text id_text kind_letter number_text
+unfolding kind_of_line form add_form change_form delete_form way_form reverse key_text id_text kind_letter number_text
 reverse_read = refl
 
 undo_read : line_of (codes "undo 007") ≡ Some (Asks (act.Undo 7))
-unfolding kind_of_line act_of with_one undo count_word number_text
+unfolding kind_of_line form undo count_word number_text
 undo_read = refl
 
 undo_none : line_of (codes "undo 0") ≡ None
-unfolding kind_of_line act_of with_one undo count_word number_text
+unfolding kind_of_line form undo count_word number_text
 undo_none = refl
 
 undo_too_often : line_of (codes "undo 1000001") ≡ None
-unfolding kind_of_line act_of with_one undo count_word number_text
+unfolding kind_of_line form undo count_word number_text
 undo_too_often = refl
 
 -- Runs of blanks separate words.
 blanks_between : line_of (codes "delete \t n1") ≡ Some (Asks (act.Job (job.Delete (node 1 ∷ []))))
-unfolding kind_of_line act_of with_one delete keys_word key_text id_text kind_letter number_text
+unfolding kind_of_line form add_form change_form delete_form delete keys_word key_text id_text kind_letter number_text
 blanks_between = refl
 
 -- No blank stands at an end of the line.
 blank_first : line_of (codes "\tprint") ≡ None
-unfolding kind_of_line act_of alone
+unfolding kind_of_line form
 blank_first = refl
 
 blank_last : line_of (codes "print ") ≡ None
-unfolding kind_of_line act_of alone
+unfolding kind_of_line form
 blank_last = refl
 
 word_more : line_of (codes "print it") ≡ None
-unfolding kind_of_line act_of with_one
+unfolding kind_of_line form
 word_more = refl
 
 -- A comment begins the line.
 comment : line_of (codes "#print") ≡ Some Skipped
-unfolding kind_of_line act_of alone
+unfolding kind_of_line form
 comment = refl
 
 no_comment : line_of (codes " #") ≡ None
-unfolding kind_of_line act_of alone
+unfolding kind_of_line form
 no_comment = refl
 
 -- One CR is taken off, and not two.
 one_cr : line_of (codes "print\r") ≡ Some (Asks act.Print)
-unfolding kind_of_line act_of alone
+unfolding kind_of_line form
 one_cr = refl
 
 two_crs : line_of (codes "print\r\r") ≡ None
-unfolding kind_of_line act_of alone
+unfolding kind_of_line form add_form change_form delete_form way_form
 two_crs = refl
 
 -- Lines that are skipped are counted, and the last needs no LF.
 steps_read : steps_of (codes "#a\n\nbegin\r\nprint\nend") ≡ Ok (record { line = 3; act = act.Begin } ∷ record { line = 4; act = act.Print } ∷ record { line = 5; act = act.End } ∷ [])
-unfolding kind_of_line act_of alone
+unfolding kind_of_line form
 steps_read = refl
 
 -- The script's end may leave a group open.
 open_group : steps_of (codes "begin") ≡ Ok (record { line = 1; act = act.Begin } ∷ [])
-unfolding kind_of_line act_of alone
+unfolding kind_of_line form
 open_group = refl
 
 -- No group stands in a group, nothing is undone in one, and one that ends has begun.
 group_in_group : steps_of (codes "begin\nbegin\nend\nend") ≡ Err 2
-unfolding kind_of_line act_of alone
+unfolding kind_of_line form
 group_in_group = refl
 
 undo_in_group : steps_of (codes "begin\nundo 1\nend") ≡ Err 2
-unfolding kind_of_line act_of alone with_one undo count_word number_text
+unfolding kind_of_line form undo count_word number_text
 undo_in_group = refl
 
 end_outside : steps_of (codes "print\nend") ≡ Err 2
-unfolding kind_of_line act_of alone
+unfolding kind_of_line form
 end_outside = refl
 
 -- The keys that were made have commas between them.

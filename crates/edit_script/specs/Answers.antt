@@ -16,6 +16,11 @@ Gives (Ok x) read = read ≡ Some x
 Gives (Err unread.Outside) read = read ≡ None
 Gives (Err unread.Memory) read = Unit {0}
 
+-- nothing was read, unless memory ran out
+abbrev pub IsRefused : {A : Type 0} → Option A → Unread → Type 0
+IsRefused read unread.Outside = read ≡ None
+IsRefused read unread.Memory = Unit {0}
+
 -- a field with a fault is outside the grammar
 abbrev pub unread_field : LineAnswer → Unread
 unread_field (answers.Bad fault) = unread.Outside

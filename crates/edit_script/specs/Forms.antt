@@ -1,6 +1,7 @@
--- The lines of a script, one definition for each form.
+-- The lines of a script: one definition for each form, found by the first word of the line.
 --
--- For example `combine w1,w2` combines these ways, and `combine w1` is outside the grammar.
+-- For example `combine w1,w2` combines these ways, and `combine w1` is outside the grammar. A form reads the words behind
+-- the first one, and so may have parts that can be left out.
 use Rattle.std.specs.Prelude.{ℕ, nat_le, if◌then◌else◌, codes, List, [], ◌∷◌, length, Option, Some, None}
 use Rattle.std.specs.Str.{bytes_eq}
 use Rattle.osm_base.specs.Coord.{coord_text}
@@ -10,166 +11,189 @@ use Rattle.opl_text.specs.Time.{◌>>=◌}
 use Rattle.tool_api.specs.declared.job.Job.TheVariants as job
 use Rattle.edit_script.specs.declared.step.Act.{Act}
 use Rattle.edit_script.specs.declared.step.Act.TheVariants as act
-use Rattle.edit_script.specs.Items.{keys_word, tags_word, refs_word, members_word, place_words, count_word}
+use Rattle.edit_script.specs.Items.{one_word, two_words, three_words, keys_word, tags_word, refs_word, members_word, place_words, count_word}
+
+-- a verb with no word behind it
+abbrev pub alone : Act → List (List ℕ) → Option Act
+alone act [] = Some act
+alone act (word ∷ words) = None
 
 -- `download FILE`: no word is empty, and so no name that one spells
-unfoldable pub download : List ℕ → Option Act
-download file = do
+unfoldable pub download : List (List ℕ) → Option Act
+download words = do
+  file ← one_word words
   name ← unescaped file
   Some (act.Download name)
 
+-- `undo N`
+unfoldable pub undo : List (List ℕ) → Option Act
+undo words = do
+  count ← one_word words
+  n ← count_word count
+  Some (act.Undo n)
+
+-- `redo N`
+unfoldable pub redo : List (List ℕ) → Option Act
+redo words = do
+  count ← one_word words
+  n ← count_word count
+  Some (act.Redo n)
+
 -- `node x.. y.. T..`
-unfoldable pub add_node : List ℕ → List ℕ → List ℕ → Option Act
-add_node x y third = do
-  at ← place_words x y
+unfoldable pub add_node : List (List ℕ) → Option Act
+add_node words = do
+  (first, second, third) ← three_words words
+  at ← place_words first second
   tags ← tags_word third
   Some (act.Job (job.AddNode tags at))
 
 -- `way T.. N..`
-unfoldable pub add_way : List ℕ → List ℕ → Option Act
-add_way first second = do
+unfoldable pub add_way : List (List ℕ) → Option Act
+add_way words = do
+  (first, second) ← two_words words
   tags ← tags_word first
   refs ← refs_word second
   Some (act.Job (job.AddWay tags refs))
 
 -- `relation T.. M..`
-unfoldable pub add_relation : List ℕ → List ℕ → Option Act
-add_relation first second = do
+unfoldable pub add_relation : List (List ℕ) → Option Act
+add_relation words = do
+  (first, second) ← two_words words
   tags ← tags_word first
   members ← members_word second
   Some (act.Job (job.AddRelation tags members))
 
 -- `tag KEYS T..`
-unfoldable pub set_tags : List ℕ → List ℕ → Option Act
-set_tags first second = do
+unfoldable pub set_tags : List (List ℕ) → Option Act
+set_tags words = do
+  (first, second) ← two_words words
   keys ← keys_word first
   tags ← tags_word second
   Some (act.Job (job.SetTags keys tags))
 
 -- `move KEYS DX DY`
-unfoldable pub shift : List ℕ → List ℕ → List ℕ → Option Act
-shift first second third = do
+unfoldable pub shift : List (List ℕ) → Option Act
+shift words = do
+  (first, second, third) ← three_words words
   keys ← keys_word first
   dx ← coord_text second
   dy ← coord_text third
   Some (act.Job (job.Shift keys dx dy))
 
 -- `place KEY x.. y..`
-unfoldable pub place : List ℕ → List ℕ → List ℕ → Option Act
-place first x y = do
+unfoldable pub place : List (List ℕ) → Option Act
+place words = do
+  (first, second, third) ← three_words words
   key ← key_text first
-  at ← place_words x y
+  at ← place_words second third
   Some (act.Job (job.Place key at))
 
 -- `nodes KEY N..`
-unfoldable pub set_nodes : List ℕ → List ℕ → Option Act
-set_nodes first second = do
+unfoldable pub set_nodes : List (List ℕ) → Option Act
+set_nodes words = do
+  (first, second) ← two_words words
   key ← key_text first
   refs ← refs_word second
   Some (act.Job (job.SetNodes key refs))
 
 -- `members KEY M..`
-unfoldable pub set_members : List ℕ → List ℕ → Option Act
-set_members first second = do
+unfoldable pub set_members : List (List ℕ) → Option Act
+set_members words = do
+  (first, second) ← two_words words
   key ← key_text first
   members ← members_word second
   Some (act.Job (job.SetMembers key members))
 
 -- `delete KEYS`
-unfoldable pub delete : List ℕ → Option Act
-delete first = do
-  keys ← keys_word first
+unfoldable pub delete : List (List ℕ) → Option Act
+delete words = do
+  named ← one_word words
+  keys ← keys_word named
   Some (act.Job (job.Delete keys))
 
 -- `erase KEYS`
-unfoldable pub erase : List ℕ → Option Act
-erase first = do
-  keys ← keys_word first
+unfoldable pub erase : List (List ℕ) → Option Act
+erase words = do
+  named ← one_word words
+  keys ← keys_word named
   Some (act.Job (job.Erase keys))
 
 -- `purge KEYS`
-unfoldable pub purge : List ℕ → Option Act
-purge first = do
-  keys ← keys_word first
+unfoldable pub purge : List (List ℕ) → Option Act
+purge words = do
+  named ← one_word words
+  keys ← keys_word named
   Some (act.Job (job.Purge keys))
 
 -- `split KEY KEYS`
-unfoldable pub split : List ℕ → List ℕ → Option Act
-split first second = do
+unfoldable pub split : List (List ℕ) → Option Act
+split words = do
+  (first, second) ← two_words words
   way ← key_text first
   nodes ← keys_word second
   Some (act.Job (job.Split way nodes))
 
 -- `combine KEYS`, at least two
-unfoldable pub combine : List ℕ → Option Act
-combine first = do
-  ways ← keys_word first
+unfoldable pub combine : List (List ℕ) → Option Act
+combine words = do
+  named ← one_word words
+  ways ← keys_word named
   if nat_le 2 (length ways) then Some (act.Job (job.Combine ways)) else None
 
 -- `reverse KEY`
-unfoldable pub reverse : List ℕ → Option Act
-reverse first = do
-  way ← key_text first
+unfoldable pub reverse : List (List ℕ) → Option Act
+reverse words = do
+  named ← one_word words
+  way ← key_text named
   Some (act.Job (job.Reverse way))
 
--- `undo N`
-unfoldable pub undo : List ℕ → Option Act
-undo first = do
-  n ← count_word first
-  Some (act.Undo n)
-
--- `redo N`
-unfoldable pub redo : List ℕ → Option Act
-redo first = do
-  n ← count_word first
-  Some (act.Redo n)
-
--- a verb with no word behind it
-unfoldable pub alone : List ℕ → Option Act
-alone verb =
-    if bytes_eq verb (codes "begin") then Some act.Begin
-    else (if bytes_eq verb (codes "end") then Some act.End
-    else (if bytes_eq verb (codes "print") then Some act.Print
-    else (if bytes_eq verb (codes "count") then Some act.Count
-    else None)))
-
--- a verb with one word behind it
-unfoldable pub with_one : List ℕ → List ℕ → Option Act
-with_one verb first =
-    if bytes_eq verb (codes "download") then download first
-    else (if bytes_eq verb (codes "delete") then delete first
-    else (if bytes_eq verb (codes "erase") then erase first
-    else (if bytes_eq verb (codes "purge") then purge first
-    else (if bytes_eq verb (codes "combine") then combine first
-    else (if bytes_eq verb (codes "reverse") then reverse first
-    else (if bytes_eq verb (codes "undo") then undo first
-    else (if bytes_eq verb (codes "redo") then redo first
-    else None)))))))
-
--- a verb with two words behind it
-unfoldable pub with_two : List ℕ → List ℕ → List ℕ → Option Act
-with_two verb first second =
-    if bytes_eq verb (codes "way") then add_way first second
-    else (if bytes_eq verb (codes "relation") then add_relation first second
-    else (if bytes_eq verb (codes "tag") then set_tags first second
-    else (if bytes_eq verb (codes "nodes") then set_nodes first second
-    else (if bytes_eq verb (codes "members") then set_members first second
-    else (if bytes_eq verb (codes "split") then split first second
-    else None)))))
-
--- a verb with three words behind it
-unfoldable pub with_three : List ℕ → List ℕ → List ℕ → List ℕ → Option Act
-with_three verb first second third =
-    if bytes_eq verb (codes "node") then add_node first second third
-    else (if bytes_eq verb (codes "move") then shift first second third
-    else (if bytes_eq verb (codes "place") then place first second third
+-- a way is cut, joined or reversed
+unfoldable pub way_form : List ℕ → List (List ℕ) → Option Act
+way_form verb words =
+    if bytes_eq verb (codes "split") then split words
+    else (if bytes_eq verb (codes "combine") then combine words
+    else (if bytes_eq verb (codes "reverse") then reverse words
     else None))
 
+-- objects go
+unfoldable pub delete_form : List ℕ → List (List ℕ) → Option Act
+delete_form verb words =
+    if bytes_eq verb (codes "delete") then delete words
+    else (if bytes_eq verb (codes "erase") then erase words
+    else (if bytes_eq verb (codes "purge") then purge words
+    else way_form verb words))
+
+-- objects are changed one by one
+unfoldable pub change_form : List ℕ → List (List ℕ) → Option Act
+change_form verb words =
+    if bytes_eq verb (codes "tag") then set_tags words
+    else (if bytes_eq verb (codes "move") then shift words
+    else (if bytes_eq verb (codes "place") then place words
+    else (if bytes_eq verb (codes "nodes") then set_nodes words
+    else (if bytes_eq verb (codes "members") then set_members words
+    else delete_form verb words))))
+
+-- an object is added
+unfoldable pub add_form : List ℕ → List (List ℕ) → Option Act
+add_form verb words =
+    if bytes_eq verb (codes "node") then add_node words
+    else (if bytes_eq verb (codes "way") then add_way words
+    else (if bytes_eq verb (codes "relation") then add_relation words
+    else change_form verb words))
+
+-- a step without a job, or a job
+unfoldable pub form : List ℕ → List (List ℕ) → Option Act
+form verb words =
+    if bytes_eq verb (codes "download") then download words
+    else (if bytes_eq verb (codes "begin") then alone act.Begin words
+    else (if bytes_eq verb (codes "end") then alone act.End words
+    else (if bytes_eq verb (codes "undo") then undo words
+    else (if bytes_eq verb (codes "redo") then redo words
+    else (if bytes_eq verb (codes "print") then alone act.Print words
+    else (if bytes_eq verb (codes "count") then alone act.Count words
+    else add_form verb words))))))
+
 -- What the words of a line ask for; none where they are no line of the grammar.
-unfoldable pub act_of : List (List ℕ) → Option Act
+abbrev pub act_of : List (List ℕ) → Option Act
 act_of [] = None
-act_of (verb ∷ []) = alone verb
-act_of (verb ∷ first ∷ []) = with_one verb first
-act_of (verb ∷ first ∷ second ∷ []) = with_two verb first second
-act_of (verb ∷ first ∷ second ∷ third ∷ []) = with_three verb first second third
-act_of (verb ∷ first ∷ second ∷ third ∷ fourth ∷ others) = None
+act_of (verb ∷ words) = form verb words

@@ -23,6 +23,19 @@ has_byte piece = nat_lt 0 (length piece)
 abbrev pub words_of : List ℕ → List (List ℕ)
 words_of line = filter has_byte (split is_blank line)
 
+-- the words, where they are one, two or three
+abbrev pub one_word : List (List ℕ) → Option (List ℕ)
+one_word (first ∷ []) = Some first
+one_word words = None
+
+abbrev pub two_words : List (List ℕ) → Option (List ℕ × List ℕ)
+two_words (first ∷ second ∷ []) = Some (first, second)
+two_words words = None
+
+abbrev pub three_words : List (List ℕ) → Option (List ℕ × List ℕ × List ℕ)
+three_words (first ∷ second ∷ third ∷ []) = Some (first, second, third)
+three_words words = None
+
 -- what stands behind the blanks at the front
 abbrev pub without_blanks : List ℕ → List ℕ
 without_blanks [] = []

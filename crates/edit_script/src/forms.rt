@@ -1,14 +1,14 @@
-//! The lines of a script, one function for each form.
+//! The lines of a script: one function for each form, found by the first word of the line.
 ghost use Rattle.std.specs.Prelude.{IfOk};
 ghost use Rattle.edit_script.specs.Answers.{Gives};
-ghost use Rattle.edit_script.specs.Forms.{download, add_node, add_way, add_relation, set_tags, shift, place, set_nodes, set_members, delete, erase, purge, split, combine, reverse, undo, redo, alone, with_one, with_two, with_three, act_of};
+ghost use Rattle.edit_script.specs.Forms.{download, add_node, add_way, add_relation, set_tags, shift, place, set_nodes, set_members, delete, erase, purge, split, combine, reverse, undo, redo, alone, way_form, delete_form, change_form, add_form, form, act_of};
 ghost use Rattle.edit_script.specs.Items.{words_of};
 ghost use Rattle.edit_script.specs.Order.{IsMeant};
 
 use crate::fault::Unread;
 use crate::items::{
-    coord_word, count_word, key_word, keys_word, members_word, next_word, place_words, refs_word,
-    tags_word,
+    coord_word, count_word, key_word, keys_word, members_word, next_word, one_word, place_words,
+    refs_word, tags_word, three_words, two_words,
 };
 use crate::step::Act;
 use opl_text::read_escaped;
@@ -16,137 +16,143 @@ use osm_base::Pool;
 use tool_api::Job;
 
 /// What the words of a line ask for.
-#[tactic(auto, unfolding(crate::specs::Forms::act_of))]
 pub fn act_of(pool: &mut Pool, line: &[u8]) -> Result<Act, Unread>
     ensures value { Gives result (act_of (words_of line.now)) }
     ensures meant { IfOk result IsMeant }
 {
-    let Some((verb, rest)) = next_word(line) else {
-        return Err(Unread::Outside);
-    };
-    let Some((first, rest)) = next_word(rest) else {
-        return alone(verb);
-    };
-    let Some((second, rest)) = next_word(rest) else {
-        return with_one(pool, verb, first);
-    };
-    let Some((third, rest)) = next_word(rest) else {
-        return with_two(pool, verb, first, second);
-    };
-    match next_word(rest) {
-        None => with_three(pool, verb, first, second, third),
-        Some(_) => Err(Unread::Outside),
+    match next_word(line) {
+        None => Err(Unread::Outside),
+        Some((verb, words)) => form(pool, verb, words),
+    }
+}
+
+/// A step without a job, or a job.
+#[tactic(auto, unfolding(crate::specs::Forms::form))]
+fn form(pool: &mut Pool, verb: &[u8], words: &[u8]) -> Result<Act, Unread>
+    ensures value { Gives result (form verb.now (words_of words.now)) }
+    ensures meant { IfOk result IsMeant }
+{
+    if verb == b"download".as_slice() {
+        download(pool, words)
+    } else if verb == b"begin".as_slice() {
+        alone(Act::Begin, words)
+    } else if verb == b"end".as_slice() {
+        alone(Act::End, words)
+    } else if verb == b"undo".as_slice() {
+        undo(words)
+    } else if verb == b"redo".as_slice() {
+        redo(words)
+    } else if verb == b"print".as_slice() {
+        alone(Act::Print, words)
+    } else if verb == b"count".as_slice() {
+        alone(Act::Count, words)
+    } else {
+        add_form(pool, verb, words)
+    }
+}
+
+/// An object is added.
+#[tactic(auto, unfolding(crate::specs::Forms::add_form))]
+fn add_form(pool: &mut Pool, verb: &[u8], words: &[u8]) -> Result<Act, Unread>
+    ensures value { Gives result (add_form verb.now (words_of words.now)) }
+    ensures meant { IfOk result IsMeant }
+{
+    if verb == b"node".as_slice() {
+        add_node(pool, words)
+    } else if verb == b"way".as_slice() {
+        add_way(pool, words)
+    } else if verb == b"relation".as_slice() {
+        add_relation(pool, words)
+    } else {
+        change_form(pool, verb, words)
+    }
+}
+
+/// Objects are changed one by one.
+#[tactic(auto, unfolding(crate::specs::Forms::change_form))]
+fn change_form(pool: &mut Pool, verb: &[u8], words: &[u8]) -> Result<Act, Unread>
+    ensures value { Gives result (change_form verb.now (words_of words.now)) }
+    ensures meant { IfOk result IsMeant }
+{
+    if verb == b"tag".as_slice() {
+        set_tags(pool, words)
+    } else if verb == b"move".as_slice() {
+        shift(pool, words)
+    } else if verb == b"place".as_slice() {
+        place(words)
+    } else if verb == b"nodes".as_slice() {
+        set_nodes(pool, words)
+    } else if verb == b"members".as_slice() {
+        set_members(pool, words)
+    } else {
+        delete_form(pool, verb, words)
+    }
+}
+
+/// Objects go.
+#[tactic(auto, unfolding(crate::specs::Forms::delete_form))]
+fn delete_form(pool: &Pool, verb: &[u8], words: &[u8]) -> Result<Act, Unread>
+    ensures value { Gives result (delete_form verb.now (words_of words.now)) }
+    ensures meant { IfOk result IsMeant }
+{
+    if verb == b"delete".as_slice() {
+        delete(pool, words)
+    } else if verb == b"erase".as_slice() {
+        erase(pool, words)
+    } else if verb == b"purge".as_slice() {
+        purge(pool, words)
+    } else {
+        way_form(pool, verb, words)
+    }
+}
+
+/// A way is cut, joined or reversed.
+#[tactic(auto, unfolding(crate::specs::Forms::way_form))]
+fn way_form(pool: &Pool, verb: &[u8], words: &[u8]) -> Result<Act, Unread>
+    ensures value { Gives result (way_form verb.now (words_of words.now)) }
+    ensures meant { IfOk result IsMeant }
+{
+    if verb == b"split".as_slice() {
+        split(pool, words)
+    } else if verb == b"combine".as_slice() {
+        combine(pool, words)
+    } else if verb == b"reverse".as_slice() {
+        reverse(words)
+    } else {
+        Err(Unread::Outside)
     }
 }
 
 /// A verb with no word behind it.
-#[tactic(auto, unfolding(crate::specs::Forms::alone))]
-fn alone(verb: &[u8]) -> Result<Act, Unread>
-    ensures value { Gives result (alone verb.now) }
+fn alone(act: Act, words: &[u8]) -> Result<Act, Unread>
+    requires meant { IsMeant act }
+    ensures value { Gives result (alone act (words_of words.now)) }
     ensures meant { IfOk result IsMeant }
 {
-    if verb == b"begin".as_slice() {
-        Ok(Act::Begin)
-    } else if verb == b"end".as_slice() {
-        Ok(Act::End)
-    } else if verb == b"print".as_slice() {
-        Ok(Act::Print)
-    } else if verb == b"count".as_slice() {
-        Ok(Act::Count)
-    } else {
-        Err(Unread::Outside)
-    }
-}
-
-/// A verb with one word behind it.
-#[tactic(auto, unfolding(crate::specs::Forms::with_one))]
-fn with_one(pool: &mut Pool, verb: &[u8], first: &[u8]) -> Result<Act, Unread>
-    ensures value { Gives result (with_one verb.now first.now) }
-    ensures meant { IfOk result IsMeant }
-{
-    if verb == b"download".as_slice() {
-        download(pool, first)
-    } else if verb == b"delete".as_slice() {
-        delete(pool, first)
-    } else if verb == b"erase".as_slice() {
-        erase(pool, first)
-    } else if verb == b"purge".as_slice() {
-        purge(pool, first)
-    } else if verb == b"combine".as_slice() {
-        combine(pool, first)
-    } else if verb == b"reverse".as_slice() {
-        reverse(first)
-    } else if verb == b"undo".as_slice() {
-        undo(first)
-    } else if verb == b"redo".as_slice() {
-        redo(first)
-    } else {
-        Err(Unread::Outside)
-    }
-}
-
-/// A verb with two words behind it.
-#[tactic(auto, unfolding(crate::specs::Forms::with_two))]
-fn with_two(pool: &mut Pool, verb: &[u8], first: &[u8], second: &[u8]) -> Result<Act, Unread>
-    ensures value { Gives result (with_two verb.now first.now second.now) }
-    ensures meant { IfOk result IsMeant }
-{
-    if verb == b"way".as_slice() {
-        add_way(pool, first, second)
-    } else if verb == b"relation".as_slice() {
-        add_relation(pool, first, second)
-    } else if verb == b"tag".as_slice() {
-        set_tags(pool, first, second)
-    } else if verb == b"nodes".as_slice() {
-        set_nodes(pool, first, second)
-    } else if verb == b"members".as_slice() {
-        set_members(pool, first, second)
-    } else if verb == b"split".as_slice() {
-        split(pool, first, second)
-    } else {
-        Err(Unread::Outside)
-    }
-}
-
-/// A verb with three words behind it.
-#[tactic(auto, unfolding(crate::specs::Forms::with_three))]
-fn with_three(
-    pool: &mut Pool,
-    verb: &[u8],
-    first: &[u8],
-    second: &[u8],
-    third: &[u8],
-) -> Result<Act, Unread>
-    ensures value { Gives result (with_three verb.now first.now second.now third.now) }
-    ensures meant { IfOk result IsMeant }
-{
-    if verb == b"node".as_slice() {
-        add_node(pool, first, second, third)
-    } else if verb == b"move".as_slice() {
-        shift(pool, first, second, third)
-    } else if verb == b"place".as_slice() {
-        place(first, second, third)
-    } else {
-        Err(Unread::Outside)
+    match next_word(words) {
+        None => Ok(act),
+        Some(_) => Err(Unread::Outside),
     }
 }
 
 /// `download FILE`.
 #[tactic(auto, unfolding(crate::specs::Forms::download))]
-fn download(pool: &mut Pool, file: &[u8]) -> Result<Act, Unread>
-    ensures value { Gives result (download file.now) }
+fn download(pool: &mut Pool, words: &[u8]) -> Result<Act, Unread>
+    ensures value { Gives result (download (words_of words.now)) }
     ensures meant { IfOk result IsMeant }
 {
+    let file = one_word(words)?;
     let name = read_escaped(pool, file)?;
     Ok(Act::Download { name })
 }
 
 /// `node x.. y.. T..`.
 #[tactic(auto, unfolding(crate::specs::Forms::add_node))]
-fn add_node(pool: &mut Pool, x: &[u8], y: &[u8], third: &[u8]) -> Result<Act, Unread>
-    ensures value { Gives result (add_node x.now y.now third.now) }
+fn add_node(pool: &mut Pool, words: &[u8]) -> Result<Act, Unread>
+    ensures value { Gives result (add_node (words_of words.now)) }
     ensures meant { IfOk result IsMeant }
 {
+    let (x, y, third) = three_words(words)?;
     let at = place_words(x, y)?;
     let tags = tags_word(pool, third)?;
     Ok(Act::Job(Job::AddNode { tags, at }))
@@ -154,10 +160,11 @@ fn add_node(pool: &mut Pool, x: &[u8], y: &[u8], third: &[u8]) -> Result<Act, Un
 
 /// `way T.. N..`.
 #[tactic(auto, unfolding(crate::specs::Forms::add_way))]
-fn add_way(pool: &mut Pool, first: &[u8], second: &[u8]) -> Result<Act, Unread>
-    ensures value { Gives result (add_way first.now second.now) }
+fn add_way(pool: &mut Pool, words: &[u8]) -> Result<Act, Unread>
+    ensures value { Gives result (add_way (words_of words.now)) }
     ensures meant { IfOk result IsMeant }
 {
+    let (first, second) = two_words(words)?;
     let tags = tags_word(pool, first)?;
     let refs = refs_word(pool, second)?;
     Ok(Act::Job(Job::AddWay { tags, refs }))
@@ -165,10 +172,11 @@ fn add_way(pool: &mut Pool, first: &[u8], second: &[u8]) -> Result<Act, Unread>
 
 /// `relation T.. M..`.
 #[tactic(auto, unfolding(crate::specs::Forms::add_relation))]
-fn add_relation(pool: &mut Pool, first: &[u8], second: &[u8]) -> Result<Act, Unread>
-    ensures value { Gives result (add_relation first.now second.now) }
+fn add_relation(pool: &mut Pool, words: &[u8]) -> Result<Act, Unread>
+    ensures value { Gives result (add_relation (words_of words.now)) }
     ensures meant { IfOk result IsMeant }
 {
+    let (first, second) = two_words(words)?;
     let tags = tags_word(pool, first)?;
     let members = members_word(pool, second)?;
     Ok(Act::Job(Job::AddRelation { tags, members }))
@@ -176,10 +184,11 @@ fn add_relation(pool: &mut Pool, first: &[u8], second: &[u8]) -> Result<Act, Unr
 
 /// `tag KEYS T..`.
 #[tactic(auto, unfolding(crate::specs::Forms::set_tags))]
-fn set_tags(pool: &mut Pool, first: &[u8], second: &[u8]) -> Result<Act, Unread>
-    ensures value { Gives result (set_tags first.now second.now) }
+fn set_tags(pool: &mut Pool, words: &[u8]) -> Result<Act, Unread>
+    ensures value { Gives result (set_tags (words_of words.now)) }
     ensures meant { IfOk result IsMeant }
 {
+    let (first, second) = two_words(words)?;
     let keys = keys_word(pool, first)?;
     let tags = tags_word(pool, second)?;
     Ok(Act::Job(Job::SetTags { keys, tags }))
@@ -187,10 +196,11 @@ fn set_tags(pool: &mut Pool, first: &[u8], second: &[u8]) -> Result<Act, Unread>
 
 /// `move KEYS DX DY`.
 #[tactic(auto, unfolding(crate::specs::Forms::shift))]
-fn shift(pool: &Pool, first: &[u8], second: &[u8], third: &[u8]) -> Result<Act, Unread>
-    ensures value { Gives result (shift first.now second.now third.now) }
+fn shift(pool: &Pool, words: &[u8]) -> Result<Act, Unread>
+    ensures value { Gives result (shift (words_of words.now)) }
     ensures meant { IfOk result IsMeant }
 {
+    let (first, second, third) = three_words(words)?;
     let keys = keys_word(pool, first)?;
     let dx = coord_word(second)?;
     let dy = coord_word(third)?;
@@ -199,10 +209,11 @@ fn shift(pool: &Pool, first: &[u8], second: &[u8], third: &[u8]) -> Result<Act, 
 
 /// `place KEY x.. y..`.
 #[tactic(auto, unfolding(crate::specs::Forms::place))]
-fn place(first: &[u8], x: &[u8], y: &[u8]) -> Result<Act, Unread>
-    ensures value { Gives result (place first.now x.now y.now) }
+fn place(words: &[u8]) -> Result<Act, Unread>
+    ensures value { Gives result (place (words_of words.now)) }
     ensures meant { IfOk result IsMeant }
 {
+    let (first, x, y) = three_words(words)?;
     let key = key_word(first)?;
     let at = place_words(x, y)?;
     Ok(Act::Job(Job::Place { key, at }))
@@ -210,10 +221,11 @@ fn place(first: &[u8], x: &[u8], y: &[u8]) -> Result<Act, Unread>
 
 /// `nodes KEY N..`.
 #[tactic(auto, unfolding(crate::specs::Forms::set_nodes))]
-fn set_nodes(pool: &mut Pool, first: &[u8], second: &[u8]) -> Result<Act, Unread>
-    ensures value { Gives result (set_nodes first.now second.now) }
+fn set_nodes(pool: &mut Pool, words: &[u8]) -> Result<Act, Unread>
+    ensures value { Gives result (set_nodes (words_of words.now)) }
     ensures meant { IfOk result IsMeant }
 {
+    let (first, second) = two_words(words)?;
     let key = key_word(first)?;
     let refs = refs_word(pool, second)?;
     Ok(Act::Job(Job::SetNodes { key, refs }))
@@ -221,10 +233,11 @@ fn set_nodes(pool: &mut Pool, first: &[u8], second: &[u8]) -> Result<Act, Unread
 
 /// `members KEY M..`.
 #[tactic(auto, unfolding(crate::specs::Forms::set_members))]
-fn set_members(pool: &mut Pool, first: &[u8], second: &[u8]) -> Result<Act, Unread>
-    ensures value { Gives result (set_members first.now second.now) }
+fn set_members(pool: &mut Pool, words: &[u8]) -> Result<Act, Unread>
+    ensures value { Gives result (set_members (words_of words.now)) }
     ensures meant { IfOk result IsMeant }
 {
+    let (first, second) = two_words(words)?;
     let key = key_word(first)?;
     let members = members_word(pool, second)?;
     Ok(Act::Job(Job::SetMembers { key, members }))
@@ -232,40 +245,44 @@ fn set_members(pool: &mut Pool, first: &[u8], second: &[u8]) -> Result<Act, Unre
 
 /// `delete KEYS`.
 #[tactic(auto, unfolding(crate::specs::Forms::delete))]
-fn delete(pool: &Pool, first: &[u8]) -> Result<Act, Unread>
-    ensures value { Gives result (delete first.now) }
+fn delete(pool: &Pool, words: &[u8]) -> Result<Act, Unread>
+    ensures value { Gives result (delete (words_of words.now)) }
     ensures meant { IfOk result IsMeant }
 {
+    let first = one_word(words)?;
     let keys = keys_word(pool, first)?;
     Ok(Act::Job(Job::Delete { keys }))
 }
 
 /// `erase KEYS`.
 #[tactic(auto, unfolding(crate::specs::Forms::erase))]
-fn erase(pool: &Pool, first: &[u8]) -> Result<Act, Unread>
-    ensures value { Gives result (erase first.now) }
+fn erase(pool: &Pool, words: &[u8]) -> Result<Act, Unread>
+    ensures value { Gives result (erase (words_of words.now)) }
     ensures meant { IfOk result IsMeant }
 {
+    let first = one_word(words)?;
     let keys = keys_word(pool, first)?;
     Ok(Act::Job(Job::Erase { keys }))
 }
 
 /// `purge KEYS`.
 #[tactic(auto, unfolding(crate::specs::Forms::purge))]
-fn purge(pool: &Pool, first: &[u8]) -> Result<Act, Unread>
-    ensures value { Gives result (purge first.now) }
+fn purge(pool: &Pool, words: &[u8]) -> Result<Act, Unread>
+    ensures value { Gives result (purge (words_of words.now)) }
     ensures meant { IfOk result IsMeant }
 {
+    let first = one_word(words)?;
     let keys = keys_word(pool, first)?;
     Ok(Act::Job(Job::Purge { keys }))
 }
 
 /// `split KEY KEYS`.
 #[tactic(auto, unfolding(crate::specs::Forms::split))]
-fn split(pool: &Pool, first: &[u8], second: &[u8]) -> Result<Act, Unread>
-    ensures value { Gives result (split first.now second.now) }
+fn split(pool: &Pool, words: &[u8]) -> Result<Act, Unread>
+    ensures value { Gives result (split (words_of words.now)) }
     ensures meant { IfOk result IsMeant }
 {
+    let (first, second) = two_words(words)?;
     let way = key_word(first)?;
     let nodes = keys_word(pool, second)?;
     Ok(Act::Job(Job::Split { way, nodes }))
@@ -273,10 +290,11 @@ fn split(pool: &Pool, first: &[u8], second: &[u8]) -> Result<Act, Unread>
 
 /// `combine KEYS`, at least two.
 #[tactic(auto, unfolding(crate::specs::Forms::combine))]
-fn combine(pool: &Pool, first: &[u8]) -> Result<Act, Unread>
-    ensures value { Gives result (combine first.now) }
+fn combine(pool: &Pool, words: &[u8]) -> Result<Act, Unread>
+    ensures value { Gives result (combine (words_of words.now)) }
     ensures meant { IfOk result IsMeant }
 {
+    let first = one_word(words)?;
     let ways = keys_word(pool, first)?;
     if ways.len() < 2 {
         return Err(Unread::Outside);
@@ -286,30 +304,33 @@ fn combine(pool: &Pool, first: &[u8]) -> Result<Act, Unread>
 
 /// `reverse KEY`.
 #[tactic(auto, unfolding(crate::specs::Forms::reverse))]
-fn reverse(first: &[u8]) -> Result<Act, Unread>
-    ensures value { Gives result (reverse first.now) }
+fn reverse(words: &[u8]) -> Result<Act, Unread>
+    ensures value { Gives result (reverse (words_of words.now)) }
     ensures meant { IfOk result IsMeant }
 {
+    let first = one_word(words)?;
     let way = key_word(first)?;
     Ok(Act::Job(Job::Reverse { way }))
 }
 
 /// `undo N`.
 #[tactic(auto, unfolding(crate::specs::Forms::undo))]
-fn undo(first: &[u8]) -> Result<Act, Unread>
-    ensures value { Gives result (undo first.now) }
+fn undo(words: &[u8]) -> Result<Act, Unread>
+    ensures value { Gives result (undo (words_of words.now)) }
     ensures meant { IfOk result IsMeant }
 {
+    let first = one_word(words)?;
     let n = count_word(first)?;
     Ok(Act::Undo { n })
 }
 
 /// `redo N`.
 #[tactic(auto, unfolding(crate::specs::Forms::redo))]
-fn redo(first: &[u8]) -> Result<Act, Unread>
-    ensures value { Gives result (redo first.now) }
+fn redo(words: &[u8]) -> Result<Act, Unread>
+    ensures value { Gives result (redo (words_of words.now)) }
     ensures meant { IfOk result IsMeant }
 {
+    let first = one_word(words)?;
     let n = count_word(first)?;
     Ok(Act::Redo { n })
 }

@@ -1,10 +1,10 @@
 //! The words of a line, and what each of them spells.
-ghost use Rattle.std.specs.Prelude.{◌≡◌, ◌∷◌, ◌<◌, ◌≤◌, [], MatchOption, IfOk};
+ghost use Rattle.std.specs.Prelude.{◌≡◌, ◌∷◌, ◌<◌, ◌≤◌, [], Some, MatchOption, MatchResult, IfOk};
 ghost use Rattle.opl_line.specs.Line.{is_blank};
 ghost use Rattle.osm_base.specs.Number.{key_text};
 ghost use Rattle.osm_base.specs.Coord.{coord_text};
-ghost use Rattle.edit_script.specs.Answers.{Gives};
-ghost use Rattle.edit_script.specs.Items.{words_of, without_blanks, has_location, keys_word, tags_word, refs_word, members_word, place_words, count_word};
+ghost use Rattle.edit_script.specs.Answers.{Gives, IsRefused};
+ghost use Rattle.edit_script.specs.Items.{words_of, one_word, two_words, three_words, without_blanks, has_location, keys_word, tags_word, refs_word, members_word, place_words, count_word};
 
 use crate::fault::Unread;
 use opl_line::{cut, is_blank, read_members, read_refs, read_tags};
@@ -24,6 +24,54 @@ pub fn next_word(bytes: &[u8]) -> Option<(&[u8], &[u8])>
     match after {
         None => Some((word, &[])),
         Some(behind) => Some((word, behind)),
+    }
+}
+
+/// The word, where there is one and no more.
+pub fn one_word(words: &[u8]) -> Result<&[u8], Unread>
+    ensures { MatchResult result (λ first. one_word (words_of words.now) ≡ Some first.now) (IsRefused (one_word (words_of words.now))) }
+{
+    let Some((first, rest)) = next_word(words) else {
+        return Err(Unread::Outside);
+    };
+    match next_word(rest) {
+        None => Ok(first),
+        Some(_) => Err(Unread::Outside),
+    }
+}
+
+/// The words, where there are two and no more.
+pub fn two_words(words: &[u8]) -> Result<(&[u8], &[u8]), Unread>
+    ensures { MatchResult result (λ two. two_words (words_of words.now) ≡ Some (two.0.now, two.1.now)) (IsRefused (two_words (words_of words.now))) }
+{
+    let Some((first, rest)) = next_word(words) else {
+        return Err(Unread::Outside);
+    };
+    let Some((second, rest)) = next_word(rest) else {
+        return Err(Unread::Outside);
+    };
+    match next_word(rest) {
+        None => Ok((first, second)),
+        Some(_) => Err(Unread::Outside),
+    }
+}
+
+/// The words, where there are three and no more.
+pub fn three_words(words: &[u8]) -> Result<(&[u8], &[u8], &[u8]), Unread>
+    ensures { MatchResult result (λ three. three_words (words_of words.now) ≡ Some (three.0.now, three.1.now, three.2.now)) (IsRefused (three_words (words_of words.now))) }
+{
+    let Some((first, rest)) = next_word(words) else {
+        return Err(Unread::Outside);
+    };
+    let Some((second, rest)) = next_word(rest) else {
+        return Err(Unread::Outside);
+    };
+    let Some((third, rest)) = next_word(rest) else {
+        return Err(Unread::Outside);
+    };
+    match next_word(rest) {
+        None => Ok((first, second, third)),
+        Some(_) => Err(Unread::Outside),
     }
 }
 

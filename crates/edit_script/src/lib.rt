@@ -6,8 +6,9 @@
 //! (`specs/Reply`). It stands on `opl_line` for tags, references and members, on `opl_file` for
 //! the cut into lines, and on `tool_api` for jobs and their refusals.
 //!
-//! A new line wants a definition in `specs/Forms` and a function of that name in `forms.rt`, both
-//! named by the group of lines with as many words, and an example in `proofs/Examples`.
+//! The first word of a line finds its form. A new line wants a definition in `specs/Forms` and a
+//! function of that name in `forms.rt`, which read the words behind the first one; its word in one of
+//! the lists of words there; and an example in `proofs/Examples`.
 #![tactic(auto)]
 
 mod fault;
