@@ -11,8 +11,7 @@ use crate::items::{
     refs_word, tags_word, three_words, two_words,
 };
 use crate::step::Act;
-use opl_text::read_escaped;
-use osm_base::Pool;
+use opl_text::{Pool, read_escaped};
 use tool_api::Job;
 
 /// What the words of a line ask for.

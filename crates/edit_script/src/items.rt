@@ -8,8 +8,9 @@ ghost use Rattle.edit_script.specs.Items.{words_of, one_word, two_words, three_w
 
 use crate::fault::Unread;
 use opl_line::{cut, is_blank, read_members, read_refs, read_tags};
+use opl_text::Pool;
 use osm_base::{
-    Coord, Key, Keys, Members, Pool, Refs, Tags, coord_of, read_coord, read_digits, read_key,
+    Coord, Key, Keys, Members, Refs, Tags, coord_of, read_coord, read_digits, read_key,
 };
 
 /// The first word of the bytes, and what stands behind it.

@@ -12,7 +12,7 @@ use crate::forms::act_of;
 use crate::step::Act;
 use opl_file::first_line;
 use opl_line::{freed, is_blank};
-use osm_base::Pool;
+use opl_text::Pool;
 
 /// A line of the grammar.
 #[derive(Drop)]

@@ -7,7 +7,7 @@ ghost use Rattle.edit_script.specs.Script.{steps_of};
 use crate::fault::{ScriptFault, Unread};
 use crate::line::{ScriptLine, line_of, next_line};
 use crate::step::Step;
-use osm_base::Pool;
+use opl_text::Pool;
 use std::alloc::Global;
 
 /// The steps of a script, in the order of their lines.

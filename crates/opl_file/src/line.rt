@@ -8,7 +8,7 @@ use crate::collected::Collected;
 use crate::{FileAnswer, FileFault};
 use memchr::memchr;
 use opl_line::{LineAnswer, LineKind, Mode, read_line};
-use osm_base::Pool;
+use opl_line::Pool;
 
 /// How many bytes a line may have without its LF.
 pub(crate) const LINE_LIMIT: usize = 16_777_216;

@@ -6,7 +6,7 @@ use crate::collected::Collected;
 use crate::line::{LINE_LIMIT, first_line, take_line, take_split_line};
 use crate::{FileAnswer, FileFault, Objects};
 use opl_line::Mode;
-use osm_base::Pool;
+use opl_line::Pool;
 use std::alloc::{AllocError, Global};
 
 /// What was read of a file's lines, up to the first bad one.

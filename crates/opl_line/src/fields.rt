@@ -13,8 +13,8 @@ use crate::lists::{members_allowed, read_members, read_refs, read_tags, refs_all
 use crate::mode::Mode;
 use crate::number::{number_to, read_place, read_visible};
 use crate::object::Fields;
-use opl_text::{TimeFault, read_time};
-use osm_base::{Kind, Pool};
+use opl_text::{Pool, TimeFault, read_time};
+use osm_base::Kind;
 
 #[tactic(auto, unfolding(crate::specs::Field::version_into))]
 fn version_into(fields: &mut Fields, text: &[u8]) -> Result<(), LineAnswer>

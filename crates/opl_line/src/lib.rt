@@ -28,6 +28,7 @@ pub use line::{freed, is_blank, read_line};
 pub use lists::{read_members, read_refs, read_tags};
 pub use mode::Mode;
 pub use object::{LineKind, OplObject};
+pub use opl_text::Pool;
 pub use pieces::cut;
 pub use writing::write_line;
 
@@ -38,7 +39,8 @@ mod tests {
     use crate::mode::Mode;
     use crate::object::LineKind;
     use crate::writing::write_line;
-    use osm_base::{Pool, write_digits};
+    use opl_text::Pool;
+    use osm_base::write_digits;
     use std::alloc::AllocError;
 
     const DOWNLOAD: Mode = Mode::Download;

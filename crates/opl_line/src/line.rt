@@ -14,8 +14,9 @@ use crate::fields::field_into;
 use crate::mode::{Mode, is_allowed};
 use crate::object::{Fields, LineKind, OplObject};
 use crate::pieces::cut;
+use opl_text::Pool;
 use osm_base::{
-    Content, Coord, Key, Kind, Members, Meta, Pool, Refs, Tags, Text, coord_of, kind_of, read_id,
+    Content, Coord, Key, Kind, Members, Meta, Refs, Tags, Text, coord_of, kind_of, read_id,
 };
 
 #[tactic(auto, unfolding(crate::specs::Line::id_at))]

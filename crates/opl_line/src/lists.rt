@@ -16,8 +16,8 @@ use crate::fault::{LineAnswer, LineFault};
 use crate::mode::{Mode, is_allowed};
 use crate::number::read_place;
 use crate::pieces::cut;
-use opl_text::read_escaped;
-use osm_base::{Key, Member, Members, Pool, Refs, Tags, Text, TextFault, kind_of, read_id};
+use opl_text::{Pool, read_escaped};
+use osm_base::{Key, Member, Members, Refs, Tags, Text, TextFault, kind_of, read_id};
 
 /// The text of a field.
 pub fn text_at(pool: &mut Pool, text: &[u8]) -> Result<Text, LineAnswer>

@@ -4,4 +4,5 @@ mod Bytes
 pub mod Read
 pub mod WrittenLaw
 pub mod TimeLaw
+mod NoBytes
 mod Examples

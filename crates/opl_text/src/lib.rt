@@ -4,7 +4,8 @@
 //! `read_escaped` and `read_time` give what the bytes of a field spell, and a fault exactly where
 //! they spell nothing. `write_escaped` and `write_time` append the one written form: it spells the
 //! same again, and no byte of it ends a field, an item, a key, a value or a member. The crate stands
-//! on `osm_base` for texts, their pool and stamps, and on `jiff` for the calendar.
+//! on `osm_base` for texts and stamps, and on `jiff` for the calendar. A `Pool` remembers what written forms
+//! spelled, so that a text that comes again is shared and isn't read again; no contract shows it.
 //!
 //! Advice for who changes it. The grammar of texts is the relation `Spells` of specs/Escape, over
 //! code points; the reader goes through the characters with one state, `Escape`, and its step
@@ -15,9 +16,11 @@
 #![tactic(auto)]
 
 mod escape;
+mod pool;
 mod text;
 mod time;
 mod written;
 
+pub use pool::Pool;
 pub use text::{read_as_spelled, read_escaped, write_escaped};
 pub use time::{TimeFault, read_time, write_time};

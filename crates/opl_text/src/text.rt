@@ -9,31 +9,43 @@ ghost use Rattle.opl_text.specs.Ends.{ends_nothing};
 ghost use Rattle.opl_text.specs.Text.{unescaped, escaped, GivesText, SpellsText, HasNoZero};
 
 use crate::escape::{is_raw, unescape};
+use crate::pool::Pool;
 use crate::written::{stays, write_characters};
-use osm_base::{Pool, Text, TextFault};
-use std::alloc::AllocError;
+use osm_base::{Text, TextFault};
+use std::alloc::{AllocError, Global};
 
 /// The text that the bytes of a field spell (OPL, exact grammar this project's own).
 ///
 /// The bytes are UTF-8. A character stands for itself, unless it is one up to U+0020, `%`, `,` or
 /// `=`; `%`, 1 to 6 hexadecimal digits of either case and `%` stand for the character with that
-/// code, other than U+0000. One pass over the bytes tests whether the field is its own text, which
-/// is then made by the pool with no copy before it. Else a second pass reads the characters into a
-/// string of the field's length, from which the pool makes the text.
+/// code, other than U+0000. One pass over the bytes finds the text in the pool, if it came before.
 ///
 /// # Errors
 /// `BadText` exactly where the bytes spell no text, `Memory` where no memory was left.
 pub fn read_escaped(pool: &mut Pool, field: &[u8]) -> Result<Text, TextFault>
     ensures { GivesText result (unescaped field.now) }
 {
+    if let Some(text) = pool.find(field)? {
+        return Ok(text);
+    }
+    let text = text_of(pool.allocator(), field)?;
+    pool.keep(field, &text)?;
+    Ok(text)
+}
+
+// The text that the bytes spell, made anew. A field that is its own text is copied at once; the characters of
+// another are read into a string of the field's length, from which the text is made.
+fn text_of(alloc: Global, field: &[u8]) -> Result<Text, TextFault>
+    ensures { GivesText result (unescaped field.now) }
+{
     if all_raw(field) {
-        return pool.text(field);
+        return Text::from_bytes(alloc, field);
     }
     let Ok(characters) = str::from_utf8(field) else {
         return Err(TextFault::BadText);
     };
-    match unescape(pool.allocator(), characters)? {
-        Some(text) => pool.text(text.as_bytes()),
+    match unescape(alloc, characters)? {
+        Some(text) => Text::from_bytes(alloc, text.as_bytes()),
         None => Err(TextFault::BadText),
     }
 }
@@ -97,6 +109,7 @@ mod tests {
         let mut pool = Pool::new(rt.alloc());
         for (field, text) in [
             ("", ""),
+            ("highway", "highway"),
             ("highway", "highway"),
             ("user@home", "user@home"),
             ("a%20%b", "a b"),

@@ -6,7 +6,7 @@
 //! of API 0.6, `Same` the equality of values. What is written of a key or a coordinate is read back.
 //!
 //! It stands on the standard library alone, and all other crates of the editor but `osm_outside` stand on it. What is
-//! shared inside a value, and that equal texts come to be one through a `Pool`, no contract shows.
+//! shared inside a value no contract shows.
 #![tactic(auto)]
 
 mod area;
@@ -20,7 +20,6 @@ mod members;
 mod meta;
 mod number;
 mod place;
-mod pool;
 mod references;
 mod refs;
 mod tags;
@@ -37,7 +36,6 @@ pub use members::{Member, Members};
 pub use meta::{Meta, Stamp};
 pub use number::{read_digits, write_digits};
 pub use place::{coord_of, shift};
-pub use pool::Pool;
 pub use references::{node_key, push_references};
 pub use refs::Refs;
 pub use tags::Tags;
