@@ -10,3 +10,5 @@ pub mod Kept
 pub mod Gone
 pub mod Changes
 mod Examples
+mod SoundExamples
+mod DiffExamples

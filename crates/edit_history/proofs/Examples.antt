@@ -4,7 +4,7 @@ use Rattle.osm_table.specs.Table.{TableValue}
 use Rattle.tool_api.specs.declared.refusal.Refusal.{Refusal}
 use Rattle.tool_api.specs.declared.reply.Reply.TheVariants as reply
 use Rattle.edit_history.specs.declared.counts.Group.TheVariants.{Outside, Refused}
-use Rattle.edit_history.specs.Machine.{State, fresh, ran, began, gave_up, ended, went_back, went_on}
+use Rattle.edit_history.specs.Machine.{State, fresh, ran, began, gave_up, ended, went_back, went_on, settled}
 
 -- a job that made the table
 abbrev done : TableValue → State → State
@@ -48,3 +48,7 @@ group_given_up a b c = refl
 -- a group without jobs is no step
 group_empty : (a b c : TableValue) → ended (began (outside (a ∷ []) b (c ∷ []))) ≡ outside (a ∷ []) b (c ∷ [])
 group_empty a b c = refl
+
+-- an accepted confirmation: nothing can be undone or done again
+for_good : (a b c d : TableValue) → settled d (outside (a ∷ []) b (c ∷ [])) ≡ outside [] d []
+for_good a b c d = refl

@@ -3,6 +3,8 @@ pub mod Bridge
 pub mod Distincts
 pub mod Ends
 pub mod Examples
+mod ConflictExamples
+mod PieceExamples
 pub mod Lasts
 pub mod Least
 pub mod Looks
