@@ -1,7 +1,7 @@
 -- Steps of the loops over pieces and members.
-use Rattle.std.proofs.Common.{◌≡◌, ℤ, ℕ, zero, suc, ◌+◌, ◌≤◌, Bool, true, false, cond, List, [], ◌∷◌, ◌++◌, length, map, reverse, drop, slice_get, Option, Some, None, refl, sym, ap, ◌∙◌, append_assoc, add-one, arith, Bor, ◌||◌, ◌-◌, pos}
-use Rattle.std.proofs.lemmas.List.{length-reverse, length-map}
-use Rattle.std.proofs.lemmas.Option.{slice_get_past, slice_get_read}
+use Rattle.std.proofs.Common.{◌≡◌, ℤ, ℕ, zero, suc, ◌+◌, ◌≤◌, Bool, true, false, cond, List, [], ◌∷◌, ◌++◌, length, map, reverse, drop, slice_get, Option, Some, None, refl, sym, ap, ◌∙◌, append_assoc, add-one, drop-cons, Bor, ◌||◌, ◌-◌, pos}
+use Rattle.std.proofs.lemmas.List.{append-nil, drop_all, length-reverse, length-map}
+use Rattle.std.proofs.lemmas.Option.{get_or_from_slice_get, slice_get_past, slice_get_read, slice_get_within}
 use Rattle.std.specs.Slice.{IsItemAt}
 use Rattle.std.specs.List.{find, last_or}
 use Rattle.std.specs.Option.{unwrap_or, option_map, option_map_or, option_or, option_copied}
@@ -15,18 +15,9 @@ use Rattle.relation_upkeep.specs.declared.replace.Piece.{Piece}
 use Rattle.relation_upkeep.specs.Replace.{piece_value, piece_values, turn_of, stood}
 use Rattle.tool_api.proofs.Lasts.{last_got}
 
-append_nil : {A : Type 0} (xs : List A) → xs ++ [] ≡ xs
-append_nil [] = refl
-append_nil {A = A} (x ∷ xs) = ap (λ (ys : List A). x ∷ ys) (append_nil xs)
-
 -- the next of a list
-next_at : {A : Type 0} (xs : List A) (i : ℕ) (x : A) → slice_get xs i ≡ Some x → drop i xs ≡ x ∷ drop (suc i) xs
-next_at {A = A} [] i x e = cc
-next_at {A = A} (y ∷ xs) zero x e = ap (λ (z : A). z ∷ xs) (ap (λ (o : Option A). unwrap_or o y) e)
-next_at {A = A} (y ∷ xs) (suc i) x e = next_at xs i x e
-
 next_item : {A : Type 0} (xs : List A) (i : ℕ) (x : A) → slice_get xs i ≡ Some x → drop i xs ≡ x ∷ drop (i + 1) xs
-next_item xs i x e = rw add-one (next_at xs i x e)
+next_item {A = A} xs i x e = rw add-one (drop-cons xs i x (slice_get_within xs i x e) ∙ ap (λ (y : A). y ∷ drop (suc i) xs) (get_or_from_slice_get xs i x x e))
 
 -- the ends of a way by its first and last reference
 pub ends_got : (ids : List ℤ) (a b : ℤ) → Some a ≡ slice_get ids 0 → Some b ≡ slice_get ids (length ids - 1) → a ∷ b ∷ [] ≡ ends (content.Way [] ids)
@@ -65,13 +56,6 @@ restricted_kept via ps o none e =
     ap (option_map piece_value) none ∙ found_value (λ (p : PieceValue). is_among via p.first || is_among via p.last) ps in
     ap (option_map piece_value) e ∙ found_value (λ (p : PieceValue). p.kept) ps ∙ ap (λ (o : Option PieceValue). option_or o (find (λ (p : PieceValue). p.kept) (piece_values ps))) f
 
--- none is left
-pub at_end : {A : Type 0} (xs : List A) (i : ℕ) → length xs ≤ i → drop i xs ≡ []
-at_end [] zero h = refl
-at_end [] (suc i) h = refl
-at_end (x ∷ xs) zero h = absurd (omega arith)
-at_end (x ∷ xs) (suc i) h = at_end xs i (omega arith)
-
 -- what stands next
 pub first_left : {A : Type 0} (xs : List A) (i : ℕ) → first_in (drop i xs) ≡ slice_get xs i
 first_left [] zero = refl
@@ -91,7 +75,7 @@ one_mapped {A = A} {B = B} f xs i x out new all at put before =
     ∙ sym (ap (λ (ys : List A). out ++ map f ys) (next_item xs i x at)) ∙ before
 
 pub all_mapped : {A B : Type 0} (f : A → B) (xs : List A) (i : ℕ) (out all : List B) → length xs ≤ i → out ++ map f (drop i xs) ≡ all → out ≡ all
-all_mapped {A = A} {B = B} f xs i out all h before = sym (append_nil out) ∙ sym (ap (λ (ys : List A). out ++ map f ys) (at_end xs i h)) ∙ before
+all_mapped {A = A} {B = B} f xs i out all h before = sym (append-nil out) ∙ sym (ap (λ (ys : List A). out ++ map f ys) (drop_all i xs h)) ∙ before
 
 -- the pieces in either order are as many
 length_cases : (b : Bool) (ps : List PieceValue) → length (reverse ps) ≡ length ps → length (in_order b ps) ≡ length ps
@@ -139,4 +123,4 @@ module _ (t : TableValue) (way : Key) (ps : List PieceValue) (v : Option (List �
       step before ms i m out new all at (put ∙ ap (λ b. out ++ cond b (stand_ins t way ps v before m (slice_get ms (i + 1))) (m ∷ [])) (sym other)) is
 
   pub all_steps : (before : Option Member) (ms : List Member) (i : ℕ) (out all : List Member) → length ms ≤ i → out ++ replaced_from t way ps v before (drop i ms) ≡ all → out ≡ all
-  all_steps before ms i out all h is = sym (append_nil out) ∙ sym (ap (λ (ys : List Member). out ++ replaced_from t way ps v before ys) (at_end ms i h)) ∙ is
+  all_steps before ms i out all h is = sym (append-nil out) ∙ sym (ap (λ (ys : List Member). out ++ replaced_from t way ps v before ys) (drop_all i ms h)) ∙ is

@@ -1,5 +1,6 @@
 -- Deleting what nothing else uses keeps a table sound.
 use Rattle.std.proofs.Common.{◌≡◌, ℕ, Bool, true, false, cond, not, List, [], Option, Some, None, refl, sym, ap, ◌∙◌, subst}
+use Rattle.std.proofs.lemmas.Bool.{not-false}
 use Rattle.std.specs.List.{find}
 use Rattle.std.specs.Option.{option_map_or, option_and_then}
 use Rattle.osm_base.specs.declared.key.Key.{Key}
@@ -7,6 +8,7 @@ use Rattle.osm_table.specs.declared.entry.Base.TheVariants.{New, Live, Gone}
 use Rattle.osm_table.specs.declared.entry.Entry.{Entry}
 use Rattle.osm_table.specs.declared.entry.Entry.TheVariants.{Incomplete, Known}
 use Rattle.osm_table.specs.Table.{TableValue, entry_of, uses, users, Each, IsThere}
+use Rattle.dataset.specs.Draft.{DraftValue, drafted}
 use Rattle.dataset.specs.Sound.{IsSound, IsSoundEntry, IsNumber, LivesIn}
 use Rattle.dataset.proofs.Changes.{deleted_entry}
 use Rattle.dataset.proofs.Listed.{user_uses}
@@ -15,8 +17,9 @@ use Rattle.tool_api.specs.declared.refusal.Refusal.TheVariants.{InUse}
 use Rattle.tool_api.specs.Tests.{is_named, first_of, list_tests, target_test, twice_test, use_test}
 use Rattle.tool_api.specs.Changes.{changed, delete, deleted}
 use Rattle.tool_api.specs.Gone.{delete_all}
-use Rattle.tool_api.specs.declared.reply.Reply.TheVariants.{Done}
-use Rattle.tool_api.specs.Plain.{answered}
+use Rattle.tool_api.specs.declared.plan.Plan.TheVariants.{Change}
+use Rattle.tool_api.specs.Planned.{Plans}
+use Rattle.tool_api.proofs.Bools.{by_bool}
 use Rattle.tool_api.proofs.Looks.{entry_changed}
 use Rattle.tool_api.proofs.Passed.{Lives, lives, named_lives, both_none, passes, none_passes, none_in}
 use Rattle.tool_api.proofs.Sounds.{each_changed, next_is}
@@ -49,14 +52,10 @@ left_from P e (Some x) has h = h x refl has
 pub is_user : (t : TableValue) (k r : Key) (e : Entry) → entry_of t k ≡ Some e → uses e r ≡ true → is_named (users t r) k ≡ true
 is_user t k r e has used = user_uses t r k ∙ ap (λ (o : Option Entry). option_map_or (λ e. uses e r) o false) has ∙ used
 
-not_false : (b : Bool) → not b ≡ false → b ≡ true
-not_false true e = refl
-not_false false e = cc
-
 -- where the test of uses passed, each user is named
 pub user_named : (t : TableValue) (named : List Key) (k r : Key) (e : Entry) → use_test t named r ≡ None → entry_of t k ≡ Some e → uses e r ≡ true → is_named named k ≡ true
 user_named t named k r e free has used =
-    not_false (is_named named k) (none_passes (λ u. not (is_named named u)) (users t r) k (none_in (find (λ u. not (is_named named u)) (users t r)) (λ by. InUse r by) free) (is_user t k r e has used))
+    not-false (is_named named k) (none_passes (λ u. not (is_named named u)) (users t r) k (none_in (find (λ u. not (is_named named u)) (users t r)) (λ by. InUse r by) free) (is_user t k r e has used))
 
 -- Changed tables.
 
@@ -70,10 +69,6 @@ pub unchanged_there : (b : Bool) (new old : Option Entry) → b ≡ false → Is
 unchanged_there true new old e h = cc
 unchanged_there false new old e h = h
 
-pub by_name : (P : Type 0) (b : Bool) → (b ≡ true → P) → (b ≡ false → P) → P
-by_name P true is isnt = is refl
-by_name P false is isnt = isnt refl
-
 pub never : {P : Type 0} (b : Bool) → b ≡ true → b ≡ false → P
 never true is isnt = cc
 never false is isnt = cc
@@ -85,7 +80,7 @@ closed_deleted t ks s free k e has r used =
     either _ (is_named ks k) (delete t k) (entry_of t k) e (sym (entry_changed t (delete t) ks k) ∙ has)
     (λ named left. left_from _ e (entry_of t k) left (λ x old is. never (uses e r) used (left_refers x e r is)))
     (λ unnamed old. subst IsThere (sym (entry_changed t (delete t) ks r)) (unchanged_there (is_named ks r) (delete t r) (entry_of t r)
-    (by_name _ (is_named ks r) (λ gone. never (is_named ks k) (user_named t ks k r e (passes (use_test t ks) ks r free gone) old used) unnamed) (λ stays. stays))
+    (by_bool (is_named ks r) _ (λ gone. never (is_named ks k) (user_named t ks k r e (passes (use_test t ks) ks r free gone) old used) unnamed) (λ stays. stays))
     (s.closed k e old r used)))
 
 pub delete_sound : (t : TableValue) (ks : List Key) → IsSound t → list_tests t Any ks ≡ None → first_of (use_test t ks) ks ≡ None → IsSound (changed t (delete t) ks)
@@ -99,6 +94,9 @@ delete_sound t ks s passed free =
       number = next_is IsNumber t (delete t) ks s.number;
     }
 
-pub delete_ends : (t u : TableValue) (ks made : List Key) → list_tests t Any ks ≡ None → first_of (use_test t ks) ks ≡ None → made ≡ [] → u ≡ changed t (delete t) ks
-    → answered t (delete_all t ks) ≡ record { reply = Done made; table = u }
-delete_ends t u ks made passed free nil is = rw (passed, free, nil, is) refl
+-- a draft that deletes what passed the tests is the job's plan
+pub delete_planned : (t : TableValue) (d : DraftValue) (ks named made : List Key) → IsSound t → list_tests t Any ks ≡ None → named ≡ ks → first_of (use_test t named) ks ≡ None → made ≡ []
+    → drafted d t ≡ changed t (delete t) ks → Plans t (delete_all t ks) (Change d made)
+delete_planned t d ks named made s passed set unused nil is =
+    let free : first_of (use_test t ks) ks ≡ None = ap (λ (ns : List Key). first_of (use_test t ns) ks) (sym set) ∙ unused in
+    (subst IsSound (sym is) (delete_sound t ks s passed free), rw (passed, free, nil, is) refl)

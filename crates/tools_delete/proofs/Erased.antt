@@ -1,5 +1,6 @@
 -- What an erased table has at a key, and that the draft makes just that table.
 use Rattle.std.proofs.Common.{◌≡◌, ◌&&◌, ◌||◌, Bool, true, false, cond, not, is_some, List, filter, Option, Some, None, refl, sym, ap, ◌∙◌}
+use Rattle.std.proofs.Math.Bool.{and_comm, and-true}
 use Rattle.std.specs.List.{list_all, list_any}
 use Rattle.std.specs.Option.{option_map, option_map_or, option_and_then}
 use Rattle.std.specs.FinMap as fin
@@ -17,8 +18,9 @@ use Rattle.tool_api.specs.Changes.{changed, content_of, delete, deleted, edit, w
 use Rattle.tool_api.specs.Basic.{with_members, with_refs}
 use Rattle.tool_api.specs.Gone.{erased, falls, goes, gone_keys, is_bare, is_left, is_mended, is_mended_content, is_relation, members_without, mended, mended_ways, relations_left}
 use Rattle.tool_api.proofs.Looks.{entry_changed, next_changed}
-use Rattle.tools_delete.specs.Touched.{falls_short, has_gone, is_left_by, lives_as_relation, lives_as_way, loses_members}
+use Rattle.tools_delete.specs.Touched.{erased_with, falls_short, has_gone, is_left_by, lives_as_relation, lives_as_way, loses_members}
 use Rattle.tools_delete.proofs.Anys.{whole}
+use Rattle.tools_delete.proofs.Deletes.{either, left_from}
 use Rattle.tool_api.proofs.Bools.{and_false, or_none}
 
 -- an entry that goes, is mended, or loses members
@@ -37,33 +39,18 @@ pub next_touched : (t : TableValue) (f g : Content → Content) (going mending l
 next_touched t f g going mending losing =
     next_changed (changed (changed t (delete t) going) (edit t f) mending) (edit t g) losing ∙ next_changed (changed t (delete t) going) (edit t f) mending ∙ next_changed t (delete t) going
 
--- a key that isn't there has nothing to change
-level : (p : Bool) (o new rest : Option Entry) → (o ≡ None → new ≡ None) → (o ≡ None → rest ≡ None) → cond (p && is_some o) new rest ≡ cond p new rest
-level false o new rest h k = refl
-level true None new rest h k = k refl ∙ sym (h refl)
-level true (Some e) new rest h k = refl
+-- what isn't there stays so
+none_either : (b : Bool) → ◌≡◌ {A = Option Entry} (cond b None None) None
+none_either true = refl
+none_either false = refl
 
-none_edited : (f : Content → Content) (o : Option Entry) → o ≡ None → option_map (with_mine f) o ≡ None
-none_edited f None e = refl
-none_edited f (Some x) e = cc
-
-none_deleted : (o : Option Entry) → o ≡ None → option_and_then deleted o ≡ None
-none_deleted None e = refl
-none_deleted (Some x) e = cc
-
-none_either : (b : Bool) (new rest : Option Entry) → new ≡ None → rest ≡ None → cond b new rest ≡ None
-none_either true new rest h k = h
-none_either false new rest h k = k
+none_touched : (going mending losing : Bool) (f g : Content → Content) → touched going mending losing f g None ≡ None
+none_touched going mending losing f g = (λ i. cond losing None (cond mending None (none_either going i))) ∙ (λ i. cond losing None (none_either mending i)) ∙ none_either losing
 
 only_there : (going mending losing : Bool) (f g : Content → Content) (o : Option Entry)
     → touched (going && is_some o) (mending && is_some o) (losing && is_some o) f g o ≡ touched going mending losing f g o
-only_there going mending losing f g o =
-    let first : cond (going && is_some o) (option_and_then deleted o) o ≡ cond going (option_and_then deleted o) o = level going o (option_and_then deleted o) o (none_deleted o) (λ e. e) in
-    let second : cond (mending && is_some o) (option_map (with_mine f) o) (cond going (option_and_then deleted o) o) ≡ cond mending (option_map (with_mine f) o) (cond going (option_and_then deleted o) o) =
-    level mending o (option_map (with_mine f) o) (cond going (option_and_then deleted o) o) (none_edited f o) (λ e. none_either going (option_and_then deleted o) o (none_deleted o e) e) in
-    let third : cond (losing && is_some o) (option_map (with_mine g) o) (cond mending (option_map (with_mine f) o) (cond going (option_and_then deleted o) o)) ≡ cond losing (option_map (with_mine g) o) (cond mending (option_map (with_mine f) o) (cond going (option_and_then deleted o) o)) =
-    level losing o (option_map (with_mine g) o) (cond mending (option_map (with_mine f) o) (cond going (option_and_then deleted o) o)) (none_edited g o) (λ e. none_either mending (option_map (with_mine f) o) (cond going (option_and_then deleted o) o) (none_edited f o e) (none_either going (option_and_then deleted o) o (none_deleted o e) e)) in
-    ap (cond (losing && is_some o) (option_map (with_mine g) o)) (ap (cond (mending && is_some o) (option_map (with_mine f) o)) first ∙ second) ∙ third
+only_there going mending losing f g None = none_touched (going && false) (mending && false) (losing && false) f g ∙ sym (none_touched going mending losing f g)
+only_there going mending losing f g (Some e) = λ i. touched (and-true going i) (and-true mending i) (and-true losing i) f g (Some e)
 
 -- a key that passes a test is among the table's keys that pass it, where it is there
 among : (t : TableValue) (p : Key → Bool) (q : Key) → is_named (filter p (keys_by_rank t)) q ≡ (p q && is_some (entry_of t q))
@@ -87,6 +74,29 @@ entry_erased t named q =
 
 pub next_erased : (t : TableValue) (named : List Key) → (erased t named).next ≡ t.next
 next_erased t named = next_touched t (with_refs (mended named)) (loss t named) (gone_keys t named) (mended_ways t named) (relations_left t named)
+
+-- what an erased entry comes from: one of a relation that stays, of a mended way, of an object that goes, or another
+pub data After (t : TableValue) (named : List Key) (k : Key) (e : Entry) : Type 0 where
+  related : (x : Entry) → entry_of t k ≡ Some x → with_mine (loss t named) x ≡ e → stays_related t named k ≡ true → After t named k e
+  remade : (x : Entry) → entry_of t k ≡ Some x → with_mine (with_refs (mended named)) x ≡ e → mends t named k ≡ true → After t named k e
+  left : (x : Entry) → entry_of t k ≡ Some x → deleted x ≡ Some e → goes t named k ≡ true → After t named k e
+  untouched : entry_of t k ≡ Some e → stays_related t named k ≡ false → mends t named k ≡ false → goes t named k ≡ false → After t named k e
+
+edited_from : (P : Type 0) (f : Content → Content) (e : Entry) (o : Option Entry) → option_map (with_mine f) o ≡ Some e → ((x : Entry) → o ≡ Some x → with_mine f x ≡ e → P) → P
+edited_from P f e None has h = cc
+edited_from P f e (Some x) has h = h x refl cc
+
+pub after : (t : TableValue) (named : List Key) (k : Key) (e : Entry) → entry_of (erased t named) k ≡ Some e → After t named k e
+after t named k e has =
+    let o = entry_of t k in
+    let f = with_refs (mended named) in
+    either _ (stays_related t named k) (option_map (with_mine (loss t named)) o) (cond (mends t named k) (option_map (with_mine f) o) (cond (goes t named k) (option_and_then deleted o) o)) e (sym (entry_erased t named k) ∙ has)
+    (λ is new. edited_from _ (loss t named) e o new (λ x old same. related x old same is))
+    (λ unrelated rest. either _ (mends t named k) (option_map (with_mine f) o) (cond (goes t named k) (option_and_then deleted o) o) e rest
+    (λ is new. edited_from _ f e o new (λ x old same. remade x old same is))
+    (λ unmended rest. either _ (goes t named k) (option_and_then deleted o) o e rest
+    (λ is new. left_from _ e o new (λ x old same. left x old same is))
+    (λ stays old. untouched old unrelated unmended stays)))
 
 -- The draft touches only relations that lose a member: the others stay as they are.
 
@@ -141,12 +151,6 @@ fewer t named going f q =
     (λ rel stays. or_none (falls t named q) (is_left t named q) stays (ap (λ b. b && list_any (λ u. falls t named u && lives_as_way t u) (users t q) && list_all (falls t named) (users t q)) (not_bare (entry_of t q) rel)))
     (has_relation going (content_of t q))
 
-and_turned : (a b : Bool) → (a && b) ≡ (b && a)
-and_turned true true = refl
-and_turned true false = refl
-and_turned false true = refl
-and_turned false false = refl
-
 -- The sets that the index gives make the erased table.
 pub erased_by : (t : TableValue) (named ways falling going relations staying : List Key)
     → ((q : Key) → is_named ways q ≡ is_mended t named q)
@@ -154,15 +158,15 @@ pub erased_by : (t : TableValue) (named ways falling going relations staying : L
     → ((q : Key) → is_named going q ≡ (is_named falling q || is_left_by t falling q))
     → ((q : Key) → is_named relations q ≡ loses_members t falling going q)
     → staying ≡ filter (λ w. not (is_named falling w)) ways
-    → changed (changed (changed t (delete t) going) (edit t (with_refs (mended named))) staying) (edit t (with_members (members_without (is_named going)))) relations ≡ erased t named
+    → erased_with t named going staying relations ≡ erased t named
 erased_by t named ways falling going relations staying mending fallen gone losing kept =
     let f = with_refs (mended named) in
     let g = with_members (members_without (is_named going)) in
-    let falls_at : (q : Key) → is_named falling q ≡ falls t named q = λ q. fallen q ∙ ap (λ b. is_named named q || b) (and_turned (falls_short t named q) (is_named ways q) ∙ ap (λ b. b && falls_short t named q) (mending q)) in
+    let falls_at : (q : Key) → is_named falling q ≡ falls t named q = λ q. fallen q ∙ ap (λ b. is_named named q || b) (and_comm (falls_short t named q) (is_named ways q) ∙ ap (λ b. b && falls_short t named q) (mending q)) in
     let goes_at : (q : Key) → is_named going q ≡ goes t named q =
     λ q. gone q ∙ (λ i. falls_at q i || (is_bare (entry_of t q) && list_any (λ u. falls_at u i && lives_as_way t u) (users t q) && list_all (λ u. falls_at u i) (users t q))) in
     let mends_at : (q : Key) → is_named staying q ≡ mends t named q =
-    λ q. ap (λ ks. is_named ks q) kept ∙ in_filter (λ w. not (is_named falling w)) q ways ∙ (λ i. not (falls_at q i) && mending q i) ∙ and_turned (not (falls t named q)) (is_mended t named q) in
+    λ q. ap (λ ks. is_named ks q) kept ∙ in_filter (λ w. not (is_named falling w)) q ways ∙ (λ i. not (falls_at q i) && mending q i) ∙ and_comm (not (falls t named q)) (is_mended t named q) in
     let loses_at : (q : Key) → is_named relations q ≡ (not (falls t named q) && option_map_or (has_gone going) (content_of t q) false) =
     λ q. losing q ∙ (λ i. not (falls_at q i) && option_map_or (has_gone going) (content_of t q) false) in
     same_table _ _

@@ -1,8 +1,10 @@
 -- Erasing keeps a table sound.
-use Rattle.std.proofs.Common.{◌≡◌, ◌&&◌, ◌||◌, ℕ, ℤ, Bool, true, false, cond, not, is_some, List, [], filter, map, Option, Some, None, refl, sym, ap, ◌∙◌, subst, int_eq}
+use Rattle.std.proofs.Common.{◌≡◌, ◌&&◌, ℕ, ℤ, Bool, true, false, not, is_some, List, [], filter, map, Option, Some, None, refl, sym, ap, ◌∙◌, subst, int_eq}
 use mathlib.Core.Logic.{◌⊎◌, inl, inr}
+use Rattle.std.proofs.Math.Bool.{and_comm}
+use Rattle.std.proofs.lemmas.Bool.{not-true, not_from_false}
 use Rattle.std.specs.List.{find, list_all, list_any}
-use Rattle.std.specs.Option.{option_map, option_map_or, option_and_then}
+use Rattle.std.specs.Option.{option_map_or, option_and_then}
 use Rattle.osm_base.specs.Rank.{is_key}
 use Rattle.osm_base.specs.Content.{node, kind_of_content}
 use Rattle.osm_base.specs.declared.key.Kind.{Kind}
@@ -22,19 +24,18 @@ use Rattle.dataset.proofs.Differs.{same_at_decides}
 use Rattle.tool_api.specs.declared.kinds.Kinds.TheVariants.{Any}
 use Rattle.tool_api.specs.declared.refusal.Refusal.TheVariants.{InConflict}
 use Rattle.tool_api.specs.Tests.{is_named, first_of, list_tests, target_test, twice_test}
-use Rattle.tool_api.specs.Changes.{content_of, deleted, with_mine}
+use Rattle.tool_api.specs.Changes.{content_of, with_mine}
 use Rattle.tool_api.specs.Basic.{with_members, with_refs}
 use Rattle.tool_api.specs.Closing.{closing, closing_tests, in_conflict, spoils}
 use Rattle.tool_api.specs.Gone.{erase, erased, falls, goes, is_bare, is_left, is_mended, is_mended_content, is_relation, is_short, members_without, mended}
-use Rattle.tool_api.specs.Plain.{answered}
 use Rattle.tool_api.proofs.Least.{disturbs_at, has_key}
 use Rattle.tool_api.proofs.Passed.{Lives, lives, named_lives, both_none, passed_tests, unspoiled, fits_or_stays, none_passes, none_in}
 use Rattle.tool_api.proofs.Sounds.{content_edited, edited_there}
 use Rattle.tools_delete.specs.Touched.{lives_as_relation, lives_as_way}
 use Rattle.tools_delete.proofs.Anys.{any_dedup, any_filter, any_gives, any_weaker, not_all}
-use Rattle.tools_delete.proofs.Deletes.{by_name, either, is_user, left_from, left_refers, left_sound, never}
-use Rattle.tools_delete.proofs.Erased.{entry_erased, loss, mends, next_erased, stays_related, touched}
-use Rattle.tool_api.proofs.Bools.{and_false, or_none, none_of_two, and_right, and_left}
+use Rattle.tools_delete.proofs.Deletes.{is_user, left_refers, left_sound, never}
+use Rattle.tools_delete.proofs.Erased.{After, related, remade, left, untouched, after, entry_erased, loss, mends, next_erased, stays_related, touched}
+use Rattle.tool_api.proofs.Bools.{and_false, or_none, none_of_two, and_right, and_left, by_bool, by_either}
 
 -- What the closing tests let pass.
 
@@ -55,45 +56,29 @@ undisturbed t u limit named k e passed unnamed has =
 
 -- References of what is left.
 
-not_false : (b : Bool) → not b ≡ true → b ≡ false
-not_false true e = cc
-not_false false e = refl
+-- what stays of a list was there, and isn't gone
+module _ {X : Type 0} (key : X → Key) (gone : Key → Bool) (r : Key) (xs : List X) where
+  left_among : list_any (λ x. is_key r (key x)) (filter (λ x. not (gone (key x))) xs) ≡ true → (gone r ≡ false) × (is_named (map key xs) r ≡ true)
+  left_among has =
+      let any : list_any (λ x. not (gone (key x)) && is_key r (key x)) xs ≡ true = sym (any_filter (λ x. not (gone (key x))) (λ x. is_key r (key x)) xs) ∙ has in (
+        any_gives (gone r ≡ false) (λ x. not (gone (key x)) && is_key r (key x)) xs any
+            (λ x e. ap gone (one_key r (key x) (and_right (not (gone (key x))) (is_key r (key x)) e)) ∙ not-true (gone (key x)) (and_left (not (gone (key x))) (is_key r (key x)) e)),
+        list_any_map (is_key r) key xs ∙ any_weaker (λ x. not (gone (key x)) && is_key r (key x)) (λ x. is_key r (key x)) xs (λ x e. and_right (not (gone (key x))) (is_key r (key x)) e) any,
+      )
 
--- members that stay were there, and don't go
-left_members : (gone : Key → Bool) (r : Key) (members : List Member) → is_named (map (λ (m : Member). m.key) (members_without gone members)) r ≡ true → list_any (λ (m : Member). not (gone m.key) && is_key r m.key) members ≡ true
-left_members gone r members has =
-    sym (any_filter (λ (m : Member). not (gone m.key)) (λ (m : Member). is_key r m.key) members) ∙ sym (list_any_map (is_key r) (λ (m : Member). m.key) (members_without gone members)) ∙ has
+members_left : (gone : Key → Bool) (r : Key) (members : List Member) → is_named (map (λ (m : Member). m.key) (members_without gone members)) r ≡ true
+    → (gone r ≡ false) × (is_named (map (λ (m : Member). m.key) members) r ≡ true)
+members_left gone r members has = left_among (λ (m : Member). m.key) gone r members (sym (list_any_map (is_key r) (λ (m : Member). m.key) (members_without gone members)) ∙ has)
 
-pub member_stays : (gone : Key → Bool) (r : Key) (members : List Member) → is_named (map (λ (m : Member). m.key) (members_without gone members)) r ≡ true → gone r ≡ false
-member_stays gone r members has =
-    any_gives (gone r ≡ false) (λ (m : Member). not (gone m.key) && is_key r m.key) members (left_members gone r members has)
-    (λ m e. ap gone (one_key r m.key (and_right (not (gone m.key)) (is_key r m.key) e)) ∙ not_false (gone m.key) (and_left (not (gone m.key)) (is_key r m.key) e))
-
-pub member_was : (gone : Key → Bool) (r : Key) (members : List Member) → is_named (map (λ (m : Member). m.key) (members_without gone members)) r ≡ true → is_named (map (λ (m : Member). m.key) members) r ≡ true
-member_was gone r members has =
-    list_any_map (is_key r) (λ (m : Member). m.key) members
-    ∙ any_weaker (λ (m : Member). not (gone m.key) && is_key r m.key) (λ (m : Member). is_key r m.key) members (λ m e. and_right (not (gone m.key)) (is_key r m.key) e) (left_members gone r members has)
-
--- references that stay were there, and aren't named
-left_ids : (named : List Key) (r : Key) (refs : List ℤ) → is_named (map node (mended named refs)) r ≡ true → list_any (λ n. not (is_named named (node n)) && is_key r (node n)) refs ≡ true
-left_ids named r refs has =
-    sym (any_filter (λ n. not (is_named named (node n))) (λ n. is_key r (node n)) refs)
-    ∙ any_dedup (λ n. is_key r (node n)) int_eq (filter (λ n. not (is_named named (node n))) refs) (sym (list_any_map (is_key r) node (mended named refs)) ∙ has)
-
-pub ref_stays : (named : List Key) (r : Key) (refs : List ℤ) → is_named (map node (mended named refs)) r ≡ true → is_named named r ≡ false
-ref_stays named r refs has =
-    any_gives (is_named named r ≡ false) (λ n. not (is_named named (node n)) && is_key r (node n)) refs (left_ids named r refs has)
-    (λ n e. ap (is_named named) (one_key r (node n) (and_right (not (is_named named (node n))) (is_key r (node n)) e)) ∙ not_false (is_named named (node n)) (and_left (not (is_named named (node n))) (is_key r (node n)) e))
-
-pub ref_was : (named : List Key) (r : Key) (refs : List ℤ) → is_named (map node (mended named refs)) r ≡ true → is_named (map node refs) r ≡ true
-ref_was named r refs has =
-    list_any_map (is_key r) node refs
-    ∙ any_weaker (λ n. not (is_named named (node n)) && is_key r (node n)) (λ n. is_key r (node n)) refs (λ n e. and_right (not (is_named named (node n))) (is_key r (node n)) e) (left_ids named r refs has)
+refs_left : (named : List Key) (r : Key) (refs : List ℤ) → is_named (map node (mended named refs)) r ≡ true → (is_named named r ≡ false) × (is_named (map node refs) r ≡ true)
+refs_left named r refs has =
+    left_among node (is_named named) r refs
+    (any_dedup (λ n. is_key r (node n)) int_eq (filter (λ n. not (is_named named (node n))) refs) (sym (list_any_map (is_key r) node (mended named refs)) ∙ has))
 
 -- a way that isn't mended has no named node
 unnamed_ref : (named : List Key) (r : Key) (refs : List ℤ) → list_any (λ n. is_named named (node n)) refs ≡ false → is_named (map node refs) r ≡ true → is_named named r ≡ false
 unnamed_ref named r refs none has =
-    by_name _ (is_named named r)
+    by_bool (is_named named r) _
     (λ is. never (list_any (λ n. is_named named (node n)) refs)
     (any_weaker (λ n. is_key r (node n)) (λ n. is_named named (node n)) refs (λ n e. ap (is_named named) (sym (one_key r (node n) e)) ∙ is) (sym (list_any_map (is_key r) node refs) ∙ has)) none)
     (λ isnt. isnt)
@@ -117,9 +102,9 @@ mine_kind n k (Some Incomplete) s = tt
 mine_kind n k (Some (Known base mine conflict)) s = (s (Known base mine conflict) refl).kinds.1
 
 -- a node that isn't named, of a way that doesn't fall, stays
-node_stays : (t : TableValue) (named : List Key) (k r : Key) (refs : List ℤ) → IsSound t → is_named (users t r) k ≡ true → falls t named k ≡ false → is_named (map node refs) r ≡ true → is_named named r ≡ false → goes t named r ≡ false
-node_stays t named k r refs s used stays has unnamed =
-    let unmended : is_mended t named r ≡ false = and_false (not (is_named named r)) _ (no_way named r.kind (content_of t r) (mine_kind t.next r (entry_of t r) (s.entries r)) (node_kind r refs has)) in
+node_stays : (t : TableValue) (named : List Key) (k r : Key) → IsSound t → is_named (users t r) k ≡ true → falls t named k ≡ false → r.kind ≡ kind.Node → is_named named r ≡ false → goes t named r ≡ false
+node_stays t named k r s used stays is unnamed =
+    let unmended : is_mended t named r ≡ false = and_false (not (is_named named r)) _ (no_way named r.kind (content_of t r) (mine_kind t.next r (entry_of t r) (s.entries r)) is) in
     let upright : falls t named r ≡ false = or_none (is_named named r) _ unnamed (ap (λ b. b && option_map_or (is_short named) (content_of t r) false) unmended) in
     or_none (falls t named r) (is_left t named r) upright
     (and_false (is_bare (entry_of t r) && list_any (λ u. falls t named u && lives_as_way t u) (users t r)) _ (not_all (falls t named) k (users t r) used stays))
@@ -138,87 +123,67 @@ stays_there t named r stays there =
 
 -- Who refers to what.
 
-edited_from : (P : Type 0) (f : Content → Content) (e : Entry) (o : Option Entry) → option_map (with_mine f) o ≡ Some e → ((x : Entry) → o ≡ Some x → with_mine f x ≡ e → P) → P
-edited_from P f e None has h = cc
-edited_from P f e (Some x) has h = h x refl cc
-
 loss_refers : (gone : Key → Bool) (x : Entry) (r : Key) → option_map_or is_relation (mine_of x) false ≡ true → uses (with_mine (with_members (members_without gone)) x) r ≡ true → (gone r ≡ false) × (uses x r ≡ true)
 loss_refers gone Incomplete r is used = cc
 loss_refers gone (Known base None conflict) r is used = cc
 loss_refers gone (Known base (Some (content.Node tags at)) conflict) r is used = cc
 loss_refers gone (Known base (Some (content.Way tags refs)) conflict) r is used = cc
-loss_refers gone (Known base (Some (content.Relation tags members)) conflict) r is used = (member_stays gone r members used, member_was gone r members used)
+loss_refers gone (Known base (Some (content.Relation tags members)) conflict) r is used = members_left gone r members used
 
-mend_refers : (P : Type 0) (named : List Key) (x : Entry) (r : Key) → option_map_or (is_mended_content named) (mine_of x) false ≡ true → uses (with_mine (with_refs (mended named)) x) r ≡ true
-    → ((refs : List ℤ) → is_named (map node refs) r ≡ true → is_named named r ≡ false → uses x r ≡ true → P) → P
-mend_refers P named Incomplete r is used h = cc
-mend_refers P named (Known base None conflict) r is used h = cc
-mend_refers P named (Known base (Some (content.Node tags at)) conflict) r is used h = cc
-mend_refers P named (Known base (Some (content.Way tags refs)) conflict) r is used h = h refs (ref_was named r refs used) (ref_stays named r refs used) (ref_was named r refs used)
-mend_refers P named (Known base (Some (content.Relation tags members)) conflict) r is used h = cc
+-- a reference of a way that stays: to a node that isn't named
+abbrev IsNodeLeft : List Key → Key → Type 0
+IsNodeLeft named r = (r.kind ≡ kind.Node) × (is_named named r ≡ false)
 
-entry_refers : (P : Type 0) (named : List Key) (x : Entry) (r : Key) → uses x r ≡ true
-    → ((refs : List ℤ) → is_named (map node refs) r ≡ true → option_map_or (is_mended_content named) (mine_of x) false ≡ list_any (λ n. is_named named (node n)) refs → P)
-    → (option_map_or is_relation (mine_of x) false ≡ true → P) → P
-entry_refers P named Incomplete r used way relation = cc
-entry_refers P named (Known base None conflict) r used way relation = cc
-entry_refers P named (Known base (Some (content.Node tags at)) conflict) r used way relation = cc
-entry_refers P named (Known base (Some (content.Way tags refs)) conflict) r used way relation = way refs used refl
-entry_refers P named (Known base (Some (content.Relation tags members)) conflict) r used way relation = relation refl
+mend_refers : (named : List Key) (x : Entry) (r : Key) → option_map_or (is_mended_content named) (mine_of x) false ≡ true → uses (with_mine (with_refs (mended named)) x) r ≡ true → IsNodeLeft named r × (uses x r ≡ true)
+mend_refers named Incomplete r is used = cc
+mend_refers named (Known base None conflict) r is used = cc
+mend_refers named (Known base (Some (content.Node tags at)) conflict) r is used = cc
+mend_refers named (Known base (Some (content.Way tags refs)) conflict) r is used = let p = refs_left named r refs used in ((node_kind r refs p.1, p.0), p.1)
+mend_refers named (Known base (Some (content.Relation tags members)) conflict) r is used = cc
 
--- a way that is neither named nor mended
-unmended : (named falls m : Bool) → ((not named && m) && not falls) ≡ false → named ≡ false → falls ≡ false → m ≡ false
-unmended true falls m e n f = cc
-unmended false true m e n f = cc
-unmended false false true e n f = e
-unmended false false false e n f = refl
+kept_refers : (named : List Key) (x : Entry) (r : Key) → option_map_or is_relation (mine_of x) false ≡ false → option_map_or (is_mended_content named) (mine_of x) false ≡ false → uses x r ≡ true → IsNodeLeft named r
+kept_refers named Incomplete r unrelated unmended used = cc
+kept_refers named (Known base None conflict) r unrelated unmended used = cc
+kept_refers named (Known base (Some (content.Node tags at)) conflict) r unrelated unmended used = cc
+kept_refers named (Known base (Some (content.Way tags refs)) conflict) r unrelated unmended used = (node_kind r refs used, unnamed_ref named r refs unmended used)
+kept_refers named (Known base (Some (content.Relation tags members)) conflict) r unrelated unmended used = cc
 
-unrelated : (falls rel : Bool) → (not falls && rel) ≡ false → falls ≡ false → rel ≡ true → ⊥
-unrelated true rel e f r = let x : true ≡ false = f in cc
-unrelated false rel e f r = let x : true ≡ false = sym r ∙ e in cc
+-- what a content passes, by the entry that is there
+of_content : (t : TableValue) (k : Key) (x : Entry) (test : Content → Bool) → entry_of t k ≡ Some x → option_map_or test (mine_of x) false ≡ option_map_or test (content_of t k) false
+of_content t k x test old = ap (λ (o : Option Entry). option_map_or test (option_and_then mine_of o) false) (sym old)
+
+right_false : (a b : Bool) → (a && b) ≡ false → a ≡ true → b ≡ false
+right_false a b e h = ap (λ c. c && b) (sym h) ∙ e
 
 module _ (t : TableValue) (named : List Key) (s : IsSound t) (k r : Key) where
-  -- a relation that stays
-  related_there : (e : Entry) → stays_related t named k ≡ true → option_map (with_mine (loss t named)) (entry_of t k) ≡ Some e → uses e r ≡ true → IsThere (entry_of (erased t named) r)
-  related_there e is new used =
-      edited_from _ (loss t named) e (entry_of t k) new (λ x old same.
-      let rel : option_map_or is_relation (mine_of x) false ≡ true = ap (λ (o : Option Entry). option_map_or is_relation (option_and_then mine_of o) false) (sym old) ∙ and_right (not (falls t named k)) (lives_as_relation t k) is in
-      let p = loss_refers (goes t named) x r rel (ap (λ y. uses y r) same ∙ used) in
-      stays_there t named r p.0 (s.closed k x old r p.1))
+  -- what an entry refers to is there if it stays
+  refers_there : (x : Entry) → entry_of t k ≡ Some x → uses x r ≡ true → goes t named r ≡ false → IsThere (entry_of (erased t named) r)
+  refers_there x old used stays = stays_there t named r stays (s.closed k x old r used)
 
-  -- a mended way
-  mended_there : (e : Entry) → mends t named k ≡ true → option_map (with_mine (with_refs (mended named))) (entry_of t k) ≡ Some e → uses e r ≡ true → IsThere (entry_of (erased t named) r)
-  mended_there e is new used =
-      edited_from _ (with_refs (mended named)) e (entry_of t k) new (λ x old same.
-      let way : option_map_or (is_mended_content named) (mine_of x) false ≡ true = ap (λ (o : Option Entry). option_map_or (is_mended_content named) (option_and_then mine_of o) false) (sym old) ∙ and_right (not (is_named named k)) _ (and_left (is_mended t named k) (not (falls t named k)) is) in
-      mend_refers _ named x r way (ap (λ y. uses y r) same ∙ used) (λ refs has unnamed was.
-      stays_there t named r
-      (node_stays t named k r refs s (is_user t k r x old was) (not_false (falls t named k) (and_right (is_mended t named k) (not (falls t named k)) is)) has unnamed)
-      (s.closed k x old r was)))
+  way_there : (x : Entry) → entry_of t k ≡ Some x → uses x r ≡ true → falls t named k ≡ false → IsNodeLeft named r → IsThere (entry_of (erased t named) r)
+  way_there x old used upright node = refers_there x old used (node_stays t named k r s (is_user t k r x old used) upright node.0 node.1)
 
-  -- anything else that stays
-  other_there : (e : Entry) → stays_related t named k ≡ false → mends t named k ≡ false → goes t named k ≡ false → entry_of t k ≡ Some e → uses e r ≡ true → IsThere (entry_of (erased t named) r)
-  other_there e unrelated_k unmended_k stays old used =
+  after_there : (e : Entry) → After t named k e → uses e r ≡ true → IsThere (entry_of (erased t named) r)
+  after_there e (related x old same is) used =
+      let p = loss_refers (goes t named) x r (of_content t k x is_relation old ∙ and_right (not (falls t named k)) (lives_as_relation t k) is) (ap (λ y. uses y r) same ∙ used) in
+      refers_there x old p.1 p.0
+  after_there e (remade x old same is) used =
+      let way = of_content t k x (is_mended_content named) old ∙ and_right (not (is_named named k)) _ (and_left (is_mended t named k) (not (falls t named k)) is) in
+      let p = mend_refers named x r way (ap (λ y. uses y r) same ∙ used) in
+      way_there x old p.1 (not-true (falls t named k) (and_right (is_mended t named k) (not (falls t named k)) is)) p.0
+  after_there e (left x old same gone) used = never (uses e r) used (left_refers x e r same)
+  after_there e (untouched old unrelated unmended stays) used =
       let upright : falls t named k ≡ false = (none_of_two (falls t named k) (is_left t named k) stays).0 in
       let unnamed : is_named named k ≡ false = (none_of_two (is_named named k) _ upright).0 in
-      entry_refers _ named e r used
-      (λ refs has way.
-      let none : list_any (λ n. is_named named (node n)) refs ≡ false =
-      sym way ∙ ap (λ (o : Option Entry). option_map_or (is_mended_content named) (option_and_then mine_of o) false) (sym old) ∙ unmended (is_named named k) (falls t named k) _ unmended_k unnamed upright in
-      stays_there t named r (node_stays t named k r refs s (is_user t k r e old used) upright has (unnamed_ref named r refs none has)) (s.closed k e old r used))
-      (λ rel. absurd (unrelated (falls t named k) (lives_as_relation t k) unrelated_k upright (ap (λ (o : Option Entry). option_map_or is_relation (option_and_then mine_of o) false) old ∙ rel)))
+      let up = not_from_false (falls t named k) upright in
+      way_there e old used upright
+      (kept_refers named e r (of_content t k e is_relation old ∙ right_false (not (falls t named k)) (lives_as_relation t k) unrelated up)
+      (of_content t k e (is_mended_content named) old
+      ∙ right_false (not (is_named named k)) _ (right_false (not (falls t named k)) (is_mended t named k) (and_comm (not (falls t named k)) (is_mended t named k) ∙ unmended) up) (not_from_false (is_named named k) unnamed))
+      used)
 
 closed_erased : (t : TableValue) (named : List Key) → IsSound t → Each (erased t named) (λ k e. LivesIn (erased t named) e)
-closed_erased t named s k e has r used =
-    let o = entry_of t k in
-    let f = with_refs (mended named) in
-    either _ (stays_related t named k) (option_map (with_mine (loss t named)) o) (cond (mends t named k) (option_map (with_mine f) o) (cond (goes t named k) (option_and_then deleted o) o)) e (sym (entry_erased t named k) ∙ has)
-    (λ is new. related_there t named s k r e is new used)
-    (λ unrelated_k rest. either _ (mends t named k) (option_map (with_mine f) o) (cond (goes t named k) (option_and_then deleted o) o) e rest
-    (λ is new. mended_there t named s k r e is new used)
-    (λ unmended_k rest. either _ (goes t named k) (option_and_then deleted o) o e rest
-    (λ gone left. left_from _ e o left (λ x old is. never (uses e r) used (left_refers x e r is)))
-    (λ stays old. other_there t named s k r e unrelated_k unmended_k stays old used)))
+closed_erased t named s k e has r used = after_there t named s k r e (after t named k e has) used
 
 -- Entries by themselves.
 
@@ -254,62 +219,54 @@ some_bare (Some Incomplete) e = cc
 some_bare (Some (Known base None conflict)) e = cc
 some_bare (Some (Known base (Some c) conflict)) e = refl
 
-going_case : (named mend short bare way left : Bool) (P : Type 0) → ((named || (mend && short)) || ((bare && way) && left)) ≡ true → named ≡ false → (mend ≡ true → P) → (bare ≡ true → P) → P
-going_case true mend short bare way left P e unnamed m b = cc
-going_case false true short bare way left P e unnamed m b = m refl
-going_case false false short true way left P e unnamed m b = b refl
-going_case false false short false way left P e unnamed m b = cc
-
 -- what goes without being named has a content
 some_going : (t : TableValue) (named : List Key) (k : Key) → goes t named k ≡ true → is_named named k ≡ false → is_some (content_of t k) ≡ true
 some_going t named k gone unnamed =
-    going_case (is_named named k) (is_mended t named k) (option_map_or (is_short named) (content_of t k) false) (is_bare (entry_of t k)) (list_any (λ u. falls t named u && lives_as_way t u) (users t k)) (list_all (falls t named) (users t k)) _ gone unnamed
-    (λ mend. some_mended named (content_of t k) (and_right (not (is_named named k)) _ mend))
-    (some_bare (entry_of t k))
+    by_either _ (falls t named k) (is_left t named k) gone
+    (λ fallen. by_either _ (is_named named k) _ fallen (λ is. never (is_named named k) is unnamed)
+    (λ short. some_mended named (content_of t k) (and_right (not (is_named named k)) _ (and_left (is_mended t named k) _ short))))
+    (λ bare. some_bare (entry_of t k) (and_left (is_bare (entry_of t k)) _ (and_left _ (list_all (falls t named) (users t k)) bare)))
 
-module _ (t : TableValue) (named : List Key) (limit : ℕ) (s : IsSound t) (passed : closing_tests t limit named (erased t named) ≡ None) (k : Key) (e : Entry) (has : entry_of (erased t named) k ≡ Some e) where
-  -- an entry that is edited and isn't named
-  edit_sound : (f : Content → Content) → ((c : Content) → kind_of_content (f c) ≡ kind_of_content c) → is_named named k ≡ false → option_map (with_mine f) (entry_of t k) ≡ Some e → IsSoundEntry t.next k e
-  edit_sound f kind unnamed new =
-      edited_from _ f e (entry_of t k) new (λ x old same.
+-- what doesn't fall isn't named
+unnamed_at : (t : TableValue) (named : List Key) (k : Key) → not (falls t named k) ≡ true → is_named named k ≡ false
+unnamed_at t named k upright = (none_of_two (is_named named k) _ (not-true (falls t named k) upright)).0
+
+module _ (t : TableValue) (named : List Key) (limit : ℕ) (s : IsSound t) (listed : list_tests t Any named ≡ None) (passed : closing_tests t limit named (erased t named) ≡ None) (k : Key) (e : Entry) (has : entry_of (erased t named) k ≡ Some e) where
+  -- an entry that isn't named stays as it is, or had no conflict
+  by_calm : (x : Entry) → entry_of t k ≡ Some x → is_named named k ≡ false → (in_conflict (Some x) ≡ false → IsSoundEntry t.next k e) → IsSoundEntry t.next k e
+  by_calm x old unnamed sound =
       elim (undisturbed t (erased t named) limit named k x passed unnamed old) [
-        | inl calm ↦ subst (IsSoundEntry t.next k) same (edited_sound t.next f k x kind (ap in_conflict (sym old) ∙ calm)
-            ((let a = sym old in let b = sym (has ∙ ap Some (sym same)) in λ i. spoils (option_and_then mine_of (a i)) (option_and_then mine_of (b i))) ∙ unspoiled t (erased t named) limit named k e passed has)
-            (s.entries k x old))
+        | inl calm ↦ sound (ap in_conflict (sym old) ∙ calm)
         | inr stays ↦ s.entries k e (stays ∙ has)
-      ])
+      ]
 
-  going_sound : list_tests t Any named ≡ None → goes t named k ≡ true → option_and_then deleted (entry_of t k) ≡ Some e → IsSoundEntry t.next k e
-  going_sound listed gone left =
-      left_from _ e (entry_of t k) left (λ x old is.
-      by_name _ (is_named named k)
-      (λ named_k. left_sound t.next k x e (named_lives t Any named k x (both_none (twice_test [] named) (first_of (target_test t Any) named) listed).1 named_k old) is (s.entries k x old))
-      (λ unnamed. elim (undisturbed t (erased t named) limit named k x passed unnamed old) [
-        | inl calm ↦ left_sound t.next k x e (lives_of x (ap in_conflict (sym old) ∙ calm) (ap (λ (o : Option Entry). is_some (option_and_then mine_of o)) (sym old) ∙ some_going t named k gone unnamed)) is (s.entries k x old)
-        | inr stays ↦ s.entries k e (stays ∙ has)
-      ]))
+  edit_sound : (f : Content → Content) → ((c : Content) → kind_of_content (f c) ≡ kind_of_content c) → (x : Entry) → entry_of t k ≡ Some x → with_mine f x ≡ e → is_named named k ≡ false → IsSoundEntry t.next k e
+  edit_sound f kind x old same unnamed =
+      by_calm x old unnamed (λ calm. subst (IsSoundEntry t.next k) same (edited_sound t.next f k x kind calm
+      ((let a = sym old in let b = sym (has ∙ ap Some (sym same)) in λ i. spoils (option_and_then mine_of (a i)) (option_and_then mine_of (b i))) ∙ unspoiled t (erased t named) limit named k e passed has)
+      (s.entries k x old)))
+
+  after_sound : After t named k e → IsSoundEntry t.next k e
+  after_sound (related x old same is) = edit_sound (loss t named) (members_kind (members_without (goes t named))) x old same (unnamed_at t named k (and_left (not (falls t named k)) (lives_as_relation t k) is))
+  after_sound (remade x old same is) = edit_sound (with_refs (mended named)) (refs_kind (mended named)) x old same (unnamed_at t named k (and_right (is_mended t named k) (not (falls t named k)) is))
+  after_sound (left x old same gone) =
+      by_bool (is_named named k) _
+      (λ is. left_sound t.next k x e (named_lives t Any named k x (both_none (twice_test [] named) (first_of (target_test t Any) named) listed).1 is old) same (s.entries k x old))
+      (λ unnamed. by_calm x old unnamed
+      (λ calm. left_sound t.next k x e (lives_of x calm (ap (λ (o : Option Entry). is_some (option_and_then mine_of o)) (sym old) ∙ some_going t named k gone unnamed)) same (s.entries k x old)))
+  after_sound (untouched old unrelated unmended stays) = s.entries k e old
 
 entries_erased : (t : TableValue) (named : List Key) (limit : ℕ) → IsSound t → list_tests t Any named ≡ None → closing_tests t limit named (erased t named) ≡ None → Each (erased t named) (IsSoundEntry t.next)
-entries_erased t named limit s listed passed k e has =
-    let o = entry_of t k in
-    let f = with_refs (mended named) in
-    let free = λ (upright : falls t named k ≡ false). (none_of_two (is_named named k) (is_mended t named k && option_map_or (is_short named) (content_of t k) false) upright).0 in
-    either _ (stays_related t named k) (option_map (with_mine (loss t named)) o) (cond (mends t named k) (option_map (with_mine f) o) (cond (goes t named k) (option_and_then deleted o) o)) e (sym (entry_erased t named k) ∙ has)
-    (λ is new. edit_sound t named limit s passed k e has (loss t named) (members_kind (members_without (goes t named))) (free (not_false (falls t named k) (and_left (not (falls t named k)) (lives_as_relation t k) is))) new)
-    (λ unrelated_k rest. either _ (mends t named k) (option_map (with_mine f) o) (cond (goes t named k) (option_and_then deleted o) o) e rest
-    (λ is new. edit_sound t named limit s passed k e has f (refs_kind (mended named)) (free (not_false (falls t named k) (and_right (is_mended t named k) (not (falls t named k)) is))) new)
-    (λ unmended_k rest. either _ (goes t named k) (option_and_then deleted o) o e rest
-    (λ gone left. going_sound t named limit s passed k e has listed gone left)
-    (λ stays old. s.entries k e old)))
+entries_erased t named limit s listed passed k e has = after_sound t named limit s listed passed k e has (after t named k e has)
 
 -- Erasing keeps a table sound where the named objects pass the list tests and the new table the closing tests.
-pub erase_sound : (t : TableValue) (named : List Key) (limit : ℕ) → IsSound t → list_tests t Any named ≡ None → closing_tests t limit named (erased t named) ≡ None → IsSound (erased t named)
-erase_sound t named limit s listed passed = record {
-  entries = subst (λ n. Each (erased t named) (IsSoundEntry n)) (sym (next_erased t named)) (entries_erased t named limit s listed passed);
-  closed = closed_erased t named s;
-  number = subst IsNumber (sym (next_erased t named)) s.number;
-}
+pub erase_sound : (t u : TableValue) (named : List Key) (limit : ℕ) → IsSound t → list_tests t Any named ≡ None → u ≡ erased t named → closing_tests t limit named u ≡ None → IsSound u
+erase_sound t u named limit s listed is passed =
+    subst IsSound (sym is) (record {
+      entries = subst (λ n. Each (erased t named) (IsSoundEntry n)) (sym (next_erased t named)) (entries_erased t named limit s listed (ap (closing_tests t limit named) (sym is) ∙ passed));
+      closed = closed_erased t named s;
+      number = subst IsNumber (sym (next_erased t named)) s.number;
+    })
 
-pub erase_ends : (t u : TableValue) (ks made : List Key) (limit : ℕ) → list_tests t Any ks ≡ None → made ≡ [] → u ≡ erased t ks
-    → answered t (closing t limit ks (record { keys = made; table = u })) ≡ answered t (erase t limit ks)
+pub erase_ends : (t u : TableValue) (ks made : List Key) (limit : ℕ) → list_tests t Any ks ≡ None → made ≡ [] → u ≡ erased t ks → closing t limit ks (record { keys = made; table = u }) ≡ erase t limit ks
 erase_ends t u ks made limit passed nil is = rw (nil, is, passed) refl

@@ -1,19 +1,21 @@
 -- Purging keeps a table sound.
 use Rattle.std.proofs.Common.{◌≡◌, ℕ, Bool, true, false, cond, not, List, [], Option, Some, None, refl, sym, ap, ◌∙◌, subst}
+use Rattle.std.proofs.lemmas.Bool.{not_from_false}
 use Rattle.std.specs.List.{find}
 use Rattle.osm_base.specs.declared.key.Key.{Key}
 use Rattle.osm_table.specs.declared.entry.Base.TheVariants.{New, Live, Gone}
 use Rattle.osm_table.specs.declared.entry.Entry.{Entry}
 use Rattle.osm_table.specs.declared.entry.Entry.TheVariants.{Incomplete, Known}
 use Rattle.osm_table.specs.Table.{TableValue, entry_of, uses, users, Each, IsThere, IsPositive}
+use Rattle.dataset.specs.Draft.{DraftValue, drafted}
 use Rattle.dataset.specs.Sound.{IsSound, IsSoundEntry, IsNumber, LivesIn, IdFits}
 use Rattle.dataset.proofs.Changes.{incomplete_entry}
 use Rattle.tool_api.specs.declared.refusal.Refusal.TheVariants.{InUse}
-use Rattle.tool_api.specs.declared.reply.Reply.TheVariants.{Done}
+use Rattle.tool_api.specs.declared.plan.Plan.TheVariants.{Change}
 use Rattle.tool_api.specs.Tests.{is_named, first_of, twice_test, use_test, purge_entry_test, is_new}
 use Rattle.tool_api.specs.Changes.{changed}
 use Rattle.tool_api.specs.Gone.{is_used, purge}
-use Rattle.tool_api.specs.Plain.{answered}
+use Rattle.tool_api.specs.Planned.{Plans}
 use Rattle.tool_api.proofs.Looks.{entry_changed}
 use Rattle.tool_api.proofs.Passed.{passes, none_in}
 use Rattle.tool_api.proofs.Sounds.{each_changed, next_is}
@@ -50,16 +52,12 @@ purged_there : (named used : Bool) (old : Option Entry) → (named ≡ true → 
 purged_there true used old h there = stays_there used (h refl)
 purged_there false used old h there = there
 
-not_true : (b : Bool) → b ≡ false → not b ≡ true
-not_true true e = cc
-not_true false e = refl
-
 closed_purged : (t : TableValue) (ks : List Key) → IsSound t → Each (changed t (purged t ks) ks) (λ k e. LivesIn (changed t (purged t ks) ks) e)
 closed_purged t ks s k e has r used =
     either _ (is_named ks k) (purged t ks k) (entry_of t k) e (sym (entry_changed t (purged t ks) ks k) ∙ has)
     (λ named left. used_case _ (is_used t ks k) e left (λ now is. never (uses e r) used (ap (λ x. uses x r) (sym is))))
     (λ unnamed old. subst IsThere (sym (entry_changed t (purged t ks) ks r)) (purged_there (is_named ks r) (is_used t ks r) (entry_of t r)
-    (λ named. any_passes (λ u. not (is_named ks u)) k (users t r) (is_user t k r e old used) (not_true (is_named ks k) unnamed))
+    (λ named. any_passes (λ u. not (is_named ks u)) k (users t r) (is_user t k r e old used) (not_from_false (is_named ks k) unnamed))
     (s.closed k e old r used)))
 
 pub purge_sound : (t : TableValue) (ks : List Key) → IsSound t → first_of (λ k. purge_entry_test k (entry_of t k)) ks ≡ None → first_of (new_use_test t ks) ks ≡ None → IsSound (changed t (purged t ks) ks)
@@ -74,6 +72,10 @@ purge_sound t ks s passed free = record {
   number = next_is IsNumber t (purged t ks) ks s.number;
 }
 
-pub purge_ends : (t u : TableValue) (ks made : List Key) → twice_test [] ks ≡ None → first_of (λ k. purge_entry_test k (entry_of t k)) ks ≡ None → first_of (new_use_test t ks) ks ≡ None → made ≡ [] → u ≡ changed t (purged t ks) ks
-    → answered t (purge t ks) ≡ record { reply = Done made; table = u }
-purge_ends t u ks made once passed free nil is = rw (once, passed, free, nil, is) refl
+-- a draft that purges what passed the tests is the job's plan
+pub purge_planned : (t : TableValue) (d : DraftValue) (ks named made : List Key) → IsSound t → twice_test [] ks ≡ None → first_of (λ k. purge_entry_test k (entry_of t k)) ks ≡ None → named ≡ ks
+    → first_of (new_use_test t named) ks ≡ None → made ≡ [] → drafted d t ≡ changed t (purged t named) ks → Plans t (purge t ks) (Change d made)
+purge_planned t d ks named made s once passed set unused nil is =
+    let free : first_of (new_use_test t ks) ks ≡ None = ap (λ (ns : List Key). first_of (new_use_test t ns) ks) (sym set) ∙ unused in
+    let to : drafted d t ≡ changed t (purged t ks) ks = is ∙ ap (λ (ns : List Key). changed t (purged t ns) ks) set in
+    (subst IsSound (sym to) (purge_sound t ks s passed free), rw (once, passed, free, nil, to) refl)

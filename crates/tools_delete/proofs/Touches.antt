@@ -2,6 +2,7 @@
 use Rattle.std.proofs.Common.{◌≡◌, ◌&&◌, ◌||◌, Bool, true, false, not, List, ◌++◌, map, filter, Option, Some, None, refl, sym, ap, ◌∙◌}
 use Rattle.std.specs.List.{flat_map, list_all, list_any}
 use Rattle.std.specs.Option.{option_map_or, option_and_then}
+use Rattle.std.proofs.Math.Bool.{and_assoc, and-true, and-false}
 use Rattle.std.proofs.lemmas.List.Folds.{list_any-append}
 use Rattle.osm_base.specs.Rank.{is_key}
 use Rattle.osm_base.specs.Content.{refers, node}
@@ -42,10 +43,6 @@ names named (Some (content.Node tags at)) = refl
 names named (Some (content.Way tags refs)) = common named (map node refs) ∙ list_any_map (is_named named) node refs
 names named (Some (content.Relation tags members)) = refl
 
-and_assoc : (a b c : Bool) → ((a && b) && c) ≡ (a && (b && c))
-and_assoc true b c = refl
-and_assoc false b c = refl
-
 pub mended_found : (t : TableValue) (named ways : List Key) → ways ≡ distinct (filter (λ u. not (is_named named u) && lives_as_way t u) (flat_map (users t) named)) → (q : Key) → is_named ways q ≡ is_mended t named q
 mended_found t named ways is q =
     ap (λ ks. is_named ks q) is
@@ -64,16 +61,8 @@ falling_found t named ways falling is q =
 node_of : (q : Key) (o : Option Content) → is_named (way_nodes o) q ≡ (option_map_or (λ c. refers c q) o false && option_map_or is_way o false)
 node_of q None = refl
 node_of q (Some (content.Node tags at)) = refl
-node_of q (Some (content.Way tags refs)) = and_true (is_named (map node refs) q)
-  where
-    and_true : (b : Bool) → b ≡ (b && true)
-    and_true true = refl
-    and_true false = refl
-node_of q (Some (content.Relation tags members)) = and_false (refers (content.Relation tags members) q)
-  where
-    and_false : (b : Bool) → false ≡ (b && false)
-    and_false true = refl
-    and_false false = refl
+node_of q (Some (content.Way tags refs)) = sym (and-true (is_named (map node refs) q))
+node_of q (Some (content.Relation tags members)) = sym (and-false (refers (content.Relation tags members) q))
 
 nodes_found : (t : TableValue) (falling : List Key) (q : Key) → list_any (λ k. is_named (way_nodes (content_of t k)) q) falling ≡ list_any (λ u. is_named falling u && lives_as_way t u) (users t q)
 nodes_found t falling q =

@@ -8,8 +8,9 @@ use Rattle.osm_base.specs.declared.content.Content.{Content}
 use Rattle.osm_base.specs.declared.content.Content.TheVariants as content
 use Rattle.osm_table.specs.Table.{TableValue, entry_of, users}
 use Rattle.tool_api.specs.Tests.{is_named}
-use Rattle.tool_api.specs.Changes.{content_of}
-use Rattle.tool_api.specs.Gone.{is_bare, is_relation, is_short, is_way}
+use Rattle.tool_api.specs.Basic.{with_members, with_refs}
+use Rattle.tool_api.specs.Changes.{changed, content_of, delete, edit}
+use Rattle.tool_api.specs.Gone.{is_bare, is_relation, is_short, is_way, members_without, mended}
 
 -- whether the key's object lives as a way
 abbrev pub lives_as_way : TableValue → Key → Bool
@@ -49,3 +50,11 @@ has_gone going c = false
 -- a relation that doesn't fall, with a member that goes
 abbrev pub loses_members : TableValue → List Key → List Key → Key → Bool
 loses_members t falling going k = not (is_named falling k) && option_map_or (has_gone going) (content_of t k) false
+
+-- the table in which these are deleted, those ways lose the named nodes, and those relations the members that go
+abbrev pub erased_with : TableValue → (named going ways relations : List Key) → TableValue
+erased_with t named going ways relations =
+    changed (changed (changed t
+    (delete t) going)
+    (edit t (with_refs (mended named))) ways)
+    (edit t (with_members (members_without (is_named going)))) relations

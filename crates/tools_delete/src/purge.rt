@@ -1,20 +1,20 @@
 //! Takes objects out of the table.
-ghost use Rattle.std.specs.Prelude.{◌≡◌, [], IfOk, OnOk, OnErr};
+ghost use Rattle.std.specs.Prelude.{◌≡◌, IfOk};
 ghost use Rattle.std.specs.Option.{option_copied};
 ghost use Rattle.dataset.specs.Draft.{drafted};
+ghost use Rattle.dataset.specs.Sound.{IsSound};
 ghost use Rattle.osm_table.specs.Table.{entry_of};
 ghost use Rattle.tool_api.specs.Changes.{changed};
 ghost use Rattle.tool_api.specs.Gone.{is_used, purge};
-ghost use Rattle.tool_api.specs.Patches.{Kept};
-ghost use Rattle.tool_api.specs.Plain.{answered};
+ghost use Rattle.tool_api.specs.Planned.{Plans};
 ghost use Rattle.tool_api.specs.Tests.{first_of, is_new, purge_entry_test};
 ghost use Rattle.tools_delete.specs.Purged.{new_use_test, purged};
 
-use dataset::{DataSet, Draft, Patch};
+use dataset::{DataSet, Draft};
 use osm_base::{Key, Keys};
 use osm_table::{Base, Entry};
-use std::alloc::{AllocError, Global};
-use tool_api::{Job, KeySet, Refusal, Reply, Steps, Tool, Verb, accept, twice_test, use_test};
+use std::alloc::AllocError;
+use tool_api::{Command, Job, KeySet, Plan, Refusal, Undoable, Verb, twice_test, use_test};
 
 fn purge_test(key: Key, found: Option<&Entry>) -> Option<Refusal>
     ensures { result ≡ purge_entry_test key (option_copied found.entry) }
@@ -92,108 +92,60 @@ fn purged(ds: &DataSet, named: &KeySet, key: Key) -> Option<Entry>
     None
 }
 
-fn purge_all(
-    ds: &DataSet,
-    named: &KeySet,
-    keys: &[Key],
-    draft: &mut Draft,
-) -> Result<(), AllocError>
-    ensures { OnOk result (drafted draft.new ds.now ≡ changed (drafted draft.old ds.now) (purged ds.now named.now) keys.now) }
-{
-    for key in keys {
-        let after = purged(ds, named, *key);
-        draft.put(*key, after)?;
-    }
-    Ok(())
-}
-
+/// The draft in which each of the keys is purged. A look-up of its users each.
 fn purged_draft(ds: &DataSet, named: &KeySet, keys: &[Key]) -> Result<Draft, AllocError>
     ensures { IfOk result (λ draft. drafted draft ds.now ≡ changed ds.now (purged ds.now named.now) keys.now) }
 {
     let mut draft = Draft::new(ds);
-    purge_all(ds, named, keys, &mut draft)?;
+    for key in keys {
+        let after = purged(ds, named, *key);
+        draft.put(*key, after)?;
+    }
     Ok(draft)
 }
 
-fn purge(steps: &mut Steps, ds: &mut DataSet, keys: &[Key]) -> Result<Reply, AllocError>
-    ensures reply { IfOk result (λ r. r ≡ (answered ds.old (purge ds.old keys.now)).reply) }
-    ensures table { OnOk result (ds.new ≡ (answered ds.old (purge ds.old keys.now)).table) }
-    ensures done { IfOk result (λ r. Kept r ds.old ds.new steps.old.0 steps.new.0) }
-    ensures undone { steps.new.1 ≡ steps.old.1 }
-    ensures err_table { OnErr result (ds.new ≡ ds.old) }
-    ensures err_done { OnErr result (steps.new.0 ≡ steps.old.0) }
+fn purge_plan(ds: &DataSet, keys: &[Key]) -> Result<Plan, AllocError>
+    requires sound { IsSound ds.now }
+    ensures { IfOk result (Plans ds.now (purge ds.now keys.now)) }
 {
     if let Some(refusal) = twice_test(ds.alloc(), keys)? {
-        return Ok(Reply::Refused(refusal));
+        return Ok(Plan::Refused(refusal));
     }
     if let Some(refusal) = purge_tests(ds, keys) {
-        return Ok(Reply::Refused(refusal));
+        return Ok(Plan::Refused(refusal));
     }
     let named = KeySet::from_slice(ds.alloc(), keys)?;
     if let Some(refusal) = new_use_tests(ds, &named, keys) {
-        return Ok(Reply::Refused(refusal));
+        return Ok(Plan::Refused(refusal));
     }
-    ds.sound();
     let draft = purged_draft(ds, &named, keys)?;
     let made = Keys::new(ds.alloc());
-    accept(steps, ds, &draft, made)
+    Ok(Plan::Change { draft, made })
 }
 
 /// Takes objects out of the table, as if they had not been downloaded. One that others still use stays as `Incomplete`.
 #[derive(Drop)]
-pub struct PurgeTool {
-    steps: Steps,
-}
+pub struct Purge {}
 
-impl PurgeTool {
-    /// A tool that has done nothing. It takes no memory.
-    pub fn new(alloc: Global) -> PurgeTool
-        ensures done { ⟦<PurgeTool as Tool>⟧.done result ≡ [] }
-        ensures undone { ⟦<PurgeTool as Tool>⟧.undone result ≡ [] }
-    {
-        PurgeTool {
-            steps: Steps::new(alloc),
-        }
+impl Command for Purge {
+    ghost use Rattle.tool_api.specs.declared.verb.Verb.TheVariants as verb;
+
+    ghost kind = { verb.Purge };
+
+    fn new() -> Purge {
+        Purge {}
     }
-}
-
-impl Tool for PurgeTool {
-    ghost use Rattle.tool_api.specs.declared.verb.Verb.TheVariants.{Purge};
-
-    ghost kind = { λ _. Purge };
-
-    ghost done = { λ t. t.steps.0 };
-
-    ghost undone = { λ t. t.steps.1 };
 
     fn verb(&self) -> Verb {
         Verb::Purge
     }
 
-    fn run(&mut self, ds: &mut DataSet, job: &Job, _limit: u64) -> Result<Reply, AllocError> {
+    fn plan(&self, ds: &DataSet, job: &Job, _limit: u64) -> Result<Plan, AllocError> {
         match job {
-            Job::Purge { keys } => purge(&mut self.steps, ds, keys.as_slice()),
+            Job::Purge { keys } => purge_plan(ds, keys.as_slice()),
             _ => unreachable!(),
         }
     }
-
-    fn undo(&mut self, ds: &mut DataSet) -> Result<(), AllocError> {
-        self.steps.undo(ds)
-    }
-
-    fn redo(&mut self, ds: &mut DataSet) -> Result<(), AllocError> {
-        self.steps.redo(ds)
-    }
-
-    fn drop_undone(&mut self) {
-        self.steps.drop_undone()
-    }
-
-    fn clear(&mut self) {
-        self.steps.clear()
-    }
-
-    fn last(&self) -> Option<&Patch> {
-        self.steps.last()
-    }
 }
+
+pub type PurgeTool = Undoable<Purge>;

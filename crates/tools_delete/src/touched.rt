@@ -1,8 +1,7 @@
 //! The objects that erasing touches, found by the index.
-ghost use Rattle.std.specs.Prelude.{◌≡◌, ◌++◌, ◌&&◌, ◌||◌, not, map, OnOk, IfOk};
+ghost use Rattle.std.specs.Prelude.{◌≡◌, ◌++◌, ◌&&◌, ◌||◌, not, OnOk, IfOk};
 ghost use Rattle.std.specs.List.{filter, flat_map, list_all};
 ghost use Rattle.std.specs.Option.{option_copied};
-ghost use Rattle.osm_base.specs.Content.{node};
 ghost use Rattle.osm_base.specs.declared.key.Key.{Key};
 ghost use Rattle.tool_api.specs.Changes.{content_of};
 ghost use Rattle.tool_api.specs.Distinct.{distinct};
@@ -12,7 +11,7 @@ ghost use Rattle.tools_delete.specs.Touched.{falls_short, is_free, is_left_by, i
 
 use crate::mending::mended_ids;
 use dataset::DataSet;
-use osm_base::{Content, Key, node_key};
+use osm_base::{Content, Key, push_references};
 use osm_table::Entry;
 use std::alloc::{AllocError, Global};
 use tool_api::{KeySet, all_users, content_of, distinct, is_relation};
@@ -92,22 +91,13 @@ pub fn falling(ds: &DataSet, named: &KeySet, ways: &[Key]) -> Result<KeySet, All
     joined(ds.alloc(), named.as_slice(), &short)
 }
 
-fn push_nodes(nodes: &mut Vec<Key>, ids: &[i64]) -> Result<(), AllocError>
-    ensures { OnOk result (nodes.new.items ≡ nodes.old.items ++ map node ids.now) }
-{
-    for id in ids {
-        nodes.push(node_key(*id))?;
-    }
-    Ok(())
-}
-
 fn push_way_nodes(nodes: &mut Vec<Key>, content: Option<&Content>) -> Result<(), AllocError>
     ensures { OnOk result (nodes.new.items ≡ nodes.old.items ++ way_nodes (option_copied content.entry)) }
 {
-    if let Some(Content::Way { refs, .. }) = content {
-        push_nodes(nodes, refs.as_slice())?;
+    match content {
+        Some(way @ Content::Way { .. }) => push_references(way, nodes),
+        _ => Ok(()),
     }
-    Ok(())
 }
 
 /// The nodes of those of the keys that are ways, in turn.
