@@ -13,7 +13,6 @@ use Rattle.tool_api.specs.declared.refusal.Refusal.TheVariants.{NothingToSplit}
 use Rattle.tool_api.specs.Tests.{◌>>◌, when, is_named, target_test}
 use Rattle.tool_api.specs.Changes.{Outcome, content_of}
 use Rattle.tool_api.specs.Closing.{closing, closing_tests}
-use Rattle.tool_api.specs.Plain.{answered}
 use Rattle.tool_api.specs.Split.{way_refs, node_tests, complete_test, all_pieces, kept_number, keyed, others, split_table, split_into, split_pieces, split}
 use Rattle.tool_api.proofs.Passed.{both_none}
 use Rattle.way_split.specs.Tests.{split_tests}
@@ -79,8 +78,8 @@ split_by_tests t limit way nodes =
     ap (λ (x : Result Outcome Refusal). a >> (b >> x)) (or_then c d e) ∙ ap (λ (x : Result Outcome Refusal). a >> x) (or_then b (option_or c d) e) ∙ or_then a (option_or b (option_or c d)) e
 
 -- a refusal of the tests refuses
-pub split_refused : (t : TableValue) (limit : ℕ) (way : Key) (nodes : List Key) (r : Refusal) → split_tests t way nodes ≡ Some r → answered t (Err r) ≡ answered t (split t limit way nodes)
-split_refused t limit way nodes r e = ap (answered t) (sym (split_by_tests t limit way nodes ∙ ap (λ (o : Option Refusal). o >> split_end t limit way nodes) e))
+pub split_refused : (t : TableValue) (limit : ℕ) (way : Key) (nodes : List Key) (r : Refusal) → split_tests t way nodes ≡ Some r → split t limit way nodes ≡ Err r
+split_refused t limit way nodes r e = split_by_tests t limit way nodes ∙ ap (λ (o : Option Refusal). o >> split_end t limit way nodes) e
 
 module _ (t u : TableValue) (limit : ℕ) (way : Key) (nodes named : List Key) (pieces : List (List ℤ)) (parts : List (Key × List ℤ)) (kept next : ℕ)
     (passed : split_tests t way nodes ≡ None) (piece : pieces ≡ split_pieces t way nodes) (keep : kept ≡ kept_number pieces) (number : next ≡ t.next) (part : parts ≡ keyed way kept 0 next pieces)
@@ -88,12 +87,12 @@ module _ (t u : TableValue) (limit : ℕ) (way : Key) (nodes named : List Key) (
   parts_are : parts ≡ keyed way (kept_number (split_pieces t way nodes)) 0 t.next (split_pieces t way nodes)
   parts_are = part ∙ (λ i. keyed way (keep i) 0 (number i) pieces) ∙ ap (λ (xs : List (List ℤ)). keyed way (kept_number xs) 0 t.next xs) piece
 
-  -- the answer of a split that passes its tests
-  pub split_ends : (keys : List Key) → keys ≡ map (λ p. p.0) (others way parts) → answered t (closing t limit named (record { keys = keys; table = u })) ≡ answered t (split t limit way nodes)
+  -- what a split that passes its tests comes to
+  pub split_ends : (keys : List Key) → keys ≡ map (λ p. p.0) (others way parts) → closing t limit named (record { keys = keys; table = u }) ≡ split t limit way nodes
   split_ends keys key =
-      (λ i. answered t (closing t limit (names i) (record { keys = key i; table = is i })))
-      ∙ (λ i. answered t (closing t limit (way ∷ nodes) (split_into t way (parts_are i))))
-      ∙ ap (answered t) (sym (split_by_tests t limit way nodes ∙ ap (λ (o : Option Refusal). o >> split_end t limit way nodes) passed))
+      (λ i. closing t limit (names i) (record { keys = key i; table = is i }))
+      ∙ (λ i. closing t limit (way ∷ nodes) (split_into t way (parts_are i)))
+      ∙ sym (split_by_tests t limit way nodes ∙ ap (λ (o : Option Refusal). o >> split_end t limit way nodes) passed)
 
   -- its table is sound
   pub split_keeps : IsSound t → closing_tests t limit named u ≡ None → IsSound u

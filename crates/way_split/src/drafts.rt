@@ -3,6 +3,7 @@ ghost use Rattle.std.specs.Prelude.{◌≡◌, ◌+◌, ◌≤◌, ◌<◌, ◌^
 ghost use Rattle.osm_base.specs.declared.content.Content.TheVariants.{Way};
 ghost use Rattle.osm_table.specs.Table.{TableValue};
 ghost use Rattle.dataset.specs.Draft.{drafted};
+ghost use Rattle.dataset.specs.Sound.{IsSound};
 ghost use Rattle.tool_api.specs.Basic.{with_members, with_refs};
 ghost use Rattle.tool_api.specs.Changes.{added, all_added};
 ghost use Rattle.tool_api.specs.Split.{kept_refs, others, relations_of, tags_at, split_table};
@@ -149,9 +150,9 @@ fn add_others(
 /// # Errors
 /// No memory was left.
 pub fn split_draft(ds: &DataSet, way: Key, parts: &[(Key, Refs)]) -> Result<Draft, AllocError>
+    requires { IsSound ds.now }
     ensures { IfOk result (λ draft. drafted draft ds.now ≡ split_table ds.now way parts.now) }
 {
-    ds.sound();
     let mut draft = Draft::new(ds);
     let relations = relations_of(ds, way)?;
     let pieces = pieces_of(ds.alloc(), way, parts)?;

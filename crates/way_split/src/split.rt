@@ -1,8 +1,8 @@
 //! Cuts a way at nodes.
-ghost use Rattle.std.specs.Prelude.{◌≡◌, [], ◌∷◌, None, IfOk, OnOk, OnErr};
+ghost use Rattle.std.specs.Prelude.{◌≡◌, [], ◌∷◌, None, IfOk};
+ghost use Rattle.dataset.specs.Sound.{IsSound};
 ghost use Rattle.tool_api.specs.Changes.{content_of};
-ghost use Rattle.tool_api.specs.Patches.{Kept};
-ghost use Rattle.tool_api.specs.Plain.{answered};
+ghost use Rattle.tool_api.specs.Planned.{Plans};
 ghost use Rattle.tool_api.specs.Split.{node_tests, split, split_pieces, way_refs};
 ghost use Rattle.tool_api.specs.Tests.{target_test};
 ghost use Rattle.tool_api.specs.declared.kinds.Kinds.TheVariants.{Ways};
@@ -13,11 +13,11 @@ use crate::drafts::split_draft;
 use crate::node_tests::node_tests;
 use crate::parts::{keyed, new_keys};
 use crate::pieces::{all_pieces, kept_number};
-use dataset::{DataSet, Patch};
+use dataset::DataSet;
 use osm_base::{Key, Refs};
 use std::alloc::{AllocError, Global};
 use tool_api::{
-    Job, KeySet, Kinds, Refusal, Reply, Steps, Tool, Verb, complete_test, finish, refs_at,
+    Command, Job, KeySet, Kinds, Plan, Refusal, Undoable, Verb, closed, complete_test, refs_at,
     target_test,
 };
 
@@ -78,49 +78,33 @@ fn test_split(ds: &DataSet, way: Key, nodes: &[Key]) -> Result<Tested, AllocErro
     cut(ds, way, refs_at(ds, way), nodes)
 }
 
-/// Makes the pieces the way and new ways.
-fn make(
-    steps: &mut Steps,
-    ds: &mut DataSet,
+/// The plan that makes the pieces the way and new ways.
+fn pieces_plan(
+    ds: &DataSet,
     way: Key,
     nodes: &[Key],
     pieces: &[Refs],
     limit: u64,
-) -> Result<Reply, AllocError>
-    requires tests { split_tests ds.old way nodes.now ≡ None }
-    requires pieces { pieces.now ≡ split_pieces ds.old way nodes.now }
-    ensures reply { IfOk result (λ r. r ≡ (answered ds.old (split ds.old limit way nodes.now)).reply) }
-    ensures table { OnOk result (ds.new ≡ (answered ds.old (split ds.old limit way nodes.now)).table) }
-    ensures done { IfOk result (λ r. Kept r ds.old ds.new steps.old.0 steps.new.0) }
-    ensures undone { steps.new.1 ≡ steps.old.1 }
-    ensures err_table { OnErr result (ds.new ≡ ds.old) }
-    ensures err_done { OnErr result (steps.new.0 ≡ steps.old.0) }
+) -> Result<Plan, AllocError>
+    requires sound { IsSound ds.now }
+    requires tests { split_tests ds.now way nodes.now ≡ None }
+    requires pieces { pieces.now ≡ split_pieces ds.now way nodes.now }
+    ensures { IfOk result (Plans ds.now (split ds.now limit way nodes.now)) }
 {
-    ds.sound();
     let parts = keyed(ds.alloc(), way, kept_number(pieces), ds.next(), pieces)?;
-    let keys = new_keys(ds.alloc(), way, &parts)?;
+    let made = new_keys(ds.alloc(), way, &parts)?;
     let draft = split_draft(ds, way, &parts)?;
     let named = named(ds.alloc(), way, nodes)?;
-    finish(steps, ds, &draft, &named, limit, keys)
+    closed(ds, draft, &named, limit, made)
 }
 
-fn split(
-    steps: &mut Steps,
-    ds: &mut DataSet,
-    way: Key,
-    nodes: &[Key],
-    limit: u64,
-) -> Result<Reply, AllocError>
-    ensures reply { IfOk result (λ r. r ≡ (answered ds.old (split ds.old limit way nodes.now)).reply) }
-    ensures table { OnOk result (ds.new ≡ (answered ds.old (split ds.old limit way nodes.now)).table) }
-    ensures done { IfOk result (λ r. Kept r ds.old ds.new steps.old.0 steps.new.0) }
-    ensures undone { steps.new.1 ≡ steps.old.1 }
-    ensures err_table { OnErr result (ds.new ≡ ds.old) }
-    ensures err_done { OnErr result (steps.new.0 ≡ steps.old.0) }
+fn split_plan(ds: &DataSet, way: Key, nodes: &[Key], limit: u64) -> Result<Plan, AllocError>
+    requires sound { IsSound ds.now }
+    ensures { IfOk result (Plans ds.now (split ds.now limit way nodes.now)) }
 {
     match test_split(ds, way, nodes)? {
-        Tested::Refused(refusal) => Ok(Reply::Refused(refusal)),
-        Tested::Cut(pieces) => make(steps, ds, way, nodes, &pieces, limit),
+        Tested::Refused(refusal) => Ok(Plan::Refused(refusal)),
+        Tested::Cut(pieces) => pieces_plan(ds, way, nodes, &pieces, limit),
     }
 }
 
@@ -130,59 +114,27 @@ fn split(
 /// A split costs the way's nodes and the named ones, each with a few hashed look-ups, the pieces, and the relations
 /// that name the way with the members that they get.
 #[derive(Drop)]
-pub struct SplitTool {
-    steps: Steps,
-}
+pub struct Split {}
 
-impl SplitTool {
-    /// A tool that has done nothing. It takes no memory.
-    pub fn new(alloc: Global) -> SplitTool
-        ensures done { ⟦<SplitTool as Tool>⟧.done result ≡ [] }
-        ensures undone { ⟦<SplitTool as Tool>⟧.undone result ≡ [] }
-    {
-        SplitTool {
-            steps: Steps::new(alloc),
-        }
+impl Command for Split {
+    ghost use Rattle.tool_api.specs.declared.verb.Verb.TheVariants as verb;
+
+    ghost kind = { verb.Split };
+
+    fn new() -> Split {
+        Split {}
     }
-}
-
-impl Tool for SplitTool {
-    ghost use Rattle.tool_api.specs.declared.verb.Verb.TheVariants.{Split};
-
-    ghost kind = { λ _. Split };
-
-    ghost done = { λ t. t.steps.0 };
-
-    ghost undone = { λ t. t.steps.1 };
 
     fn verb(&self) -> Verb {
         Verb::Split
     }
 
-    fn run(&mut self, ds: &mut DataSet, job: &Job, limit: u64) -> Result<Reply, AllocError> {
+    fn plan(&self, ds: &DataSet, job: &Job, limit: u64) -> Result<Plan, AllocError> {
         match job {
-            Job::Split { way, nodes } => split(&mut self.steps, ds, *way, nodes.as_slice(), limit),
+            Job::Split { way, nodes } => split_plan(ds, *way, nodes.as_slice(), limit),
             _ => unreachable!(),
         }
     }
-
-    fn undo(&mut self, ds: &mut DataSet) -> Result<(), AllocError> {
-        self.steps.undo(ds)
-    }
-
-    fn redo(&mut self, ds: &mut DataSet) -> Result<(), AllocError> {
-        self.steps.redo(ds)
-    }
-
-    fn drop_undone(&mut self) {
-        self.steps.drop_undone()
-    }
-
-    fn clear(&mut self) {
-        self.steps.clear()
-    }
-
-    fn last(&self) -> Option<&Patch> {
-        self.steps.last()
-    }
 }
+
+pub type SplitTool = Undoable<Split>;
