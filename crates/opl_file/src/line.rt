@@ -7,8 +7,7 @@ ghost use Rattle.opl_file.specs.Answers.{Gives};
 use crate::collected::Collected;
 use crate::{FileAnswer, FileFault};
 use memchr::memchr;
-use opl_line::{LineAnswer, LineKind, Mode, read_line};
-use opl_line::Pool;
+use opl_line::{LineAnswer, LineKind, Mode, Pool, read_line};
 
 /// How many bytes a line may have without its LF.
 pub(crate) const LINE_LIMIT: usize = 16_777_216;

@@ -5,8 +5,7 @@ ghost use Rattle.opl_file.specs.Cut.{has_lf};
 use crate::collected::Collected;
 use crate::line::{LINE_LIMIT, first_line, take_line, take_split_line};
 use crate::{FileAnswer, FileFault, Objects};
-use opl_line::Mode;
-use opl_line::Pool;
+use opl_line::{Mode, Pool};
 use std::alloc::{AllocError, Global};
 
 /// What was read of a file's lines, up to the first bad one.

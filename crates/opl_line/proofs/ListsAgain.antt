@@ -1,19 +1,15 @@
 -- What is written of tags, references and members is read again.
-use Rattle.std.proofs.Common.{◌≡◌, ℕ, ℤ, suc, ◌<◌, ◌&&◌, Bool, true, false, T, List, [], ◌∷◌, ◌++◌, length, Some, Result, Ok, refl, ap, ◌∙◌, arith, append_assoc}
+use Rattle.std.proofs.Common.{◌≡◌, ℕ, ℤ, suc, ◌<◌, Bool, true, false, T, List, [], ◌∷◌, ◌++◌, length, Some, Result, Ok, refl, sym, ap, subst, ◌∙◌, arith, append_assoc}
 use Rattle.std.specs.Prelude.{map, ◌==◌, nat_lt}
 use Rattle.std.specs.List.{All, list_all}
 use Rattle.std.specs.Fmt.{signed_decimal}
-use Rattle.std.specs.Ordering.{is_lt, ordering_reverse}
-use Rattle.std.specs.declared.cmp.Ordering.{Ordering}
-use Rattle.std.specs.declared.cmp.Ordering.TheVariants.{Less, Equal, Greater}
 use Rattle.std.specs.FinMap.{is_sorted}
-use Rattle.std.specs.FinMap.Entries.{below_all}
 use Rattle.std.proofs.lemmas.Bool.Decides.{nat_tests}
-use Rattle.std.proofs.lemmas.Cmp.{nat_list_cmp_total}
 use Rattle.std.proofs.lemmas.Grind.{common_steps}
-use Rattle.osm_base.specs.Tags.{Pair, bytes_cmp, has_tag, with_tag}
+use Rattle.osm_base.specs.Tags.{Pair, bytes_cmp, are_tags, has_tag, with_tag}
 use Rattle.osm_base.specs.Number.{IsId, kind_letter, letter_of, key_written}
 use Rattle.osm_base.proofs.KeyLaw.{id_again}
+use Rattle.osm_base.proofs.TagLaws.{fore, aft, put_last, has_last}
 use Rattle.osm_base.specs.declared.key.Kind.{Kind}
 use Rattle.osm_base.specs.declared.key.Kind.TheVariants.{Node, Way, Relation}
 use Rattle.osm_base.specs.declared.members.Member.{Member}
@@ -63,62 +59,19 @@ tag_again seen key value k v some new =
       text_again value v.0 v.1,
     ) refl
 
--- the key is above all keys
-abbrev IsAbove : List ℕ → List Pair → Type 0
-IsAbove key [] = Unit {0}
-IsAbove key (tag ∷ tags) = (bytes_cmp key tag.0 ≡ Greater) × IsAbove key tags
-
-above_new : (key : List ℕ) (tags : List Pair) → IsAbove key tags → has_tag tags key ≡ false
-above_new key [] h = refl
-above_new key (tag ∷ tags) h = rw (h.0, above_new key tags h.1) refl
-
-above_last : (key value : List ℕ) (tags : List Pair) → IsAbove key tags → with_tag tags key value ≡ tags ++ (key, value) ∷ []
-above_last key value [] h = refl
-above_last key value (tag ∷ tags) h = rw (h.0, above_last key value tags h.1) refl
-
-above_append : (key : List ℕ) (tags : List Pair) (tag : Pair) → IsAbove key tags → bytes_cmp key tag.0 ≡ Greater → IsAbove key (tags ++ tag ∷ [])
-above_append key [] tag h last = (last, tt)
-above_append key (t ∷ tags) tag h last = (h.0, above_append key tags tag h.1 last)
-
--- each key of the second tags is above all of the first
-abbrev AreAbove : List Pair → List Pair → Type 0
-AreAbove seen [] = Unit {0}
-AreAbove seen (tag ∷ tags) = IsAbove tag.0 seen × AreAbove seen tags
-
-less_greater : (a b : List ℕ) (o : Ordering) → bytes_cmp a b ≡ o → T (is_lt o) → bytes_cmp b a ≡ Greater
-less_greater a b Less e h = nat_list_cmp_total.antisymm b a ∙ ap ordering_reverse e
-less_greater a b Equal e h = absurd h
-less_greater a b Greater e h = absurd h
-
-fore : (a b : Bool) → T (a && b) → T a
-fore true b h = tt
-fore false b h = h
-
-aft : (a b : Bool) → T (a && b) → T b
-aft true b h = h
-aft false b h = absurd h
-
-above_more : (seen : List Pair) (tag : Pair) (tags : List Pair) → AreAbove seen tags → T (below_all bytes_cmp tag.0 tags) → AreAbove (seen ++ tag ∷ []) tags
-above_more seen tag [] h below = tt
-above_more seen tag (t ∷ tags) h below =
-    (above_append t.0 seen tag h.0 (less_greater tag.0 t.0 (bytes_cmp tag.0 t.0) refl (fore _ _ below)), above_more seen tag tags h.1 (aft (is_lt (bytes_cmp tag.0 t.0)) _ below))
-
-none_above : (tags : List Pair) → AreAbove [] tags
-none_above [] = tt
-none_above (tag ∷ tags) = (tt, none_above tags)
-
 named : (key : List ℕ) → T (nat_lt 0 (length key)) → (length key == 0) ≡ false
 named [] h = absurd h
 named (b ∷ key) h = grind (arith, nat_tests)
 
-all_tags_again : (seen tags : List Pair) → T (is_sorted bytes_cmp tags) → T (list_all (λ t. nat_lt 0 (length t.0)) tags) → All (λ tag. IsText tag.0 × IsText tag.1) tags → AreAbove seen tags → folded tag_into seen (map tag_written tags) ≡ Ok (seen ++ tags)
-all_tags_again seen [] rise some texts above = ap Ok (grind (arith, common_steps))
-all_tags_again seen ((key, value) ∷ tags) rise some texts above =
+-- tags that are read in their order: each goes to the end, and its key is new
+all_tags_again : (seen tags : List Pair) → T (are_tags (seen ++ tags)) → T (list_all (λ t. nat_lt 0 (length t.0)) tags) → All (λ tag. IsText tag.0 × IsText tag.1) tags → folded tag_into seen (map tag_written tags) ≡ Ok (seen ++ tags)
+all_tags_again seen [] good some texts = ap Ok (grind (arith, common_steps))
+all_tags_again seen ((key, value) ∷ tags) good some texts =
     let first = first_of (λ (tag : Pair). IsText tag.0 × IsText tag.1) (key, value) tags texts in
-    let more = above_more seen (key, value) tags above.1 (fore _ _ rise) in
-    rw (tag_again seen key value first.0 first.1 (named key (fore _ _ some)) (above_new key seen above.0), above_last key value seen above.0)
-    (all_tags_again (seen ++ (key, value) ∷ []) tags (aft (below_all bytes_cmp key tags) _ rise) (aft (nat_lt 0 (length key)) _ some) (others_of (λ (tag : Pair). IsText tag.0 × IsText tag.1) (key, value) tags texts) more
-    ∙ ap Ok (append_assoc seen ((key, value) ∷ []) tags))
+    let along = append_assoc seen ((key, value) ∷ []) tags in
+    rw (tag_again seen key value first.0 first.1 (named key (fore _ _ some)) (has_last seen tags (key, value) good), put_last seen tags (key, value) good)
+    (all_tags_again (seen ++ (key, value) ∷ []) tags (subst (λ (ts : List Pair). T (are_tags ts)) (sym along) good) (aft (nat_lt 0 (length key)) _ some) (others_of (λ (tag : Pair). IsText tag.0 × IsText tag.1) (key, value) tags texts)
+    ∙ ap Ok along)
 
 tags_case : (text : List ℕ) (r : Result (List Pair) LineFault) → 0 < length text → folded tag_into [] (split (is 44) text) ≡ r → tags_text text ≡ r
 unfolding tags_text
@@ -134,7 +87,7 @@ tags_again [] h = refl
 tags_again (tag ∷ tags) h =
     tags_case (listed tag_written (tag ∷ tags)) (Ok (tag ∷ tags)) (grind (arith, common_steps))
     (ap (folded tag_into []) (cut_listed tag_written tag tags (unbroken_items (is 44) tag_written (tag ∷ tags) tag_unbroken))
-    ∙ all_tags_again [] (tag ∷ tags) (fore _ _ h.0) (aft (is_sorted bytes_cmp (tag ∷ tags)) _ h.0) h.1 (none_above (tag ∷ tags)))
+    ∙ all_tags_again [] (tag ∷ tags) h.0 (aft (is_sorted bytes_cmp (tag ∷ tags)) _ h.0) h.1)
 
 -- ---- references
 

@@ -2,8 +2,9 @@
 use Rattle.std.specs.Prelude.{List, [], ◌∷◌}
 use Rattle.osm_base.specs.declared.key.Key.{Key}
 use Rattle.ref_index.specs.declared.users.Items.{Items}
-use Rattle.ref_index.specs.declared.users.Items.TheVariants.{One, List as Keys}
+use Rattle.ref_index.specs.declared.users.Items.TheVariants.{Nobody, One, List as Keys}
 
 abbrev pub listed : Items → List Key
+listed Nobody = []
 listed (One key) = key ∷ []
-listed (Keys keys) = keys.items
+listed (Keys keys) = keys.value.items

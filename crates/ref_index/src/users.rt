@@ -21,11 +21,12 @@ pub struct Users {
     items: Items,
 }
 
-/// One key without a block, or a list.
+/// No key or one, without a block, or a list. The list's block keeps this at 24 bytes.
 #[derive(Drop)]
 enum Items {
+    Nobody,
     One(Key),
-    List(Vec<Key>),
+    List(Box<Vec<Key>>),
 }
 
 impl Model for Users {
@@ -47,7 +48,7 @@ impl Users {
     {
         Users {
             alloc,
-            items: Items::List(Vec::new(alloc)),
+            items: Items::Nobody,
         }
     }
 
@@ -78,7 +79,7 @@ impl Users {
     pub fn take(&mut self, key: Key)
         ensures { self.new ≡ without_key key self.old }
     {
-        take_item(self.alloc, &mut self.items, key);
+        take_item(&mut self.items, key);
     }
 }
 
@@ -86,6 +87,7 @@ fn listed(items: &Items) -> &[Key]
     ensures { result.now ≡ listed items.now }
 {
     match items {
+        Items::Nobody => &[],
         Items::One(key) => slice::from_ref(key),
         Items::List(keys) => keys.as_slice(),
     }
@@ -111,33 +113,34 @@ fn insert_at(alloc: Global, items: &mut Items, at: usize, key: Key) -> Result<()
     ensures err { OnErr result (listed items.new ≡ listed items.old) }
 {
     match items {
+        Items::Nobody => *items = Items::One(key),
         Items::One(first) => {
             let mut keys = Vec::from_slice(alloc, slice::from_ref(first))?;
             keys.insert(at, key)?;
-            *items = Items::List(keys);
+            *items = Items::List(Box::new(alloc, keys)?);
         }
-        Items::List(keys) if keys.is_empty() => *items = Items::One(key),
         Items::List(keys) => keys.insert(at, key)?,
     }
     Ok(())
 }
 
-fn take_item(alloc: Global, items: &mut Items, key: Key)
+fn take_item(items: &mut Items, key: Key)
     requires { T (rises (listed items.old)) }
     ensures { listed items.new ≡ without_key key (listed items.old) }
 {
     let at = place(listed(items), key);
     if stands_at(listed(items), at, key) {
-        remove_at(alloc, items, at);
+        remove_at(items, at);
     }
 }
 
-fn remove_at(alloc: Global, items: &mut Items, at: usize)
+fn remove_at(items: &mut Items, at: usize)
     requires { at < length (listed items.old) }
     ensures { listed items.new ≡ remove (listed items.old) at }
 {
     match items {
-        Items::One(_) => *items = Items::List(Vec::new(alloc)),
+        Items::Nobody => {}
+        Items::One(_) => *items = Items::Nobody,
         Items::List(keys) => {
             keys.remove(at);
         }
