@@ -6,3 +6,4 @@ pub mod Readable
 pub mod Forward
 pub mod Back
 mod Examples
+mod LineExamples
