@@ -6,3 +6,6 @@ pub mod Outlines
 pub mod PartKeys
 pub mod Added
 pub mod Sounds
+pub mod Along
+pub mod Between
+pub mod Longest

@@ -14,6 +14,13 @@ has_part : (way r : Key) (parts : List (Key × List ℤ)) → has_piece r (map (
 has_part way r [] = refl
 has_part way r (p ∷ parts) = ap (λ b. is_key r p.0 || b) (has_part way r parts)
 
+-- the others, where the next part is the kept one, and where it is a new way
+pub others_kept : (way : Key) (p : List ℤ) (ps : List (Key × List ℤ)) → others way ((way, p) ∷ ps) ≡ others way ps
+others_kept way p ps = ap (λ b. cond (not b) ((way, p) ∷ others way ps) (others way ps)) (key_itself way)
+
+pub others_new : (way k : Key) (p : List ℤ) (ps : List (Key × List ℤ)) → is_key way k ≡ false → others way ((k, p) ∷ ps) ≡ (k, p) ∷ others way ps
+others_new way k p ps e = ap (λ b. cond (not b) ((k, p) ∷ others way ps) (others way ps)) e
+
 module _ (P : Key → Type 0) (way : Key) (here : P way) where
   at_head : (r k : Key) (b : Bool) (rest : Bool) → is_key r k ≡ b → (b || rest) ≡ true → P k → (rest ≡ true → P r) → P r
   at_head r k true rest is e p there = subst P (sym (one_key r k is)) p
@@ -25,21 +32,15 @@ module _ (P : Key → Type 0) (way : Key) (here : P way) where
   abbrev New : ℕ → ℕ → Type 0
   New n count = (m : ℕ) → n ≤ m → m < n + count → P (new_key kind.Way m)
 
-  others_kept : (p : List ℤ) (ps : List (Key × List ℤ)) → others way ((way, p) ∷ ps) ≡ others way ps
-  others_kept p ps = ap (λ b. cond (not b) ((way, p) ∷ others way ps) (others way ps)) (key_itself way)
-
-  others_new : (k : Key) (p : List ℤ) (ps : List (Key × List ℤ)) → is_key way k ≡ false → others way ((k, p) ∷ ps) ≡ (k, p) ∷ others way ps
-  others_new k p ps e = ap (λ b. cond (not b) ((k, p) ∷ others way ps) (others way ps)) e
-
   part_case : (b : Bool) (r : Key) (n : ℕ) (p : List ℤ) (front cs : List (Key × List ℤ)) → Fresh n
       → (New n (length (others way front)) → list_any (λ (p : Key × List ℤ). is_key r p.0) front ≡ true → P r)
       → (New (n + 1) (length (others way cs)) → list_any (λ (p : Key × List ℤ). is_key r p.0) cs ≡ true → P r)
       → New n (length (others way (cond b ((way, p) ∷ front) ((new_key kind.Way n, p) ∷ cs))))
       → list_any (λ (p : Key × List ℤ). is_key r p.0) (cond b ((way, p) ∷ front) ((new_key kind.Way n, p) ∷ cs)) ≡ true → P r
   part_case true r n p front cs fresh left right new e =
-      at_head r way (is_key r way) _ refl e here (left (subst (λ (xs : List (Key × List ℤ)). New n (length xs)) (others_kept p front) new))
+      at_head r way (is_key r way) _ refl e here (left (subst (λ (xs : List (Key × List ℤ)). New n (length xs)) (others_kept way p front) new))
   part_case false r n p front cs fresh left right new e =
-      let all : New n (suc (length (others way cs))) = subst (λ (xs : List (Key × List ℤ)). New n (length xs)) (others_new (new_key kind.Way n) p cs (fresh n (omega arith))) new in
+      let all : New n (suc (length (others way cs))) = subst (λ (xs : List (Key × List ℤ)). New n (length xs)) (others_new way (new_key kind.Way n) p cs (fresh n (omega arith))) new in
       at_head r (new_key kind.Way n) (is_key r (new_key kind.Way n)) _ refl e (all n (omega arith) (omega arith)) (right (λ m low high. all m (omega arith) (omega arith)))
 
   parts_are : (kept i n : ℕ) (r : Key) (ps : List (List ℤ)) → Fresh n → New n (length (others way (keyed way kept i n ps))) → list_any (λ (p : Key × List ℤ). is_key r p.0) (keyed way kept i n ps) ≡ true → P r
