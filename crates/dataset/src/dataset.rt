@@ -18,7 +18,7 @@ use crate::pairs::pairs;
 use crate::patch::Patch;
 use crate::writes::{drop_keys, put_keys, write_all, writes_of};
 use osm_base::{Key, Keys};
-use osm_table::{Entry, Table};
+use osm_table::{SharedEntry, Table};
 use ref_index::RefIndex;
 use std::alloc::{AllocError, Global};
 use std::marker::Model;
@@ -57,7 +57,7 @@ impl DataSet {
     }
 
     /// What is known of a key.
-    pub fn entry(&self, key: Key) -> Option<&Entry>
+    pub fn entry(&self, key: Key) -> Option<&SharedEntry>
         ensures { option_copied result ≡ entry_of self.now key }
     {
         self.table.get(key)

@@ -114,11 +114,11 @@ impl Draft {
     }
 
     /// The entry that a key has in the draft's table.
-    pub fn entry<'a>(&'a self, ds: &'a DataSet, key: Key) -> Option<&'a Entry>
+    pub fn entry<'a>(&'a self, ds: &'a DataSet, key: Key) -> Option<&'a SharedEntry>
         ensures { option_copied result ≡ entry_of (drafted self.now ds.now) key }
     {
         match self.puts.get(&key) {
-            Some(after) => entry_in(after),
+            Some(after) => after.as_ref(),
             None => ds.entry(key),
         }
     }
@@ -143,15 +143,6 @@ fn share(alloc: Global, entry: Option<Entry>) -> Result<Option<SharedEntry>, All
     match entry {
         None => Ok(None),
         Some(entry) => Ok(Some(SharedEntry::new(alloc, entry)?)),
-    }
-}
-
-fn entry_in(shared: &Option<SharedEntry>) -> Option<&Entry>
-    ensures { option_copied result ≡ shared.now }
-{
-    match shared {
-        None => None,
-        Some(entry) => Some(entry.value()),
     }
 }
 

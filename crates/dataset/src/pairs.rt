@@ -42,7 +42,7 @@ fn mine_at(entry: Option<&SharedEntry>) -> Option<&Content>
     ensures { option_copied result ≡ mine_at (option_copied entry.entry) }
 {
     match entry {
-        Some(entry) => entry.value().mine(),
+        Some(entry) => entry.mine(),
         None => None,
     }
 }

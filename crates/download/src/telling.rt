@@ -136,7 +136,7 @@ mod tests {
         let Some(entry) = told else {
             return "none";
         };
-        match entry.value().base() {
+        match entry.base() {
             None => "mentioned",
             Some(Base::Live { version: 3, .. }) => "live 3",
             Some(Base::Gone { version: 4, .. }) => "gone 4",

@@ -6,7 +6,7 @@ ghost use Rattle.edit_session.specs.Counted.{count_text, counts_text, kinds_text
 
 use dataset::DataSet;
 use osm_base::{Key, Kind, write_digits};
-use osm_table::Entry;
+use osm_table::{EntryParts, SharedEntry};
 use std::alloc::AllocError;
 
 /// How many entries of a table are so.
@@ -120,7 +120,7 @@ impl Counts {
         }
     }
 
-    fn with_one(self, kind: Kind, entry: &Entry) -> Counts
+    fn with_one(self, kind: Kind, entry: &SharedEntry) -> Counts
         requires room { HasRoom self }
         ensures { result ≡ with_one self kind entry.now }
     {
@@ -164,38 +164,38 @@ fn is_relation(kind: Kind) -> bool
     }
 }
 
-fn is_living(entry: &Entry) -> bool
+fn is_living(entry: &SharedEntry) -> bool
     ensures { result ≡ is_living entry.now }
 {
-    match entry {
-        Entry::Incomplete => false,
-        Entry::Known { mine, .. } => mine.is_some(),
+    match entry.parts() {
+        EntryParts::Incomplete => false,
+        EntryParts::Known { mine, .. } => mine.is_some(),
     }
 }
 
-fn is_incomplete(entry: &Entry) -> bool
+fn is_incomplete(entry: &SharedEntry) -> bool
     ensures { result ≡ is_incomplete entry.now }
 {
-    match entry {
-        Entry::Incomplete => true,
-        Entry::Known { .. } => false,
+    match entry.parts() {
+        EntryParts::Incomplete => true,
+        EntryParts::Known { .. } => false,
     }
 }
 
-fn is_deleted(entry: &Entry) -> bool
+fn is_deleted(entry: &SharedEntry) -> bool
     ensures { result ≡ is_deleted entry.now }
 {
-    match entry {
-        Entry::Incomplete => false,
-        Entry::Known { mine, .. } => mine.is_none(),
+    match entry.parts() {
+        EntryParts::Incomplete => false,
+        EntryParts::Known { mine, .. } => mine.is_none(),
     }
 }
 
-fn is_in_conflict(entry: &Entry) -> bool
+fn is_in_conflict(entry: &SharedEntry) -> bool
     ensures { result ≡ is_in_conflict entry.now }
 {
-    match entry {
-        Entry::Incomplete => false,
-        Entry::Known { conflict, .. } => conflict.is_some(),
+    match entry.parts() {
+        EntryParts::Incomplete => false,
+        EntryParts::Known { conflict, .. } => conflict.is_some(),
     }
 }

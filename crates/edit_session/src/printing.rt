@@ -1,5 +1,6 @@
 //! The text of `print`.
 ghost use Rattle.std.specs.Prelude.{◌≡◌, ◌++◌, OnOk, OnErr};
+ghost use Rattle.std.specs.Option.{option_copied};
 ghost use Rattle.osm_base.specs.Extends.{Extends};
 ghost use Rattle.osm_base.specs.Meta.{empty_meta};
 ghost use Rattle.osm_table.specs.Table.{version_of};
@@ -8,7 +9,7 @@ ghost use Rattle.edit_session.specs.Printed.{known_text, entry_text, entries_tex
 use dataset::DataSet;
 use opl_line::write_line;
 use osm_base::{Content, Key, Meta};
-use osm_table::{Base, Entry};
+use osm_table::{Base, EntryParts};
 use std::alloc::AllocError;
 
 /// Appends the text of `print`: each known object by rank in its written form, a line each. It sorts the keys once.
@@ -55,9 +56,12 @@ pub fn write_entry(
     ensures written { OnOk result (out.new.items ≡ out.old.items ++ entry_text ds.now key) }
     ensures kept { OnErr result (Extends out.old.items out.new.items) }
 {
-    match ds.entry(key) {
-        Some(Entry::Known { base, mine, .. }) => write_known(key, base, mine, unknown, out),
-        _ => Ok(()),
+    let Some(entry) = ds.entry(key) else {
+        return Ok(());
+    };
+    match entry.parts() {
+        EntryParts::Known { base, mine, .. } => write_known(key, base, mine, unknown, out),
+        EntryParts::Incomplete => Ok(()),
     }
 }
 
@@ -65,16 +69,16 @@ pub fn write_entry(
 fn write_known(
     key: Key,
     base: &Base,
-    mine: &Option<Content>,
+    mine: Option<&Content>,
     unknown: &Meta,
     out: &mut Vec<u8>,
 ) -> Result<(), AllocError>
     requires { unknown.now ≡ empty_meta }
-    ensures written { OnOk result (out.new.items ≡ out.old.items ++ known_text key base.now mine.now) }
+    ensures written { OnOk result (out.new.items ≡ out.old.items ++ known_text key base.now (option_copied mine.entry)) }
     ensures kept { OnErr result (Extends out.old.items out.new.items) }
 {
     let meta = meta_of(base, unknown);
-    write_line(key, version_of(base), mine.as_ref(), meta, out)?;
+    write_line(key, version_of(base), mine, meta, out)?;
     out.push(b'\n')?;
     Ok(())
 }

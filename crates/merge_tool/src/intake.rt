@@ -2,13 +2,15 @@
 ghost use Rattle.std.specs.Prelude.{◌≡◌, ◌++◌, None, Some, IfOk, OnOk};
 ghost use Rattle.std.specs.List.{fold};
 ghost use Rattle.osm_table.specs.Table.{TableValue, entry_of};
+ghost use Rattle.std.specs.Option.{option_copied, option_map};
+ghost use Rattle.osm_table.specs.Parts.{entry_lent};
 ghost use Rattle.osm_table.specs.Told.{told_of};
 ghost use Rattle.tool_api.specs.Merged.{lesser, least, references, told_refs, unbuilt, merged};
 ghost use Rattle.merge_tool.specs.Intake.{so_far, keep_out, enter, tell, tell_next, refer};
 
 use dataset::{DataSet, Draft};
 use osm_base::{Key, push_references};
-use osm_table::{Base, Entry, SharedEntry, ToldMap};
+use osm_table::{Base, EntryParts, SharedEntry, Told, ToldMap};
 use std::alloc::{AllocError, Global};
 
 /// What a download makes of the table, as far as it was looked through.
@@ -18,6 +20,16 @@ pub struct Intake {
     pub draft: Draft,
     /// The least key so far that keeps the download out.
     pub least: Option<Key>,
+}
+
+/// The parts of an entry, where there is one.
+fn parts(found: Option<&SharedEntry>) -> Option<EntryParts<'_>>
+    ensures { option_map entry_lent result ≡ option_copied found.entry }
+{
+    match found {
+        None => None,
+        Some(entry) => Some(entry.parts()),
+    }
 }
 
 fn lesser(least: Option<Key>, key: Key) -> Option<Key>
@@ -64,13 +76,13 @@ impl Intake {
     fn tell(&mut self, ds: &DataSet, key: Key, news: &SharedEntry) -> Result<(), AllocError>
         ensures { OnOk result (so_far ds.now self.new ≡ tell (so_far ds.now self.old) key (entry_of ds.now key) news.now) }
     {
-        match (news.value(), ds.entry(key)) {
-            (Entry::Incomplete, Some(_)) => Ok(()),
-            (Entry::Known { mine: None, .. }, _) => {
+        match (news.parts(), parts(ds.entry(key))) {
+            (EntryParts::Incomplete, Some(_)) => Ok(()),
+            (EntryParts::Known { mine: None, .. }, _) => {
                 self.keep_out(key);
                 Ok(())
             }
-            (Entry::Known { .. }, Some(Entry::Known { .. })) => {
+            (EntryParts::Known { .. }, Some(EntryParts::Known { .. })) => {
                 self.keep_out(key);
                 Ok(())
             }
@@ -93,9 +105,9 @@ impl Intake {
     fn refer(&mut self, ds: &DataSet, key: Key) -> Result<(), AllocError>
         ensures { OnOk result (so_far ds.now self.new ≡ refer (so_far ds.now self.old) key) }
     {
-        match self.draft.entry(ds, key) {
-            None => self.enter(key, SharedEntry::new(ds.alloc(), Entry::Incomplete)?),
-            Some(Entry::Known { mine: None, .. }) => {
+        match parts(self.draft.entry(ds, key)) {
+            None => self.enter(key, SharedEntry::told(ds.alloc(), Told::Mentioned)?),
+            Some(EntryParts::Known { mine: None, .. }) => {
                 self.keep_out(key);
                 Ok(())
             }
@@ -129,7 +141,7 @@ fn references(alloc: Global, told: &ToldMap) -> Result<Vec<Key>, AllocError>
 fn push_told(news: &SharedEntry, keys: &mut Vec<Key>) -> Result<(), AllocError>
     ensures { OnOk result (keys.new.items ≡ keys.old.items ++ told_refs (Some (told_of news.now))) }
 {
-    match news.value().base() {
+    match news.base() {
         Some(Base::Live { content, .. }) => push_references(content, keys),
         _ => Ok(()),
     }

@@ -10,7 +10,7 @@ ghost use Rattle.dataset.specs.Sound.{IsSound};
 use crate::MergeTool;
 use dataset::{DataSet, Draft};
 use osm_base::{Content, Coord, Key, Kind, Meta, Refs, Tags};
-use osm_table::{Entry, Told, ToldMap};
+use osm_table::{Entry, EntryParts, Told, ToldMap};
 use std::alloc::{AllocError, Global};
 use std::test::Fail;
 use tool_api::{Job, Refusal, Reply, Steps, Tool};
@@ -90,11 +90,13 @@ fn download(alloc: Global, news: &[News]) -> Result<ToldMap, AllocError> {
 
 /// `-` for no entry, `?` for Incomplete, `+` for a living one, `x` for a deleted one.
 fn state(ds: &DataSet, key: Key) -> u8 {
-    match ds.entry(key) {
-        None => b'-',
-        Some(Entry::Incomplete) => b'?',
-        Some(Entry::Known { mine: None, .. }) => b'x',
-        Some(_) => b'+',
+    let Some(entry) = ds.entry(key) else {
+        return b'-';
+    };
+    match entry.parts() {
+        EntryParts::Incomplete => b'?',
+        EntryParts::Known { mine: None, .. } => b'x',
+        EntryParts::Known { .. } => b'+',
     }
 }
 
@@ -147,7 +149,10 @@ fn deletion(ds: &DataSet, key: Key) -> Result<Draft, AllocError>
 {
     ds.sound();
     let mut draft = Draft::new(ds);
-    if let Some(Entry::Known { base, .. }) = ds.entry(key) {
+    let Some(entry) = ds.entry(key) else {
+        return Ok(draft);
+    };
+    if let EntryParts::Known { base, .. } = entry.parts() {
         if base.content().is_some() {
             let after = Entry::Known {
                 base: base.copy()?,

@@ -1,3 +1,5 @@
+pub mod Kept
+pub mod Parts
 pub mod Same
 pub mod Table
 pub mod TableCode

@@ -12,12 +12,14 @@
 
 mod entry;
 mod shared;
+mod shared_entry;
 mod table;
 mod told;
 mod told_map;
 
 pub use entry::{Base, Conflict, Entry, Why};
-pub use shared::{Shared, SharedEntry};
+pub use shared::Shared;
+pub use shared_entry::{EntryParts, SharedEntry};
 pub use table::Table;
 pub use told::Told;
 pub use told_map::ToldMap;

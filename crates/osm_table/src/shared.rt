@@ -1,7 +1,6 @@
 //! Values that stand in several places at once.
 ghost use Rattle.std.specs.Prelude.{◌≡◌, IfOk};
 
-use crate::entry::Entry;
 use std::alloc::{AllocError, Global};
 use std::marker::Model;
 use std::rc::Rc;
@@ -11,9 +10,6 @@ use std::rc::Rc;
 pub struct Shared<T> {
     shared: Rc<T>,
 }
-
-/// An entry that stands in a table and in the patches that led there.
-pub type SharedEntry = Shared<Entry>;
 
 impl<T> Model for Shared<T> {
     ghost Value = { T };

@@ -7,8 +7,7 @@ ghost use Rattle.std.specs.List.{IsDistinct};
 ghost use Rattle.osm_base.specs.KeyEq.{eq};
 ghost use Rattle.osm_table.specs.Table.{entry_of, with_entry, without_entry, keys_by_rank};
 
-use crate::entry::Entry;
-use crate::shared::SharedEntry;
+use crate::shared_entry::SharedEntry;
 use indexmap::IndexMap;
 use osm_base::{Key, Keys};
 use std::alloc::{AllocError, Global};
@@ -64,17 +63,7 @@ impl Table {
     }
 
     /// The entry of a key.
-    pub fn get(&self, key: Key) -> Option<&Entry>
-        ensures { option_copied result ≡ entry_of self.now key }
-    {
-        match self.get_shared(key) {
-            None => None,
-            Some(entry) => Some(entry.value()),
-        }
-    }
-
-    /// The entry of a key, to stand elsewhere too.
-    pub fn get_shared(&self, key: Key) -> Option<&SharedEntry>
+    pub fn get(&self, key: Key) -> Option<&SharedEntry>
         ensures { option_copied result ≡ entry_of self.now key }
     {
         self.entries.get(&key)
@@ -131,6 +120,7 @@ fn keys(entries: &IndexMap<Key, SharedEntry>) -> Result<Vec<Key>, AllocError>
 #[cfg(test)]
 mod tests {
     use super::*;
+    use crate::entry::Entry;
     use osm_base::Kind;
     use std::test::Fail;
 

@@ -8,8 +8,7 @@ ghost use Rattle.osm_base.specs.Rank.{is_key};
 ghost use Rattle.osm_table.specs.Table.{IsPositive};
 ghost use Rattle.osm_table.specs.Told.{entry_told, told_of, told_at, with_told, with_mention, IsTold, IsToldMap};
 
-use crate::entry::Entry;
-use crate::shared::SharedEntry;
+use crate::shared_entry::SharedEntry;
 use crate::told::Told;
 use indexmap::IndexMap;
 use osm_base::Key;
@@ -55,7 +54,7 @@ impl ToldMap {
     {
         Ok(ToldMap {
             entries: IndexMap::with_capacity(alloc, keys)?,
-            mentioned: SharedEntry::new(alloc, Entry::Incomplete)?,
+            mentioned: SharedEntry::told(alloc, Told::Mentioned)?,
         })
     }
 
@@ -68,7 +67,7 @@ impl ToldMap {
         ensures ok { OnOk result (self.new ≡ with_told self.old key told) }
         ensures err { OnErr result (self.new ≡ self.old) }
     {
-        let entry = SharedEntry::new(*self.entries.allocator(), told.into_entry()?)?;
+        let entry = SharedEntry::told(*self.entries.allocator(), told)?;
         self.set(key, entry)
     }
 
@@ -178,15 +177,12 @@ mod tests {
             id: 7,
         };
         for (key, version) in [(way, Some(3)), (node, Some(0)), (other, None)] {
-            assert_eq!(rt;
-                map.get(key).map(|entry| version_of(entry.value())),
-                version
-            );
+            assert_eq!(rt; map.get(key).map(version_of), version);
         }
         Ok(())
     }
 
-    fn version_of(entry: &Entry) -> u32 {
+    fn version_of(entry: &SharedEntry) -> u32 {
         match entry.base() {
             Some(base) => base.version(),
             None => 0,

@@ -26,22 +26,25 @@ use crate::steps::Steps;
 use crate::tests::is_named;
 use dataset::{DataSet, Draft};
 use osm_base::{Content, Key, Keys, fits, same};
-use osm_table::Entry;
+use osm_table::{EntryParts, SharedEntry};
 use std::alloc::AllocError;
 
 /// The last number that a new object may have: ids are from -10^18 on.
 const LAST_NUMBER: u64 = 1_000_000_000_000_000_000;
 
-fn in_conflict(found: Option<&Entry>) -> bool
+fn in_conflict(found: Option<&SharedEntry>) -> bool
     ensures { result ≡ in_conflict (option_copied found.entry) }
 {
-    match found {
-        Some(Entry::Known { conflict, .. }) => conflict.is_some(),
-        _ => false,
+    let Some(entry) = found else {
+        return false;
+    };
+    match entry.parts() {
+        EntryParts::Incomplete => false,
+        EntryParts::Known { conflict, .. } => conflict.is_some(),
     }
 }
 
-fn same_entries(a: Option<&Entry>, b: Option<&Entry>) -> bool
+fn same_entries(a: Option<&SharedEntry>, b: Option<&SharedEntry>) -> bool
     ensures { result ≡ same_at (option_copied a.entry) (option_copied b.entry) }
 {
     match (a, b) {
@@ -51,7 +54,12 @@ fn same_entries(a: Option<&Entry>, b: Option<&Entry>) -> bool
     }
 }
 
-fn disturbs(named: &[Key], key: Key, before: Option<&Entry>, after: Option<&Entry>) -> bool
+fn disturbs(
+    named: &[Key],
+    key: Key,
+    before: Option<&SharedEntry>,
+    after: Option<&SharedEntry>,
+) -> bool
     ensures { result ≡ disturbs named.now key (option_copied before.entry) (option_copied after.entry) }
 {
     in_conflict(before) && !is_named(named, key) && !same_entries(before, after)

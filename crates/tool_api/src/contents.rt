@@ -9,10 +9,10 @@ ghost use Rattle.tool_api.specs.Split.{way_refs};
 
 use dataset::DataSet;
 use osm_base::{Content, Key};
-use osm_table::Entry;
+use osm_table::SharedEntry;
 
 /// The content of an entry whose object lives, and none of any other.
-pub fn content(found: Option<&Entry>) -> Option<&Content>
+pub fn content(found: Option<&SharedEntry>) -> Option<&Content>
     ensures { option_copied result ≡ option_and_then mine_of (option_copied found.entry) }
 {
     match found {

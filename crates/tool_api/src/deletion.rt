@@ -30,7 +30,7 @@ fn deleted_at(ds: &DataSet, key: Key) -> Result<Option<Entry>, AllocError>
 {
     match ds.entry(key) {
         None => Ok(None),
-        Some(entry) => Ok(deleted(entry.copy()?)),
+        Some(entry) => Ok(deleted(entry.to_entry()?)),
     }
 }
 

@@ -61,7 +61,7 @@ fn edited_at<E: EditContent>(ds: &DataSet, key: Key, rule: &E) -> Result<Option<
 {
     match ds.entry(key) {
         None => Ok(None),
-        Some(entry) => Ok(Some(edited_entry(entry.copy()?, rule)?)),
+        Some(entry) => Ok(Some(edited_entry(entry.to_entry()?, rule)?)),
     }
 }
 

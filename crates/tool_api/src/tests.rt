@@ -12,7 +12,7 @@ use crate::refusal::Refusal;
 use dataset::DataSet;
 use indexmap::IndexSet;
 use osm_base::{Key, node_key, same_key};
-use osm_table::Entry;
+use osm_table::{EntryParts, SharedEntry};
 use std::alloc::{AllocError, Global};
 
 /// Whether the key is one of those. It walks them up to the first match.
@@ -22,14 +22,16 @@ pub fn is_named(keys: &[Key], key: Key) -> bool
     keys.iter().any(|named| same_key(key, *named))
 }
 
-fn entry_test(kinds: Kinds, key: Key, found: Option<&Entry>) -> Option<Refusal>
+fn entry_test(kinds: Kinds, key: Key, found: Option<&SharedEntry>) -> Option<Refusal>
     ensures { result ≡ entry_test kinds key (option_copied found.entry) }
 {
-    match found {
-        None => Some(Refusal::Absent(key)),
-        Some(Entry::Incomplete) => Some(Refusal::IncompleteObject(key)),
-        Some(Entry::Known { mine: None, .. }) => Some(Refusal::DeletedObject(key)),
-        Some(Entry::Known { conflict, .. }) => {
+    let Some(entry) = found else {
+        return Some(Refusal::Absent(key));
+    };
+    match entry.parts() {
+        EntryParts::Incomplete => Some(Refusal::IncompleteObject(key)),
+        EntryParts::Known { mine: None, .. } => Some(Refusal::DeletedObject(key)),
+        EntryParts::Known { conflict, .. } => {
             if !kinds.takes(key.kind) {
                 return Some(Refusal::WrongKind(key));
             }
@@ -89,14 +91,15 @@ pub fn list_tests(ds: &DataSet, kinds: Kinds, keys: &[Key]) -> Result<Option<Ref
     Ok(target_tests(ds, kinds, keys))
 }
 
-fn reference_test(key: Key, found: Option<&Entry>) -> Option<Refusal>
+fn reference_test(key: Key, found: Option<&SharedEntry>) -> Option<Refusal>
     ensures { result ≡ ref_entry_test key (option_copied found.entry) }
 {
-    match found {
-        None => Some(Refusal::Absent(key)),
-        Some(Entry::Incomplete) => None,
-        Some(Entry::Known { mine: None, .. }) => Some(Refusal::DeletedObject(key)),
-        Some(_) => None,
+    let Some(entry) = found else {
+        return Some(Refusal::Absent(key));
+    };
+    match entry.parts() {
+        EntryParts::Known { mine: None, .. } => Some(Refusal::DeletedObject(key)),
+        _ => None,
     }
 }
 
@@ -112,12 +115,15 @@ pub fn reference_tests(ds: &DataSet, refs: &[Key]) -> Option<Refusal>
     None
 }
 
-fn is_incomplete(found: Option<&Entry>) -> bool
+fn is_incomplete(found: Option<&SharedEntry>) -> bool
     ensures { result ≡ is_incomplete (option_copied found.entry) }
 {
-    match found {
-        Some(Entry::Incomplete) => true,
-        _ => false,
+    let Some(entry) = found else {
+        return false;
+    };
+    match entry.parts() {
+        EntryParts::Incomplete => true,
+        EntryParts::Known { .. } => false,
     }
 }
 

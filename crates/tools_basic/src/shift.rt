@@ -12,7 +12,7 @@ ghost use Rattle.tools_basic.specs.Moves.{moved_with, all_moved_with};
 
 use dataset::DataSet;
 use osm_base::{Content, Coord, Key, shift};
-use osm_table::Entry;
+use osm_table::{EntryParts, SharedEntry};
 use std::alloc::AllocError;
 use tool_api::{
     Command, EditContent, Job, Kinds, Plan, Refusal, Undoable, Verb, content_of, edits_plan,
@@ -83,24 +83,22 @@ fn moved_nodes(ds: &DataSet, keys: &[Key]) -> Result<Vec<Key>, AllocError>
     ranked(collected(ds, keys)?)
 }
 
-fn move_test(key: Key, found: Option<&Entry>, by: &Offset) -> Option<Refusal>
+fn move_test(key: Key, found: Option<&SharedEntry>, by: &Offset) -> Option<Refusal>
     ensures { result ≡ move_entry_test by.now.dx by.now.dy key (option_copied found.entry) }
 {
-    match found {
-        None => None,
-        Some(Entry::Incomplete) => Some(Refusal::IncompleteObject(key)),
-        Some(
-            Entry::Known {
-                conflict: Some(_),
-                ..
-            },
-        ) => Some(Refusal::InConflict(key)),
-        Some(
-            Entry::Known {
-                mine: Some(Content::Node { at, .. }),
-                ..
-            },
-        ) => {
+    let Some(entry) = found else {
+        return None;
+    };
+    match entry.parts() {
+        EntryParts::Incomplete => Some(Refusal::IncompleteObject(key)),
+        EntryParts::Known {
+            conflict: Some(_),
+            ..
+        } => Some(Refusal::InConflict(key)),
+        EntryParts::Known {
+            mine: Some(Content::Node { at, .. }),
+            ..
+        } => {
             if shift(*at, by.dx, by.dy).is_none() {
                 return Some(Refusal::OutOfRange(key));
             }

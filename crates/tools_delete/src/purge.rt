@@ -12,22 +12,22 @@ ghost use Rattle.tools_delete.specs.Purged.{new_use_test, purged};
 
 use dataset::{DataSet, Draft};
 use osm_base::{Key, Keys};
-use osm_table::{Base, Entry};
+use osm_table::{Base, Entry, EntryParts, SharedEntry};
 use std::alloc::AllocError;
 use tool_api::{Command, Job, KeySet, Plan, Refusal, Undoable, Verb, twice_test, use_test};
 
-fn purge_test(key: Key, found: Option<&Entry>) -> Option<Refusal>
+fn purge_test(key: Key, found: Option<&SharedEntry>) -> Option<Refusal>
     ensures { result ≡ purge_entry_test key (option_copied found.entry) }
 {
-    match found {
-        None => Some(Refusal::Absent(key)),
-        Some(
-            Entry::Known {
-                conflict: Some(_),
-                ..
-            },
-        ) => Some(Refusal::InConflict(key)),
-        Some(_) => None,
+    let Some(entry) = found else {
+        return Some(Refusal::Absent(key));
+    };
+    match entry.parts() {
+        EntryParts::Known {
+            conflict: Some(_),
+            ..
+        } => Some(Refusal::InConflict(key)),
+        _ => None,
     }
 }
 
@@ -42,16 +42,17 @@ fn purge_tests(ds: &DataSet, keys: &[Key]) -> Option<Refusal>
     None
 }
 
-fn is_new(found: Option<&Entry>) -> bool
+fn is_new(found: Option<&SharedEntry>) -> bool
     ensures { result ≡ is_new (option_copied found.entry) }
 {
-    match found {
-        Some(
-            Entry::Known {
-                base: Base::New,
-                ..
-            },
-        ) => true,
+    let Some(entry) = found else {
+        return false;
+    };
+    match entry.parts() {
+        EntryParts::Known {
+            base: Base::New,
+            ..
+        } => true,
         _ => false,
     }
 }

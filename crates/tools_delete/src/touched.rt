@@ -12,7 +12,7 @@ ghost use Rattle.tools_delete.specs.Touched.{falls_short, is_free, is_left_by, i
 use crate::mending::mended_ids;
 use dataset::DataSet;
 use osm_base::{Content, Key, push_references};
-use osm_table::Entry;
+use osm_table::{EntryParts, SharedEntry};
 use std::alloc::{AllocError, Global};
 use tool_api::{KeySet, all_users, content_of, distinct, is_relation};
 
@@ -120,17 +120,18 @@ fn is_untagged_node(content: &Content) -> bool
     }
 }
 
-fn is_bare(found: Option<&Entry>) -> bool
+fn is_bare(found: Option<&SharedEntry>) -> bool
     ensures { result ≡ is_bare (option_copied found.entry) }
 {
-    match found {
-        Some(
-            Entry::Known {
-                mine: Some(content),
-                conflict: None,
-                ..
-            },
-        ) => is_untagged_node(content),
+    let Some(entry) = found else {
+        return false;
+    };
+    match entry.parts() {
+        EntryParts::Known {
+            mine: Some(content),
+            conflict: None,
+            ..
+        } => is_untagged_node(content),
         _ => false,
     }
 }

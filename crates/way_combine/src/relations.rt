@@ -87,7 +87,7 @@ fn folded_at(
 {
     match ds.entry(key) {
         None => Ok(Some(None)),
-        Some(entry) => match folded_entry(ds.alloc(), entry.copy()?, ways, kept)? {
+        Some(entry) => match folded_entry(ds.alloc(), entry.to_entry()?, ways, kept)? {
             None => Ok(None),
             Some(after) => Ok(Some(Some(after))),
         },

@@ -17,10 +17,13 @@ copied_some (Some b) = refl
 pub returns : goal.returns
 returns c = none_sound c.args.ds.now c.new-draft.result c.sound.ensures c.new-draft.ensures
 
+pub returns-in_default : goal.returns-in_default
+returns-in_default c = none_sound c.args.ds.now c.new-draft.result c.sound.ensures c.new-draft.ensures
+
 pub returns-then-is_some : goal.returns-then-is_some
 returns-then-is_some c =
-    deleted_sound c.args.ds.now c.put.new.self c.args.key c.in-Some-Known.base c.in-Some-Known.field-0-1 c.in-Some-Known.field-0-2 c.sound.ensures c.requires
-    (sym c.in-Some-Known.ensures ∙ ap (λ (e : Entry). Some e) c.in-Some-Known.field-0-is)
+    deleted_sound c.args.ds.now c.put.new.self c.args.key c.in-Known.base.now (option_copied c.in-Known.mine) (option_copied c.in-Known.conflict) c.sound.ensures c.requires
+    (sym c.in-Some.ensures ∙ ap (λ (e : Entry). Some e) (sym c.in-Known.ensures))
     (ap (λ (o : Option Content). is_some o) (sym c.content.ensures) ∙ copied_some c.content.result ∙ sym c.if-is_some.ensures)
     (c.in_ok-put.ensures.ok ∙ ap (λ (d : DraftValue). record { puts = fin.insert d.puts c.args.key (Some (Known c.in_ok-copy.field-0 None None)); next = d.next }) c.new-draft.ensures
     ∙ ap (λ (b : Base). one_put c.args.ds.now c.args.key (Some (Known b None None))) c.in_ok-copy.ensures)

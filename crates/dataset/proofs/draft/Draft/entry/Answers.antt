@@ -13,7 +13,7 @@ pub returns-in-Some : goal.returns-in-Some
 returns-in-Some c =
     let found : Some c.in-Some.after.now ≡ map.get c.args.self.now.puts c.args.key =
     c.in-Some.ensures.value ∙ get_view rank_total rank_exact rank_ties c.self.inside.puts.entries c.args.key ∙ ap (λ (d : DraftValue). map.get d.puts c.args.key) c.self.view_is in
-    c.entry_in.ensures ∙ sym (get_drafted c.args.self.now c.args.ds.now c.args.key ∙ ap (λ (o : Option (Option Entry)). unwrap_or o (entry_of c.args.ds.now c.args.key)) (sym found))
+    c.as_ref.ensures.value ∙ sym (get_drafted c.args.self.now c.args.ds.now c.args.key ∙ ap (λ (o : Option (Option Entry)). unwrap_or o (entry_of c.args.ds.now c.args.key)) (sym found))
 
 pub returns-in-None : goal.returns-in-None
 returns-in-None c =

@@ -11,5 +11,5 @@ invariant_of-result c = (
   subst (λ (es : List (Key × Entry)). IsToldMap (told_kept es)) (sym c.in_ok-with_capacity.ensures.empty) told_empty,
   subst (λ (es : List (Key × Entry)). AreTold es) (sym c.in_ok-with_capacity.ensures.empty) (λ key e has. cc),
   c.in_ok-with_capacity.ensures.unique,
-  c.in_ok-new.ensures,
+  c.in_ok-told.ensures,
 )
