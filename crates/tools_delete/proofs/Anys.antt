@@ -80,19 +80,15 @@ whole p [] none = refl
 whole p (x ∷ xs) none = whole_case p (p x) x xs none (whole p xs)
 
 -- what is left of a list after `dedup` was in it
-or_more : (a b c : Bool) → (a || c) ≡ true → (a || (b || c)) ≡ true
-or_more true b c e = refl
-or_more false b c e = or_right b c e
-
-or_else : (a b c : Bool) → (a || b) ≡ true → (b ≡ true → c ≡ true) → (a || c) ≡ true
-or_else true b c e h = refl
-or_else false b c e h = h e
+or_weaker : (a b c d : Bool) → (a ≡ true → c ≡ true) → (b ≡ true → d ≡ true) → (a || b) ≡ true → (c || d) ≡ true
+or_weaker true b c d f g e = ap (λ x. x || d) (f refl)
+or_weaker false b c d f g e = or_right c d (g e)
 
 module _ {X : Type 0} (p : X → Bool) (same : X → X → Bool) where
   dedup_case : (b : Bool) (k x : X) (xs : List X) → list_any p (cond b (dedup_from same k xs) (k ∷ dedup_from same x xs)) ≡ true
       → ((y : X) → list_any p (dedup_from same y xs) ≡ true → (p y || list_any p xs) ≡ true) → (p k || (p x || list_any p xs)) ≡ true
-  dedup_case true k x xs any rest = or_more (p k) (p x) (list_any p xs) (rest k any)
-  dedup_case false k x xs any rest = or_else (p k) (list_any p (dedup_from same x xs)) (p x || list_any p xs) any (rest x)
+  dedup_case true k x xs any rest = or_weaker (p k) (list_any p xs) (p k) (p x || list_any p xs) (λ e. e) (or_right (p x) (list_any p xs)) (rest k any)
+  dedup_case false k x xs any rest = or_weaker (p k) (list_any p (dedup_from same x xs)) (p k) (p x || list_any p xs) (λ e. e) (rest x) any
 
   any_dedup_from : (xs : List X) (k : X) → list_any p (dedup_from same k xs) ≡ true → (p k || list_any p xs) ≡ true
   any_dedup_from [] k any = any
@@ -103,10 +99,6 @@ module _ {X : Type 0} (p : X → Bool) (same : X → X → Bool) where
   any_dedup (x ∷ xs) any = any_dedup_from xs x any
 
 -- lists of anything
-
-or_weaker : (a b c d : Bool) → (a ≡ true → c ≡ true) → (b ≡ true → d ≡ true) → (a || b) ≡ true → (c || d) ≡ true
-or_weaker true b c d f g e = ap (λ x. x || d) (f refl)
-or_weaker false b c d f g e = or_right c d (g e)
 
 module _ {X : Type 0} where
   filter_case : (p q : X → Bool) (b : Bool) (x : X) (xs : List X) (rest : Bool) → p x ≡ b → list_any q (filter p xs) ≡ rest → list_any q (cond b (x ∷ filter p xs) (filter p xs)) ≡ ((b && q x) || rest)

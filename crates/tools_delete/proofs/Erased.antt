@@ -5,10 +5,13 @@ use Rattle.std.specs.List.{list_all, list_any}
 use Rattle.std.specs.Option.{option_map, option_map_or, option_and_then}
 use Rattle.std.specs.FinMap as fin
 use Rattle.osm_base.proofs.RisingKeys.{in_filter}
+use Rattle.osm_base.specs.Tags.{Pair}
 use Rattle.osm_base.specs.declared.key.Key.{Key}
 use Rattle.osm_base.specs.declared.members.Member.{Member}
 use Rattle.osm_base.specs.declared.content.Content.{Content}
 use Rattle.osm_base.specs.declared.content.Content.TheVariants as content
+use Rattle.osm_table.specs.declared.entry.Base.{Base}
+use Rattle.osm_table.specs.declared.entry.Conflict.{Conflict}
 use Rattle.osm_table.specs.declared.entry.Entry.{Entry}
 use Rattle.osm_table.specs.declared.entry.Entry.TheVariants.{Incomplete, Known}
 use Rattle.osm_table.specs.Table.{TableValue, entry_of, mine_of, users, keys_by_rank}
@@ -16,12 +19,11 @@ use Rattle.osm_table.proofs.Each.{same_table}
 use Rattle.tool_api.specs.Tests.{is_named}
 use Rattle.tool_api.specs.Changes.{changed, content_of, delete, deleted, edit, with_mine}
 use Rattle.tool_api.specs.Basic.{with_members, with_refs}
-use Rattle.tool_api.specs.Gone.{erased, falls, goes, gone_keys, is_bare, is_left, is_mended, is_mended_content, is_relation, members_without, mended, mended_ways, relations_left}
+use Rattle.tool_api.specs.Gone.{erased, falls, goes, gone_keys, is_bare, is_mended, is_mended_content, is_relation, members_without, mended, mended_ways, relations_left}
 use Rattle.tool_api.proofs.Looks.{entry_changed, next_changed}
 use Rattle.tools_delete.specs.Touched.{erased_with, falls_short, has_gone, is_left_by, lives_as_relation, lives_as_way, loses_members}
 use Rattle.tools_delete.proofs.Anys.{whole}
 use Rattle.tools_delete.proofs.Deletes.{either, left_from}
-use Rattle.tool_api.proofs.Bools.{and_false, or_none}
 
 -- an entry that goes, is mended, or loses members
 abbrev pub touched : Bool → Bool → Bool → (Content → Content) → (Content → Content) → Option Entry → Option Entry
@@ -100,56 +102,32 @@ after t named k e has =
 
 -- The draft touches only relations that lose a member: the others stay as they are.
 
-relation_case : (going : List Key) (e : Entry) → option_map_or is_relation (mine_of e) false ≡ true → option_map_or (has_gone going) (mine_of e) false ≡ false → with_mine (with_members (members_without (is_named going))) e ≡ e
-relation_case going Incomplete is none = cc
-relation_case going (Known base None conflict) is none = cc
-relation_case going (Known base (Some (content.Node tags at)) conflict) is none = cc
-relation_case going (Known base (Some (content.Way tags refs)) conflict) is none = cc
-relation_case going (Known base (Some (content.Relation tags members)) conflict) is none = ap (λ (ms : List Member). Known base (Some (content.Relation tags ms)) conflict) (whole (λ (m : Member). is_named going m.key) members none)
+relation_case : (going : List Key) (base : Base) (tags : List Pair) (members : List Member) (conflict : Option Conflict) (has : Bool) → list_any (λ (m : Member). is_named going m.key) members ≡ has
+    → let old = Known base (Some (content.Relation tags members)) conflict in
+    let new = with_mine (with_members (members_without (is_named going))) old in
+    cond has (Some new) (Some old) ≡ Some new
+relation_case going base tags members conflict true is = refl
+relation_case going base tags members conflict false is = sym (ap (λ (ms : List Member). Some (Known base (Some (content.Relation tags ms)) conflict)) (whole (λ (m : Member). is_named going m.key) members is))
 
-not_mended : (named : List Key) (o : Option Content) → option_map_or is_relation o false ≡ true → option_map_or (is_mended_content named) o false ≡ false
-not_mended named None is = cc
-not_mended named (Some (content.Node tags at)) is = cc
-not_mended named (Some (content.Way tags refs)) is = cc
-not_mended named (Some (content.Relation tags members)) is = refl
-
-not_bare : (o : Option Entry) → option_map_or is_relation (option_and_then mine_of o) false ≡ true → is_bare o ≡ false
-not_bare None is = cc
-not_bare (Some Incomplete) is = cc
-not_bare (Some (Known base None conflict)) is = cc
-not_bare (Some (Known base (Some (content.Node tags at)) conflict)) is = cc
-not_bare (Some (Known base (Some (content.Way tags refs)) conflict)) is = refl
-not_bare (Some (Known base (Some (content.Relation tags members)) conflict)) is = refl
-
-same_edited : (going : List Key) (o : Option Entry) → option_map_or is_relation (option_and_then mine_of o) false ≡ true → option_map_or (has_gone going) (option_and_then mine_of o) false ≡ false
-    → option_map (with_mine (with_members (members_without (is_named going)))) o ≡ o
-same_edited going None is none = cc
-same_edited going (Some e) is none = ap Some (relation_case going e is none)
-
--- where a relation stays and has no member that goes, nothing changes
-fewer_case : (f g : Content → Content) (going mending falls rel has : Bool) (o : Option Entry)
-    → (rel ≡ true → has ≡ false → option_map (with_mine g) o ≡ o) → (rel ≡ true → mending ≡ false) → (rel ≡ true → falls ≡ false → going ≡ false) → (has ≡ true → rel ≡ true)
-    → touched going mending (not falls && has) f g o ≡ touched going mending (not falls && rel) f g o
-fewer_case f g going mending true rel has o same no_way no_node is = refl
-fewer_case f g going mending false rel true o same no_way no_node is = ap (λ b. touched going mending b f g o) (sym (is refl))
-fewer_case f g going mending false false false o same no_way no_node is = refl
-fewer_case f g going mending false true false o same no_way no_node is = rw (no_way refl, no_node refl refl) (sym (same refl refl))
-
-has_relation : (going : List Key) (o : Option Content) → option_map_or (has_gone going) o false ≡ true → option_map_or is_relation o false ≡ true
-has_relation going None h = cc
-has_relation going (Some (content.Node tags at)) h = cc
-has_relation going (Some (content.Way tags refs)) h = cc
-has_relation going (Some (content.Relation tags members)) h = refl
+-- an entry by itself, given whether its key is named and falls, whether a way that falls has it, and whether all its users fall
+fewer_case : (named going : List Key) (f : Content → Content) (named_q falls_q of_way alone : Bool) (o : Option Entry)
+    → let goes_q = falls_q || (is_bare o && of_way && alone) in
+    let mends_q = (not named_q && option_map_or (is_mended_content named) (option_and_then mine_of o) false) && not falls_q in
+    touched goes_q mends_q (not falls_q && option_map_or (has_gone going) (option_and_then mine_of o) false) f (with_members (members_without (is_named going))) o
+    ≡ touched goes_q mends_q (not falls_q && option_map_or is_relation (option_and_then mine_of o) false) f (with_members (members_without (is_named going))) o
+fewer_case named going f named_q falls_q of_way alone None = refl
+fewer_case named going f named_q falls_q of_way alone (Some Incomplete) = refl
+fewer_case named going f named_q falls_q of_way alone (Some (Known base None conflict)) = refl
+fewer_case named going f named_q falls_q of_way alone (Some (Known base (Some (content.Node tags at)) conflict)) = refl
+fewer_case named going f named_q falls_q of_way alone (Some (Known base (Some (content.Way tags refs)) conflict)) = refl
+fewer_case named going f named_q true of_way alone (Some (Known base (Some (content.Relation tags members)) conflict)) = refl
+fewer_case named going f true false of_way alone (Some (Known base (Some (content.Relation tags members)) conflict)) = relation_case going base tags members conflict _ refl
+fewer_case named going f false false of_way alone (Some (Known base (Some (content.Relation tags members)) conflict)) = relation_case going base tags members conflict _ refl
 
 fewer : (t : TableValue) (named going : List Key) (f : Content → Content) (q : Key)
     → touched (goes t named q) (mends t named q) (not (falls t named q) && option_map_or (has_gone going) (content_of t q) false) f (with_members (members_without (is_named going))) (entry_of t q)
     ≡ touched (goes t named q) (mends t named q) (stays_related t named q) f (with_members (members_without (is_named going))) (entry_of t q)
-fewer t named going f q =
-    fewer_case f (with_members (members_without (is_named going))) (goes t named q) (mends t named q) (falls t named q) (lives_as_relation t q) (option_map_or (has_gone going) (content_of t q) false) (entry_of t q)
-    (same_edited going (entry_of t q))
-    (λ rel. ap (λ b. b && not (falls t named q)) (and_false (not (is_named named q)) _ (not_mended named (content_of t q) rel)))
-    (λ rel stays. or_none (falls t named q) (is_left t named q) stays (ap (λ b. b && list_any (λ u. falls t named u && lives_as_way t u) (users t q) && list_all (falls t named) (users t q)) (not_bare (entry_of t q) rel)))
-    (has_relation going (content_of t q))
+fewer t named going f q = fewer_case named going f (is_named named q) (falls t named q) (list_any (λ u. falls t named u && lives_as_way t u) (users t q)) (list_all (falls t named) (users t q)) (entry_of t q)
 
 -- The sets that the index gives make the erased table.
 pub erased_by : (t : TableValue) (named ways falling going relations staying : List Key)
