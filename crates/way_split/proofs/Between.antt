@@ -1,14 +1,14 @@
 -- The pieces of references lie between the cuts.
-use Rattle.std.proofs.Common.{◌≡◌, ◌+◌, ◌-◌, ◌≤◌, ◌&&◌, ◌||◌, ℕ, ℤ, zero, suc, Bool, true, false, cond, not, nat_lt, nat_le, List, [], ◌∷◌, ◌++◌, length, drop, take, flat_map, Option, Some, None, refl, sym, ap, ◌∙◌, subst, append_assoc, arith}
+use Rattle.std.proofs.Common.{◌≡◌, ◌+◌, ◌-◌, ◌<◌, ◌≤◌, ◌&&◌, ◌||◌, ℕ, ℤ, zero, suc, Bool, true, false, cond, not, nat_lt, nat_le, List, [], ◌∷◌, ◌++◌, length, drop, take, flat_map, Option, Some, None, refl, sym, ap, ◌∙◌, subst, append_assoc, arith}
 use Rattle.std.specs.List.{list_all, list_any, last_or}
 use Rattle.std.proofs.lemmas.Bool.Decides.{nat_tests, Decides-int_eq}
-use Rattle.std.proofs.lemmas.List.{length-append}
+use Rattle.std.proofs.lemmas.List.{append-nil, length-append}
 use Rattle.std.proofs.lemmas.List.Folds.{list_any-append}
 use Rattle.std.proofs.Math.Seq.{take-append_seam}
 use Rattle.tool_api.specs.Combine.{last_in, same_end}
 use Rattle.tool_api.specs.Split.{pieces_from, pieces}
-use Rattle.tool_api.proofs.Bools.{and_left, and_right, both, or_none}
-use Rattle.way_split.specs.Pieces.{together, inner, all_meet}
+use Rattle.tool_api.proofs.Bools.{and_false, none_of_two, and_left, and_right, both, or_none}
+use Rattle.way_split.specs.Pieces.{together, inner, all_meet, LieBetween}
 
 more : (piece : List ℤ) (x : ℤ) → length (piece ++ x ∷ []) ≡ length piece + 1
 more piece x = length-append piece (x ∷ [])
@@ -35,7 +35,7 @@ whole_from cut piece [] = refl
 whole_from cut piece (x ∷ xs) =
     together_case (nat_lt 0 (length xs) && cut x) piece xs x (pieces_from cut (x ∷ []) xs) (pieces_from cut (piece ++ x ∷ []) xs) (rest_whole cut x [] xs) (whole_from cut (piece ++ x ∷ []) xs)
 
-pub whole : (cut : ℤ → Bool) (refs : List ℤ) → together (pieces cut refs) ≡ refs
+whole : (cut : ℤ → Bool) (refs : List ℤ) → together (pieces cut refs) ≡ refs
 whole cut [] = refl
 whole cut (x ∷ xs) = whole_from cut (x ∷ []) xs
 
@@ -87,7 +87,7 @@ uncut_from cut y piece (x ∷ z ∷ zs) e =
     uncut_case cut (nat_lt 0 (length (z ∷ zs)) && cut x) (y ∷ (piece ++ x ∷ [])) (pieces_from cut (x ∷ []) (z ∷ zs)) (pieces_from cut (y ∷ (piece ++ x ∷ [])) (z ∷ zs)) (longer_uncut cut y piece x e) (uncut_from cut x [] (z ∷ zs) refl)
     (λ no. uncut_from cut y (piece ++ x ∷ []) (z ∷ zs) (list_any-append cut piece (x ∷ []) ∙ or_none (list_any cut piece) (cut x || false) e (or_none (cut x) false (not_cut (nat_lt 0 (length (z ∷ zs))) (cut x) (some_after (length zs)) no) refl)))
 
-pub no_inner_cut : (cut : ℤ → Bool) (refs : List ℤ) → list_all (λ p. not (list_any cut (inner p))) (pieces cut refs) ≡ true
+no_inner_cut : (cut : ℤ → Bool) (refs : List ℤ) → list_all (λ p. not (list_any cut (inner p))) (pieces cut refs) ≡ true
 no_inner_cut cut [] = refl
 no_inner_cut cut (x ∷ xs) = uncut_from cut x [] xs refl
 
@@ -125,7 +125,7 @@ meet_from cut piece (x ∷ xs) =
     meet_case cut (nat_lt 0 (length xs) && cut x) (piece ++ x ∷ []) x (pieces_from cut (x ∷ []) xs) (pieces_from cut (piece ++ x ∷ []) xs)
     (ends None piece x) (and_right (nat_lt 0 (length xs)) (cut x)) (begins cut x [] xs) (meet_from cut (x ∷ []) xs) (meet_from cut (piece ++ x ∷ []) xs)
 
-pub meet_at_cuts : (cut : ℤ → Bool) (refs : List ℤ) → all_meet cut (pieces cut refs) ≡ true
+meet_at_cuts : (cut : ℤ → Bool) (refs : List ℤ) → all_meet cut (pieces cut refs) ≡ true
 meet_at_cuts cut [] = refl
 meet_at_cuts cut (x ∷ xs) = meet_from cut (x ∷ []) xs
 
@@ -149,6 +149,91 @@ long_from cut y piece (x ∷ xs) h =
     long_case (nat_lt 0 (length xs) && cut x) (y ∷ (piece ++ x ∷ [])) (pieces_from cut (x ∷ []) xs) (pieces_from cut (y ∷ (piece ++ x ∷ [])) xs) (two_more (length (piece ++ x ∷ [])) (omega (arith, m)))
     (λ c. long_from cut x [] xs (let some = some_left (length xs) (and_left (nat_lt 0 (length xs)) (cut x) c) in omega (arith, some))) (long_from cut y (piece ++ x ∷ []) xs (omega (arith, m)))
 
-pub none_alone : (cut : ℤ → Bool) (refs : List ℤ) → 2 ≤ length refs → list_all (λ p. nat_le 2 (length p)) (pieces cut refs) ≡ true
+none_alone : (cut : ℤ → Bool) (refs : List ℤ) → 2 ≤ length refs → list_all (λ p. nat_le 2 (length p)) (pieces cut refs) ≡ true
 none_alone cut [] h = refl
 none_alone cut (x ∷ xs) h = long_from cut x [] xs (omega (arith, h))
+
+pub lie_between : (cut : ℤ → Bool) (refs : List ℤ) → 2 ≤ length refs → LieBetween cut refs (pieces cut refs)
+lie_between cut refs h = record { whole = whole cut refs; uncut = no_inner_cut cut refs; joints = meet_at_cuts cut refs; long = none_alone cut refs h }
+
+-- No other pieces do.
+
+not_here : (cut : ℤ → Bool) (piece xs : List ℤ) (x : ℤ) → cut x ≡ false → pieces_from cut piece (x ∷ xs) ≡ pieces_from cut (piece ++ x ∷ []) xs
+not_here cut piece xs x e = ap (λ c. cond c ((piece ++ x ∷ []) ∷ pieces_from cut (x ∷ []) xs) (pieces_from cut (piece ++ x ∷ []) xs)) (and_false (nat_lt 0 (length xs)) (cut x) e)
+
+here : (cut : ℤ → Bool) (piece xs : List ℤ) (x : ℤ) → 0 < length xs → cut x ≡ true → pieces_from cut piece (x ∷ xs) ≡ (piece ++ x ∷ []) ∷ pieces_from cut (x ∷ []) xs
+here cut piece xs x some e =
+    let more : nat_lt 0 (length xs) ≡ true = grind (arith, nat_tests) in
+    ap (λ c. cond c ((piece ++ x ∷ []) ∷ pieces_from cut (x ∷ []) xs) (pieces_from cut (piece ++ x ∷ []) xs)) (both (nat_lt 0 (length xs)) (cut x) more e)
+
+last_one : (cut : ℤ → Bool) (piece front : List ℤ) (z : ℤ) → list_any cut front ≡ false → pieces_from cut piece (front ++ z ∷ []) ≡ (piece ++ (front ++ z ∷ [])) ∷ []
+last_one cut piece [] z none = refl
+last_one cut piece (f ∷ fs) z none =
+    let n = none_of_two (cut f) (list_any cut fs) none in
+    not_here cut piece (fs ++ z ∷ []) f n.0 ∙ last_one cut (piece ++ f ∷ []) fs z n.1 ∙ ap (λ (p : List ℤ). p ∷ []) (append_assoc piece (f ∷ []) (fs ++ z ∷ []))
+
+next_one : (cut : ℤ → Bool) (piece front : List ℤ) (z : ℤ) (xs : List ℤ) → list_any cut front ≡ false → cut z ≡ true → 0 < length xs → pieces_from cut piece (front ++ z ∷ xs) ≡ (piece ++ (front ++ z ∷ [])) ∷ pieces_from cut (z ∷ []) xs
+next_one cut piece [] z xs none is some = here cut piece xs z some is
+next_one cut piece (f ∷ fs) z xs none is some =
+    let n = none_of_two (cut f) (list_any cut fs) none in
+    not_here cut piece (fs ++ z ∷ xs) f n.0 ∙ next_one cut (piece ++ f ∷ []) fs z xs n.1 is some
+    ∙ ap (λ (p : List ℤ). p ∷ pieces_from cut (z ∷ []) xs) (append_assoc piece (f ∷ []) (fs ++ z ∷ []))
+
+-- a piece of two references or more, by its ends
+record Ends (p : List ℤ) : Type 0 where
+  first : ℤ
+  middle : List ℤ
+  last : ℤ
+  is : p ≡ first ∷ (middle ++ last ∷ [])
+
+by_last : (x : ℤ) (xs : List ℤ) → (front : List ℤ) × (z : ℤ) × (x ∷ xs ≡ front ++ z ∷ [])
+by_last x [] = ([], x, refl)
+by_last x (w ∷ ws) = let s = by_last w ws in (x ∷ s.0, s.1, ap (λ (ys : List ℤ). x ∷ ys) s.2)
+
+by_ends : (p : List ℤ) → nat_le 2 (length p) ≡ true → Ends p
+by_ends [] long = let e : false ≡ true = long in cc
+by_ends (y ∷ []) long = let e : false ≡ true = long in cc
+by_ends (y ∷ x ∷ xs) long = let s = by_last x xs in record { first = y; middle = s.0; last = s.1; is = ap (λ (ys : List ℤ). y ∷ ys) s.2 }
+
+not_true : (b : Bool) → not b ≡ true → b ≡ false
+not_true false e = refl
+not_true true e = cc
+
+some_more : (front xs : List ℤ) (z : ℤ) → 0 < length ((front ++ z ∷ []) ++ xs)
+some_more [] xs z = omega arith
+some_more (f ∷ fs) xs z = omega arith
+
+module _ (cut : ℤ → Bool) where
+  abbrev Others : List ℤ → List (List ℤ) → Type 0
+  Others p ps = list_all (uncut cut) (p ∷ ps) ≡ true → all_meet cut (p ∷ ps) ≡ true → list_all (λ (q : List ℤ). nat_le 2 (length q)) ps ≡ true → pieces cut (together (p ∷ ps)) ≡ p ∷ ps
+
+  only_from : (y z : ℤ) (front : List ℤ) (ps : List (List ℤ)) → Others (y ∷ (front ++ z ∷ [])) ps
+  only_from y z front [] uncuts joints long =
+      let none = ap (list_any cut) (sym (inner_longer y front z)) ∙ not_true _ (and_left (uncut cut (y ∷ (front ++ z ∷ []))) true uncuts) in
+      ap (pieces_from cut (y ∷ [])) (append-nil (front ++ z ∷ [])) ∙ last_one cut (y ∷ []) front z none
+  only_from y z front (q ∷ qs) uncuts joints long =
+      let p = y ∷ (front ++ z ∷ []) in
+      let ends_q = by_ends q (and_left (nat_le 2 (length q)) (list_all (λ (q : List ℤ). nat_le 2 (length q)) qs) long) in
+      let none = ap (list_any cut) (sym (inner_longer y front z)) ∙ not_true _ (and_left (uncut cut p) (list_all (uncut cut) (q ∷ qs)) uncuts) in
+      subst (λ (r : List ℤ). list_all (uncut cut) (r ∷ qs) ≡ true → all_meet cut (p ∷ r ∷ qs) ≡ true → pieces cut (together (p ∷ r ∷ qs)) ≡ p ∷ r ∷ qs) (sym ends_q.is)
+      (λ others joined.
+      let x = ends_q.first in
+      let r = x ∷ (ends_q.middle ++ ends_q.last ∷ []) in
+      let rest = (ends_q.middle ++ ends_q.last ∷ []) ++ flat_map (drop 1) qs in
+      let meet_here = and_left (same_end (last_in p) (Some x) && cut x) (all_meet cut (r ∷ qs)) joined in
+      let same : z ≡ x = (Decides-int_eq z x).0 (ap (λ o. same_end o (Some x)) (sym (ends (Some y) front z)) ∙ and_left (same_end (last_in p) (Some x)) (cut x) meet_here) in
+      let is : cut z ≡ true = ap cut same ∙ and_right (same_end (last_in p) (Some x)) (cut x) meet_here in
+      ap (pieces_from cut (y ∷ [])) (append_assoc front (z ∷ []) rest) ∙ next_one cut (y ∷ []) front z rest none is (some_more ends_q.middle (flat_map (drop 1) qs) ends_q.last)
+      ∙ ap (λ (n : ℤ). p ∷ pieces_from cut (n ∷ []) rest) same
+      ∙ ap (λ (ps : List (List ℤ)). p ∷ ps) (only_from x ends_q.last ends_q.middle qs others (and_right (same_end (last_in p) (Some x) && cut x) (all_meet cut (r ∷ qs)) joined)
+      (and_right (nat_le 2 (length q)) (list_all (λ (q : List ℤ). nat_le 2 (length q)) qs) long)))
+      (and_right (uncut cut p) (list_all (uncut cut) (q ∷ qs)) uncuts) joints
+
+  only : (p : List ℤ) (ps : List (List ℤ)) → nat_le 2 (length p) ≡ true → Others p ps
+  only p ps long = let e = by_ends p long in subst (λ (r : List ℤ). Others r ps) (sym e.is) (only_from e.first e.last e.middle ps)
+
+  pub no_other : (refs : List ℤ) (ps : List (List ℤ)) → LieBetween cut refs ps → ps ≡ pieces cut refs
+  no_other refs [] h = ap (pieces cut) h.whole
+  no_other refs (p ∷ ps) h =
+      let long = λ (q : List ℤ). nat_le 2 (length q) in
+      sym (only p ps (and_left (long p) (list_all long ps) h.long) h.uncut h.joints (and_right (long p) (list_all long ps) h.long)) ∙ ap (pieces cut) h.whole

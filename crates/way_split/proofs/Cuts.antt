@@ -1,6 +1,7 @@
 -- Steps of the loops that cut a way and number its pieces.
-use Rattle.std.proofs.Common.{◌≡◌, ℕ, ℤ, zero, suc, pos, ◌+◌, ◌-◌, ◌<◌, ◌≤◌, ◌&&◌, ◌||◌, Bool, true, false, cond, not, nat_lt, nat_le, List, [], ◌∷◌, ◌++◌, length, map, drop, take, get_or, slice_get, Option, Some, None, refl, sym, ap, ◌∙◌, subst, drop-cons, add-one, length-drop, append_assoc, arith}
+use Rattle.std.proofs.Common.{◌≡◌, ℕ, ℤ, suc, pos, ◌+◌, ◌-◌, ◌<◌, ◌≤◌, ◌&&◌, ◌||◌, Bool, true, false, cond, not, nat_lt, nat_le, List, [], ◌∷◌, ◌++◌, length, map, drop, take, get_or, slice_get, Option, Some, None, refl, sym, ap, ◌∙◌, subst, drop-cons, add-one, length-drop, append_assoc, arith}
 use Rattle.std.proofs.lemmas.Bool.Decides.{nat_tests}
+use Rattle.std.proofs.Math.Seq.{take-suc}
 use Rattle.std.proofs.lemmas.Option.{slice_get-get_or}
 use Rattle.std.proofs.lemmas.List.Sums.{prefix_len-le-length}
 use Rattle.std.specs.List.{last_or, position, position_or_len}
@@ -59,11 +60,6 @@ named_nodes (x ∷ ids) id = λ i. same_node id x i || named_nodes ids id i
 
 -- The tests of the named nodes.
 
-take_at : {A : Type 0} (xs : List A) (i : ℕ) (d : A) → i < length xs → take (suc i) xs ≡ take i xs ++ get_or xs i d ∷ []
-take_at [] i d lt = absurd (omega arith)
-take_at (x ∷ xs) zero d lt = refl
-take_at {A = A} (x ∷ xs) (suc i) d lt = ap (λ (ys : List A). x ∷ ys) (take_at xs i d (omega arith))
-
 tests_cases : (a b c : Bool) (k : Key) (rest : Option Refusal) → option_or (when a (NamedTwice k)) (option_or (when (not b) (WrongKind k)) (option_or (when (not c) (NotInWay k)) rest))
     ≡ option_or (option_or (when a (NamedTwice k)) (option_or (when (not b) (WrongKind k)) (when (not c) (NotInWay k)))) rest
 tests_cases true b c k rest = refl
@@ -95,7 +91,7 @@ module _ (refs : List ℤ) (in_way : List Key) (in_refs : (id : ℤ) → is_name
       let k = get_or nodes i none in
       let new : is_named seen k ≡ false = not_seen (is_named seen k) k (option_or (when (not (takes Nodes k.kind)) (WrongKind k)) (when (not (is_named in_way (node k.id))) (NotInWay k))) passed in
       let longer : seen₁ ≡ seen ++ k ∷ [] = put ∙ ap (λ b. cond b seen (seen ++ k ∷ [])) new in
-      let all_seen : take (i + 1) nodes ≡ take i nodes ++ k ∷ [] = rw add-one (take_at nodes i none lt) in (
+      let all_seen : take (i + 1) nodes ≡ take i nodes ++ k ∷ [] = rw add-one (take-suc nodes i none lt) in (
         longer ∙ ap (λ (ks : List Key). ks ++ k ∷ []) before.0 ∙ sym all_seen,
         ap (λ (ks : List Key). node_tests refs ks (drop (i + 1) nodes)) longer ∙ ap (λ (o : Option Refusal). option_or o (node_tests refs (seen ++ k ∷ []) (drop (i + 1) nodes))) passed ∙ sym (tests_at seen nodes i none lt) ∙ before.1,
       )

@@ -2,7 +2,6 @@
 use Rattle.std.proofs.Common.{◌≡◌, ◌+◌, ℕ, ℤ, List, [], ◌∷◌, map, Some, None, ap, ◌∙◌}
 use Rattle.std.specs.FinMap as fin
 use Rattle.osm_base.specs.Content.{kind_of_content}
-use Rattle.osm_base.specs.Tags.{Pair}
 use Rattle.osm_base.specs.declared.key.Key.{Key}
 use Rattle.osm_base.specs.declared.key.Kind.{Kind}
 use Rattle.osm_base.specs.declared.content.Content.{Content}
@@ -17,6 +16,7 @@ use Rattle.tool_api.specs.Basic.{with_refs}
 use Rattle.tool_api.specs.Split.{tags_at, piece_of, others, kept_refs, relations_of, split_table}
 use Rattle.tool_api.specs.Upkeep.{PieceValue, replaced}
 use Rattle.tool_api.proofs.Looks.{next_changed}
+use Rattle.way_split.proofs.Added.{ways_of}
 
 -- a new object put is one added to the draft's table
 pub added_new : (d d₁ d₂ : DraftValue) (n : ℕ) (k : Key) (kind : Kind) (c : Content) → n ≡ d.next → kind ≡ kind_of_content c → k ≡ new_key kind n → d₁ ≡ record { puts = d.puts; next = n + 1 }
@@ -27,9 +27,6 @@ added_new d d₁ d₂ n k kind c number same key first put t =
     ∙ drafted_put (record { puts = d.puts; next = n + 1 }) t k (Some (Known New (Some c) None))
     ∙ ap (λ (x : Key). record { entries = fin.insert (drafted d t).entries x (Known New (Some c) None); next = n + 1 }) key
     ∙ (λ i. record { entries = fin.insert (drafted d t).entries (new_key (same i) (number i)) (Known New (Some c) None); next = number i + 1 })
-
-abbrev ways : List Pair → List (Key × List ℤ) → List Content
-ways tags ps = map (λ (p : Key × List ℤ). content.Way tags p.1) ps
 
 -- The whole draft.
 
@@ -50,5 +47,5 @@ module _ (t : TableValue) (way : Key) (parts : List (Key × List ℤ)) (d₀ d�
       → drafted d₃ t ≡ all_added (drafted d₂ t) (map (λ (p : Key × List ℤ). content.Way (tags_at t way) p.1) (others way parts)) → drafted d₃ t ≡ split_table t way parts
   outlined d₃ rel piece kept added_all =
       added_all
-      ∙ ap (λ (x : TableValue). all_added x (ways (tags_at t way) (others way parts))) (one ∙ ap (λ (x : TableValue). changed x (edit t (with_refs (λ _. refs))) (way ∷ [])) relations)
-      ∙ (λ i. all_added (changed (changed (begun_with i) (edit t (replaced t way (piece i))) (rel i)) (edit t (with_refs (λ _. kept i))) (way ∷ [])) (ways (tags_at t way) (others way parts)))
+      ∙ ap (λ (x : TableValue). all_added x (ways_of (tags_at t way) (others way parts))) (one ∙ ap (λ (x : TableValue). changed x (edit t (with_refs (λ _. refs))) (way ∷ [])) relations)
+      ∙ (λ i. all_added (changed (changed (begun_with i) (edit t (replaced t way (piece i))) (rel i)) (edit t (with_refs (λ _. kept i))) (way ∷ [])) (ways_of (tags_at t way) (others way parts)))

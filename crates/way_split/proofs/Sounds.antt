@@ -26,7 +26,6 @@ use Rattle.osm_table.specs.declared.entry.Entry.TheVariants.{Incomplete, Known}
 use Rattle.osm_table.specs.Table.{TableValue, entry_of, mine_of, keys_by_rank, users, Each, IsThere}
 use Rattle.dataset.specs.Diff.{same_at}
 use Rattle.dataset.specs.Sound.{IsSound, IsSoundEntry, IsNumber, LivesIn}
-use Rattle.dataset.proofs.Changes.{mine_entry}
 use Rattle.dataset.proofs.Differs.{same_at_decides}
 use Rattle.dataset.proofs.Kept.{entry_more}
 use Rattle.tool_api.specs.declared.kinds.Kinds.TheVariants.{Nodes, Ways}
@@ -42,7 +41,7 @@ use Rattle.tool_api.specs.Split.{way_refs, tags_at, node_tests, split_pieces, ke
 use Rattle.tool_api.proofs.Least.{has_key, disturbs_at}
 use Rattle.tool_api.proofs.Looks.{entry_changed, next_changed}
 use Rattle.tool_api.proofs.Passed.{both_none, none_passes, passed_tests, unspoiled, fits_or_stays, none_in}
-use Rattle.tool_api.proofs.Sounds.{each_changed, next_is}
+use Rattle.tool_api.proofs.Sounds.{content_edited, each_changed, next_is}
 use Rattle.way_split.proofs.Holds.{all_pieces_hold, parts_hold, all_filtered, found_holds}
 use Rattle.way_split.proofs.Members.{has_piece, replaced_refers, replaced_kind}
 use Rattle.way_split.proofs.PartKeys.{pieces_are}
@@ -159,8 +158,7 @@ put_sound x g ks s own here = record {
 -- an entry with another content, which fits or is the same, and the same where it is in conflict
 content_sound : (n : ℕ) (k : Key) (base : Base) (c d : Content) (conflict : Option Conflict) → IsSoundEntry n k (Known base (Some c) conflict) → kind_of_content d ≡ kind_of_content c → (fits d ≡ true) ⊎ (Some c ≡ Some d)
     → (is_some conflict ≡ true → Known base (Some c) conflict ≡ Known base (Some d) conflict) → IsSoundEntry n k (Known base (Some d) conflict)
-content_sound n k base c d None s kind (inl fit) calm = mine_entry n k base (Some c) d None s (kind ∙ s.kinds.1) fit tt
-content_sound n k base c d None s kind (inr same) calm = subst (λ (x : Option Content). IsSoundEntry n k (Known base x None)) same s
+content_sound n k base c d None s kind fit calm = content_edited n (λ _. d) k base c kind fit s
 content_sound n k base c d (Some x) s kind fit calm = subst (IsSoundEntry n k) (calm refl) s
 
 -- an entry in conflict that isn't named stays
@@ -343,7 +341,7 @@ module _ (t : TableValue) (limit : ℕ) (way : Key) (nodes : List Key) (kept : �
       let fine : spoils (Some c) (Some d) ≡ false =
       (let a = sym is in let b = sym there in λ i. spoils (option_and_then mine_of (a i)) (option_and_then mine_of (b i))) ∙ unspoiled t u limit (way ∷ nodes) k _ end_passed there in
       let own : IsSoundEntry t.next k (Known base (Some d) None) =
-      content_sound t.next k base c d None (p.sound.entries k _ is) refl (fits_or_stays (Some c) d fine) (λ conf. let f : false ≡ true = conf in cc) in
+      content_edited t.next (λ _. d) k base c refl (fits_or_stays (Some c) d fine) (p.sound.entries k _ is) in
       let nodes_in : RefersIn t d =
       nodes_there t tags (kept_refs way parts) (found_holds (λ n. IsThere (entry_of t (node n))) (λ p. is_key way p.0) parts (parts_there t way nodes kept p.sound p.lives)) in
       subst (λ (x : Entry). IsSoundEntry (joined t way parts).next k x × LivesIn (joined t way parts) x) same

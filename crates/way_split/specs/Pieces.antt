@@ -2,8 +2,8 @@
 --
 -- For example the pieces n1,n2 and n2,n3,n4 put together are n1,n2,n3,n4; they meet at n2, and the inner references of
 -- the second are n3. Of pieces with 2, 3, 3 and 1 references the second is the first of the longest.
-use Rattle.std.specs.Prelude.{ℕ, ℤ, ◌-◌, ◌<◌, ◌≤◌, ◌&&◌, Bool, true, false, List, [], ◌∷◌, ◌++◌, length, map, take, drop, get_or}
-use Rattle.std.specs.List.{flat_map, range_with_len}
+use Rattle.std.specs.Prelude.{◌≡◌, ℕ, ℤ, ◌-◌, ◌<◌, ◌≤◌, ◌&&◌, Bool, true, false, not, nat_le, List, [], ◌∷◌, ◌++◌, length, map, take, drop, get_or}
+use Rattle.std.specs.List.{flat_map, list_all, list_any, range_with_len}
 use Rattle.std.specs.Option.{option_map_or}
 use Rattle.osm_base.specs.declared.key.Key.{Key}
 use Rattle.osm_base.specs.declared.key.Kind.TheVariants as kind
@@ -29,6 +29,17 @@ abbrev pub all_meet : (ℤ → Bool) → List (List ℤ) → Bool
 all_meet cut [] = true
 all_meet cut (p ∷ []) = true
 all_meet cut (p ∷ q ∷ ps) = meet cut p q && all_meet cut (q ∷ ps)
+
+-- The pieces lie between the cuts of the references, and share the nodes there.
+pub record LieBetween (cut : ℤ → Bool) (refs : List ℤ) (ps : List (List ℤ)) : Type 0 where
+  -- put together they are the references
+  pub whole : together ps ≡ refs
+  -- no inner node of a piece is a cut
+  pub uncut : list_all (λ p. not (list_any cut (inner p))) ps ≡ true
+  -- each piece but the last ends where the next begins, at a cut
+  pub joints : all_meet cut ps ≡ true
+  -- none is a node alone
+  pub long : list_all (λ p. nat_le 2 (length p)) ps ≡ true
 
 -- how many references the i-th piece has
 abbrev pub size_at : List (List ℤ) → ℕ → ℕ

@@ -1,20 +1,17 @@
 //! What holds of the pieces of a way, their keys, and the one that stays, said with no loop.
-ghost use Rattle.std.specs.Prelude.{◌≡◌, ◌+◌, ◌-◌, ◌<◌, ◌≤◌, ◌++◌, ◌∷◌, ℕ, ℤ, Bool, List, not, true, false, length, map, nat_le};
-ghost use Rattle.std.specs.List.{list_all, list_any};
+ghost use Rattle.std.specs.Prelude.{◌≡◌, ◌+◌, ◌-◌, ◌<◌, ◌≤◌, ◌++◌, ◌∷◌, ℕ, ℤ, Bool, List, false, length, map};
 ghost use Rattle.osm_base.specs.Rank.{is_key};
 ghost use Rattle.osm_base.specs.declared.key.Key.{Key};
 ghost use Rattle.osm_base.specs.declared.key.Kind.TheVariants as kind;
 ghost use Rattle.tool_api.specs.Changes.{new_key};
 ghost use Rattle.tool_api.specs.Split.{keyed, kept_number, others, pieces};
-ghost use Rattle.way_split.specs.Pieces.{all_meet, inner, IsFirstLongest, new_ways, together};
+ghost use Rattle.way_split.specs.Pieces.{IsFirstLongest, LieBetween, new_ways};
 
-/// Law: the pieces are the references, each joint once; no inner node of a piece is a cut; each piece but the last ends
-/// at a cut, where the next begins; and no piece is a node alone.
+/// Law: the pieces of two references or more lie between their cuts, and no other pieces do. The references are those of
+/// an open way, or the circle of a closed one, read from its first cut round to the same node.
 pub fn pieces_lie_between_cuts()
-    ensures whole { (cut : ℤ → Bool) (refs : List ℤ) → together (pieces cut refs) ≡ refs }
-    ensures uncut { (cut : ℤ → Bool) (refs : List ℤ) → list_all (λ p. not (list_any cut (inner p))) (pieces cut refs) ≡ true }
-    ensures joints { (cut : ℤ → Bool) (refs : List ℤ) → all_meet cut (pieces cut refs) ≡ true }
-    ensures long { (cut : ℤ → Bool) (refs : List ℤ) → 2 ≤ length refs → list_all (λ p. nat_le 2 (length p)) (pieces cut refs) ≡ true }
+    ensures some { (cut : ℤ → Bool) (refs : List ℤ) → 2 ≤ length refs → LieBetween cut refs (pieces cut refs) }
+    ensures no_other { (cut : ℤ → Bool) (refs : List ℤ) (ps : List (List ℤ)) → LieBetween cut refs ps → ps ≡ pieces cut refs }
 {}
 
 /// Law: the piece that stays in the way is the first of the longest.

@@ -1,5 +1,5 @@
-use Rattle.way_split.proofs.Between.{whole, no_inner_cut, meet_at_cuts, none_alone}
+use Rattle.way_split.proofs.Between.{lie_between, no_other}
 use Rattle.way_split.proofs.law.pieces_lie_between_cuts.Goals as goal
 
 pub returns : goal.returns
-returns c = record { whole = whole; uncut = no_inner_cut; joints = meet_at_cuts; long = none_alone }
+returns c = record { some = lie_between; no_other = no_other }
