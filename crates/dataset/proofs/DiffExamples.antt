@@ -1,7 +1,8 @@
 -- The difference of two tables, and what it leads to: a worked example.
-use Rattle.std.proofs.Common.{◌≡◌, ℕ, ℤ, pos, negsuc, List, [], ◌∷◌, Option, Some, None, refl, length, sym, ◌∙◌, arith}
+use Rattle.std.proofs.Common.{◌≡◌, true, ℕ, ℤ, pos, negsuc, List, [], ◌∷◌, Option, Some, None, refl, length, sym, ◌∙◌, arith}
 use Rattle.std.specs.FinMap as fin
 use Rattle.std.specs.FinMap.Entries.{find}
+use Rattle.osm_base.specs.OnMap.{is_on_map}
 use Rattle.osm_base.specs.Rank.{rank_cmp}
 use Rattle.osm_base.specs.RankLaws.{rank_total}
 use Rattle.osm_base.specs.Content.{node}
@@ -24,8 +25,8 @@ n i = node i
 abbrev w : ℤ → Key
 w i = record { kind = kind.Way; id = i }
 
-abbrev dot : ℕ → Content
-dot lon = content.Node [] (record { lon = pos lon; lat = pos 0 })
+abbrev dot : (lon : ℕ) → is_on_map (pos lon) (pos 0) ≡ true → Content
+dot lon on_map = content.Node [] (record { lon = pos lon; lat = pos 0; on_map = on_map })
 
 abbrev line : List ℤ → Content
 line ids = content.Way [] ids
@@ -38,11 +39,11 @@ live c mine = Known (Live 1 c server) mine None
 
 -- before: n1, n2, n3 and the new way w-1
 abbrev before : List (Key × Entry)
-before = (n (pos 1), live (dot 1) (Some (dot 1))) ∷ (n (pos 2), live (dot 2) (Some (dot 2))) ∷ (n (pos 3), Incomplete) ∷ (w (negsuc 0), Known New (Some (line (pos 1 ∷ pos 2 ∷ []))) None) ∷ []
+before = (n (pos 1), live (dot 1 refl) (Some (dot 1 refl))) ∷ (n (pos 2), live (dot 2 refl) (Some (dot 2 refl))) ∷ (n (pos 3), Incomplete) ∷ (w (negsuc 0), Known New (Some (line (pos 1 ∷ pos 2 ∷ []))) None) ∷ []
 
 -- after: n1 is as it was, n2 was moved, n3 came in, w-1 was taken out, and n-2 was added
 abbrev after : List (Key × Entry)
-after = (n (pos 1), live (dot 1) (Some (dot 1))) ∷ (n (pos 2), live (dot 2) (Some (dot 7))) ∷ (n (pos 3), live (dot 3) (Some (dot 3))) ∷ (n (negsuc 1), Known New (Some (dot 4)) None) ∷ []
+after = (n (pos 1), live (dot 1 refl) (Some (dot 1 refl))) ∷ (n (pos 2), live (dot 2 refl) (Some (dot 7 refl))) ∷ (n (pos 3), live (dot 3 refl) (Some (dot 3 refl))) ∷ (n (negsuc 1), Known New (Some (dot 4 refl)) None) ∷ []
 
 abbrev old : TableValue
 old = record { entries = fin.from_sorted before; next = 2 }
@@ -59,9 +60,9 @@ in_new = fin.entries-from_sorted rank_cmp after tt
 -- by rank the keys whose entries differ, and the two numbers
 abbrev patch : PatchValue
 patch = record {
-  edits = record { key = n (pos 2); before = Some (live (dot 2) (Some (dot 2))); after = Some (live (dot 2) (Some (dot 7))) }
-      ∷ record { key = n (pos 3); before = Some Incomplete; after = Some (live (dot 3) (Some (dot 3))) }
-      ∷ record { key = n (negsuc 1); before = None; after = Some (Known New (Some (dot 4)) None) }
+  edits = record { key = n (pos 2); before = Some (live (dot 2 refl) (Some (dot 2 refl))); after = Some (live (dot 2 refl) (Some (dot 7 refl))) }
+      ∷ record { key = n (pos 3); before = Some Incomplete; after = Some (live (dot 3 refl) (Some (dot 3 refl))) }
+      ∷ record { key = n (negsuc 1); before = None; after = Some (Known New (Some (dot 4 refl)) None) }
       ∷ record { key = w (negsuc 0); before = Some (Known New (Some (line (pos 1 ∷ pos 2 ∷ []))) None); after = None }
       ∷ [];
   next_before = 2;
@@ -88,16 +89,16 @@ stands = record {
 }
 
 -- after it each of these keys has what the new table has, and n9 nothing
-stays : entry_of (after_of patch old) (n (pos 1)) ≡ Some (live (dot 1) (Some (dot 1)))
+stays : entry_of (after_of patch old) (n (pos 1)) ≡ Some (live (dot 1 refl) (Some (dot 1 refl)))
 stays = simp (fin.get-insert {X = Entry} rank_total, fin.get-remove {X = Entry} rank_total, at_old) refl
 
-moved : entry_of (after_of patch old) (n (pos 2)) ≡ Some (live (dot 2) (Some (dot 7)))
+moved : entry_of (after_of patch old) (n (pos 2)) ≡ Some (live (dot 2 refl) (Some (dot 7 refl)))
 moved = simp (fin.get-insert {X = Entry} rank_total, fin.get-remove {X = Entry} rank_total, at_old) refl
 
-told : entry_of (after_of patch old) (n (pos 3)) ≡ Some (live (dot 3) (Some (dot 3)))
+told : entry_of (after_of patch old) (n (pos 3)) ≡ Some (live (dot 3 refl) (Some (dot 3 refl)))
 told = simp (fin.get-insert {X = Entry} rank_total, fin.get-remove {X = Entry} rank_total, at_old) refl
 
-added : entry_of (after_of patch old) (n (negsuc 1)) ≡ Some (Known New (Some (dot 4)) None)
+added : entry_of (after_of patch old) (n (negsuc 1)) ≡ Some (Known New (Some (dot 4 refl)) None)
 added = simp (fin.get-insert {X = Entry} rank_total, fin.get-remove {X = Entry} rank_total, at_old) refl
 
 taken_out : entry_of (after_of patch old) (w (negsuc 0)) ≡ None

@@ -34,13 +34,13 @@ abbrev server : Meta
 server = record { changeset = 1; time = None; uid = 1; user = [] }
 
 abbrev dot : Content
-dot = content.Node [] (record { lon = pos 0; lat = pos 0 })
+dot = content.Node [] (record { lon = pos 0; lat = pos 0; on_map = refl })
 
 abbrev bench : Content
-bench = content.Node ((codes "amenity", codes "bench") ∷ []) (record { lon = pos 0; lat = pos 0 })
+bench = content.Node ((codes "amenity", codes "bench") ∷ []) (record { lon = pos 0; lat = pos 0; on_map = refl })
 
 abbrev bin : Content
-bin = content.Node ((codes "amenity", codes "waste_basket") ∷ []) (record { lon = pos 0; lat = pos 0 })
+bin = content.Node ((codes "amenity", codes "waste_basket") ∷ []) (record { lon = pos 0; lat = pos 0; on_map = refl })
 
 abbrev line : List ℤ → Content
 line ids = content.Way [] ids

@@ -98,7 +98,7 @@ unknown = record { changeset = 0; time = None; uid = 0; user = [] }
 abbrev negative : ℕ → Key
 negative i = record { kind = Node; id = negsuc i }
 
-node_brought : line_of Import (codes "n-1 v7 x1.5 y-0.5") ≡ Ok (Object (object_with (negative 0) 0 (Some (content.Node [] (record { lon = pos 15000000; lat = negsuc 4999999 }))) unknown))
+node_brought : line_of Import (codes "n-1 v7 x1.5 y-0.5") ≡ Ok (Object (object_with (negative 0) 0 (Some (content.Node [] (record { lon = pos 15000000; lat = negsuc 4999999; on_map = refl }))) unknown))
 unfolding line_of kind_of_line object_of key_at id_at kind_letter id_text number_text field_into letter_of named_into version_into number_to x_into y_into place_text coord_text size_text pointed_text whole_text part_text completed version_of location_of side_of content_of
 node_brought = refl
 

@@ -2,6 +2,7 @@
 use Rattle.std.proofs.Common.{◌≡◌, ℕ, pos, negsuc, true, false, List, [], ◌∷◌, map, Option, Some, None, refl, Ok, Err}
 use Rattle.std.specs.Prelude.{codes, Result}
 use Rattle.std.specs.FinMap as fin
+use Rattle.osm_base.specs.OnMap.{is_on_map}
 use Rattle.osm_base.specs.Rank.{rank_cmp}
 use Rattle.osm_base.specs.RankLaws.{rank_total}
 use Rattle.osm_base.specs.Content.{node}
@@ -37,11 +38,11 @@ w i = record { kind = kind.Way; id = pos i }
 abbrev server : Meta
 server = record { changeset = 1; time = None; uid = 1; user = [] }
 
-abbrev at : ℕ → Coord
-at lon = record { lon = pos lon; lat = pos 0 }
+abbrev at : (lon : ℕ) → is_on_map (pos lon) (pos 0) ≡ true → Coord
+at lon on_map = record { lon = pos lon; lat = pos 0; on_map = on_map }
 
-abbrev dot : ℕ → Content
-dot lon = content.Node [] (at lon)
+abbrev dot : (lon : ℕ) → is_on_map (pos lon) (pos 0) ≡ true → Content
+dot lon on_map = content.Node [] (at lon on_map)
 
 abbrev line : List ℕ → Content
 line ids = content.Way [] (map pos ids)
@@ -63,60 +64,60 @@ abbrev withdrawn : Content → Entry
 withdrawn c = Known (Live 1 c server) (Some c) (Some (record { why = Withdrawn; theirs = Live 1 c server }))
 
 -- A named object in conflict is refused, whatever its cause.
-changed_named : entry_test Any (n 1) (Some (disputed (dot 0) (Some (dot 1)) (dot 2))) ≡ Some (InConflict (n 1))
+changed_named : entry_test Any (n 1) (Some (disputed (dot 0 refl) (Some (dot 1 refl)) (dot 2 refl))) ≡ Some (InConflict (n 1))
 changed_named = refl
 
-held_named : entry_test Nodes (n 1) (Some (held (dot 0))) ≡ Some (InConflict (n 1))
+held_named : entry_test Nodes (n 1) (Some (held (dot 0 refl))) ≡ Some (InConflict (n 1))
 held_named = refl
 
-withdrawn_named : entry_test Nodes (n 1) (Some (withdrawn (dot 0))) ≡ Some (InConflict (n 1))
+withdrawn_named : entry_test Nodes (n 1) (Some (withdrawn (dot 0 refl))) ≡ Some (InConflict (n 1))
 withdrawn_named = refl
 
 -- That it is deleted here, or of a kind that the job doesn't take, comes before that.
-deleted_first : entry_test Any (n 1) (Some (disputed (dot 0) None (dot 2))) ≡ Some (DeletedObject (n 1))
+deleted_first : entry_test Any (n 1) (Some (disputed (dot 0 refl) None (dot 2 refl))) ≡ Some (DeletedObject (n 1))
 deleted_first = refl
 
-kind_first : entry_test Ways (n 1) (Some (held (dot 0))) ≡ Some (WrongKind (n 1))
+kind_first : entry_test Ways (n 1) (Some (held (dot 0 refl))) ≡ Some (WrongKind (n 1))
 kind_first = refl
 
 -- A new reference may be to an object in conflict that lives.
-may_refer : ref_entry_test (n 1) (Some (held (dot 0))) ≡ None
+may_refer : ref_entry_test (n 1) (Some (held (dot 0 refl))) ≡ None
 may_refer = refl
 
-may_not_refer : ref_entry_test (n 1) (Some (disputed (dot 0) None (dot 2))) ≡ Some (DeletedObject (n 1))
+may_not_refer : ref_entry_test (n 1) (Some (disputed (dot 0 refl) None (dot 2 refl))) ≡ Some (DeletedObject (n 1))
 may_not_refer = refl
 
 -- A node in conflict isn't moved, and that comes before leaving the map.
-moved_in_conflict : move_entry_test (pos 0) (pos 0) (n 1) (Some (withdrawn (dot 0))) ≡ Some (InConflict (n 1))
+moved_in_conflict : move_entry_test (pos 0) (pos 0) (n 1) (Some (withdrawn (dot 0 refl))) ≡ Some (InConflict (n 1))
 moved_in_conflict = refl
 
-conflict_before_range : move_entry_test (pos 3600000000) (pos 0) (n 1) (Some (withdrawn (dot 0))) ≡ Some (InConflict (n 1))
+conflict_before_range : move_entry_test (pos 3600000000) (pos 0) (n 1) (Some (withdrawn (dot 0 refl))) ≡ Some (InConflict (n 1))
 conflict_before_range = refl
 
-out_of_range : move_entry_test (pos 3600000000) (pos 0) (n 1) (Some (live (dot 0))) ≡ Some (OutOfRange (n 1))
+out_of_range : move_entry_test (pos 3600000000) (pos 0) (n 1) (Some (live (dot 0 refl))) ≡ Some (OutOfRange (n 1))
 out_of_range = refl
 
 -- One in conflict isn't purged, deleted or not; an Incomplete one and a deleted one are.
-purged_in_conflict : purge_entry_test (n 1) (Some (held (dot 0))) ≡ Some (InConflict (n 1))
+purged_in_conflict : purge_entry_test (n 1) (Some (held (dot 0 refl))) ≡ Some (InConflict (n 1))
 purged_in_conflict = refl
 
-purged_deleted_in_conflict : purge_entry_test (n 1) (Some (disputed (dot 0) None (dot 2))) ≡ Some (InConflict (n 1))
+purged_deleted_in_conflict : purge_entry_test (n 1) (Some (disputed (dot 0 refl) None (dot 2 refl))) ≡ Some (InConflict (n 1))
 purged_deleted_in_conflict = refl
 
-purged_deleted : purge_entry_test (n 1) (Some (Known (Live 1 (dot 0) server) None None)) ≡ None
+purged_deleted : purge_entry_test (n 1) (Some (Known (Live 1 (dot 0 refl) server) None None)) ≡ None
 purged_deleted = refl
 
 purged_incomplete : purge_entry_test (n 1) (Some Incomplete) ≡ None
 purged_incomplete = refl
 
 -- A node in conflict never goes with the way that falls, nor does one with tags.
-bare : is_bare (Some (live (dot 0))) ≡ true
+bare : is_bare (Some (live (dot 0 refl))) ≡ true
 bare = refl
 
-not_bare : is_bare (Some (held (dot 0))) ≡ false
+not_bare : is_bare (Some (held (dot 0 refl))) ≡ false
 not_bare = refl
 
-not_bare_tagged : is_bare (Some (live (content.Node ((codes "a", codes "1") ∷ []) (at 0)))) ≡ false
+not_bare_tagged : is_bare (Some (live (content.Node ((codes "a", codes "1") ∷ []) (at 0 refl)))) ≡ false
 not_bare_tagged = refl
 
 -- A job disturbs a conflict where it changes or takes out the object and doesn't name it.
@@ -137,15 +138,15 @@ without_is_none = refl
 
 -- Closing tests: a way in conflict with the node n1, before and after
 abbrev before : List (Key × Entry)
-before = (n 1, live (dot 0)) ∷ (w 5, disputed (line (1 ∷ [])) (Some (line (1 ∷ 1 ∷ []))) (line (1 ∷ 1 ∷ 1 ∷ []))) ∷ []
+before = (n 1, live (dot 0 refl)) ∷ (w 5, disputed (line (1 ∷ [])) (Some (line (1 ∷ 1 ∷ []))) (line (1 ∷ 1 ∷ 1 ∷ []))) ∷ []
 
 -- it has no nodes left, which doesn't fit
 abbrev emptied : List (Key × Entry)
-emptied = (n 1, live (dot 0)) ∷ (w 5, disputed (line (1 ∷ [])) (Some (line [])) (line (1 ∷ 1 ∷ 1 ∷ []))) ∷ []
+emptied = (n 1, live (dot 0 refl)) ∷ (w 5, disputed (line (1 ∷ [])) (Some (line [])) (line (1 ∷ 1 ∷ 1 ∷ []))) ∷ []
 
 -- it has one more
 abbrev longer : List (Key × Entry)
-longer = (n 1, live (dot 0)) ∷ (w 5, disputed (line (1 ∷ [])) (Some (line (1 ∷ 1 ∷ 1 ∷ 1 ∷ []))) (line (1 ∷ 1 ∷ 1 ∷ []))) ∷ []
+longer = (n 1, live (dot 0 refl)) ∷ (w 5, disputed (line (1 ∷ [])) (Some (line (1 ∷ 1 ∷ 1 ∷ 1 ∷ []))) (line (1 ∷ 1 ∷ 1 ∷ []))) ∷ []
 
 abbrev table : List (Key × Entry) → ℕ → TableValue
 table es next = record { entries = fin.from_sorted es; next = next }
@@ -185,7 +186,7 @@ no_number = simp (fin.len-entries, fin.get-entries, in_before) refl
 
 -- A street w5 Nn1,n2,n3 in conflict, and w6 Nn3,n4 with its end n4 in conflict
 abbrev street : List (Key × Entry)
-street = (n 1, live (dot 1)) ∷ (n 2, live (dot 2)) ∷ (n 3, live (dot 3)) ∷ (n 4, held (dot 4))
+street = (n 1, live (dot 1 refl)) ∷ (n 2, live (dot 2 refl)) ∷ (n 3, live (dot 3 refl)) ∷ (n 4, held (dot 4 refl))
     ∷ (w 5, held (line (1 ∷ 2 ∷ 3 ∷ []))) ∷ (w 6, live (line (3 ∷ 4 ∷ []))) ∷ []
 
 in_street : fin.entries (fin.from_sorted {R = rank_cmp} street) ≡ street
@@ -223,5 +224,5 @@ purges_one_in_conflict = simp (fin.get-entries, in_street) refl
 
 -- `erase w6`: its node n3 has another user, and n4 is in conflict, so both stay
 keeps_conflict : mine_in (erase town 9 (w 6 ∷ []))
-    ≡ (n 1, Some (dot 1)) ∷ (n 2, Some (dot 2)) ∷ (n 3, Some (dot 3)) ∷ (n 4, Some (dot 4)) ∷ (w 5, Some (line (1 ∷ 2 ∷ 3 ∷ []))) ∷ (w 6, None) ∷ []
+    ≡ (n 1, Some (dot 1 refl)) ∷ (n 2, Some (dot 2 refl)) ∷ (n 3, Some (dot 3 refl)) ∷ (n 4, Some (dot 4 refl)) ∷ (w 5, Some (line (1 ∷ 2 ∷ 3 ∷ []))) ∷ (w 6, None) ∷ []
 keeps_conflict = simp (fin.len-entries, fin.get-entries, fin.entries-insert {X = Entry} rank_total, in_street) refl
