@@ -1,23 +1,73 @@
--- A job leaves a group open where one was open.
-use Rattle.std.proofs.Common.{◌≡◌, false, refl, ap}
+-- A step leaves a group open where one was open, but for `begin` and `end`.
+use Rattle.std.proofs.Common.{◌≡◌, ℕ, Bool, true, false, refl, ap, if◌then◌else◌}
 use Rattle.osm_table.specs.Table.{TableValue}
 use Rattle.tool_api.specs.declared.reply.Reply.{Reply}
 use Rattle.tool_api.specs.declared.reply.Reply.TheVariants as reply
+use Rattle.tool_api.specs.declared.job.Job as jobs
+use Rattle.tool_api.specs.Plain.{plain}
+use Rattle.edit_script.specs.declared.step.Act.{Act}
+use Rattle.edit_script.specs.declared.step.Act.TheVariants.{Job, Download, Begin, End, Undo, Redo, Print, Count}
+use Rattle.edit_script.specs.Order.{inside_after}
 use Rattle.edit_history.specs.declared.counts.Group.{Group}
 use Rattle.edit_history.specs.declared.counts.Group.TheVariants.{Outside, Running, Refused}
 use Rattle.edit_history.specs.Machine.{State, done_in, refused_in, ran}
-use Rattle.edit_session.specs.Turn.{is_open, is_given_up}
+use Rattle.edit_session.specs.declared.limits.Limits.{Limits}
+use Rattle.edit_session.specs.declared.loading.Found.{Found}
+use Rattle.edit_session.specs.declared.loading.Found.TheVariants.{Nothing, Bad, Objects}
+use Rattle.edit_session.specs.Groups.{is_open, is_given_up}
+use Rattle.edit_session.specs.Turn.{Turn, turn, act_turn, download_turn, skipped_turn}
 
 done_open : (g : Group) (u : TableValue) (s : State) → s.group ≡ g → is_given_up g ≡ false → is_open (done_in g u s).group ≡ is_open g
-done_open Outside u s e is_inside = refl
-done_open Running u s e is_inside = refl
-done_open Refused u s e is_inside = absurd cc
+done_open Outside u s e going = refl
+done_open Running u s e going = refl
+done_open Refused u s e going = absurd cc
 
 refused_open : (g : Group) (s : State) → s.group ≡ g → is_given_up g ≡ false → is_open (refused_in g s).group ≡ is_open g
-refused_open Outside s e is_inside = ap is_open e
-refused_open Running s e is_inside = refl
-refused_open Refused s e is_inside = absurd cc
+refused_open Outside s e going = ap is_open e
+refused_open Running s e going = refl
+refused_open Refused s e going = absurd cc
 
-pub ran_open : (r : Reply) (u : TableValue) (s : State) → is_given_up s.group ≡ false → is_open (ran r u s).group ≡ is_open s.group
-ran_open (reply.Done keys) u s is_inside = done_open s.group u s refl is_inside
-ran_open (reply.Refused why) u s is_inside = refused_open s.group s refl is_inside
+ran_open : (r : Reply) (u : TableValue) (s : State) → is_given_up s.group ≡ false → is_open (ran r u s).group ≡ is_open s.group
+ran_open (reply.Done keys) u s going = done_open s.group u s refl going
+ran_open (reply.Refused why) u s going = refused_open s.group s refl going
+
+download_open : (limit : ℕ) (found : Found) (s : State) → is_given_up s.group ≡ false → is_open (download_turn limit found s).state.group ≡ is_open s.group
+download_open limit Nothing s going = refused_open s.group s refl going
+download_open limit (Bad fault) s going = refused_open s.group s refl going
+download_open limit (Objects objects) s going = ran_open _ _ s going
+
+either_open : (test : Bool) (a b : Turn) (open_before : Bool) → is_open a.state.group ≡ open_before → is_open b.state.group ≡ open_before → is_open (if test then a else b).state.group ≡ open_before
+either_open true a b open_before e f = e
+either_open false a b open_before e f = f
+
+act_open : (limits : Limits) (found : Found) (act : Act) (s : State) → is_given_up s.group ≡ false → is_open (act_turn limits found act s).state.group ≡ inside_after (is_open s.group) act
+act_open limits found (Job job) s going = ran_open _ _ s going
+act_open limits found (Download name) s going = download_open limits.objects found s going
+act_open limits found Begin s going = refl
+act_open limits found End s going = refl
+act_open limits found (Undo n) s going = either_open _ _ _ (is_open s.group) refl refl
+act_open limits found (Redo n) s going = either_open _ _ _ (is_open s.group) refl refl
+act_open limits found Print s going = refl
+act_open limits found Count s going = refl
+
+given_up_open : (g : Group) → is_given_up g ≡ true → is_open g ≡ true
+given_up_open Outside e = absurd cc
+given_up_open Running e = refl
+given_up_open Refused e = refl
+
+skipped_open : (act : Act) (s : State) → is_given_up s.group ≡ true → is_open (skipped_turn act s).state.group ≡ inside_after (is_open s.group) act
+skipped_open (Job job) s given_up = refl
+skipped_open (Download name) s given_up = refl
+skipped_open Begin s given_up = given_up_open s.group given_up
+skipped_open End s given_up = refl
+skipped_open (Undo n) s given_up = refl
+skipped_open (Redo n) s given_up = refl
+skipped_open Print s given_up = refl
+skipped_open Count s given_up = refl
+
+turn_open_by : (limits : Limits) (found : Found) (act : Act) (s : State) (given_up : Bool) → is_given_up s.group ≡ given_up → is_open (if given_up then skipped_turn act s else act_turn limits found act s).state.group ≡ inside_after (is_open s.group) act
+turn_open_by limits found act s true e = skipped_open act s e
+turn_open_by limits found act s false e = act_open limits found act s e
+
+pub turn_open : (limits : Limits) (found : Found) (act : Act) (s : State) → is_open (turn limits found act s).state.group ≡ inside_after (is_open s.group) act
+turn_open limits found act s = turn_open_by limits found act s (is_given_up s.group) refl

@@ -1,52 +1,88 @@
 -- One step more of a run.
-use Rattle.std.proofs.Common.{◌≡◌, ℕ, ◌+◌, ◌<◌, Bool, true, List, ◌∷◌, Option, None, Some, IfSome, sym, ap, ◌∙◌, subst, drop, get_or, length, refl}
-use Rattle.std.proofs.lemmas.List.{at_drop_more}
+use Rattle.std.proofs.Common.{◌≡◌, ℕ, ◌+◌, ◌<◌, ◌≤◌, Bool, true, false, List, ◌∷◌, Option, None, Some, IfSome, sym, ap, ◌∙◌, subst, drop, get_or, length, refl}
+use Rattle.std.proofs.lemmas.List.{at_drop_more, drop_all}
 use Rattle.std.specs.Option.{option_or}
 use Rattle.std.specs.Io.KnownBytes.{Appends}
 use Rattle.osm_outside.specs.Outside.{AppendsFront, Shelved}
-use Rattle.osm_outside.proofs.Along.{Along, along-start, along-more, along-front}
+use Rattle.osm_outside.proofs.Along.{Along, along-start, along-more, along-end, along-front}
 use Rattle.tool_api.specs.declared.verb.Verb.{Verb}
+use Rattle.edit_script.specs.declared.step.Act.{Act}
 use Rattle.edit_script.specs.declared.step.Step.{Step}
 use Rattle.edit_script.specs.Order.{IsMeant, IsOrderly, may_stand, inside_after}
-use Rattle.edit_history.specs.Machine.{State}
+use Rattle.edit_history.specs.Machine.{State, first_state}
 use Rattle.edit_history.specs.Shown.{IsThere}
 use Rattle.edit_session.specs.declared.limits.Limits.{Limits}
 use Rattle.edit_session.specs.Needs.{needs, lacks, missing_verb}
-use Rattle.edit_session.specs.Session.{output_from}
-use Rattle.edit_session.specs.Turn.{turn, step_text}
+use Rattle.edit_session.specs.declared.loading.Found.{Found}
+use Rattle.edit_session.specs.Groups.{is_open}
+use Rattle.edit_session.specs.Load.{found_in}
+use Rattle.edit_session.specs.Session.{states_before, texts, output}
+use Rattle.edit_session.specs.Turn.{turn, step_turn, turn_text, step_text}
+use Rattle.edit_session.proofs.Opens.{turn_open}
 use Rattle.edit_session.proofs.Pieces.{along-stop}
 use Rattle.edit_session.proofs.Verbs.{needed_there}
 
 steps-drop : (i : ℕ) (steps : List Step) (step : Step) → i < length steps → step ≡ get_or steps i step → drop i steps ≡ step ∷ drop (i + 1) steps
 steps-drop i steps step h e = at_drop_more (λ (s : List Step). s) steps i step h ∙ ap (λ s. s ∷ drop (i + 1) steps) (sym e)
 
+-- the texts of the steps from a state on
+abbrev pub texts_from : Limits → Shelved → List Step → State → List ℕ
+texts_from limits files steps s = texts limits files (states_before limits files steps s)
+
 -- The step goes on: a front of the text is written up to behind it.
-pub goes_on : (limits : Limits) (o : Option Shelved) (old mid new : Option (List ℕ)) (all : Shelved → List ℕ) (i : ℕ) (steps : List Step) (step : Step) (s next : State)
+pub goes_on : (limits : Limits) (o : Option Shelved) (old mid new : Option (List ℕ)) (all : Shelved → List ℕ) (i : ℕ) (steps : List Step) (step : Step) (found : Found) (s next : State)
     → i < length steps → step ≡ get_or steps i step
-    → IfSome o (λ files. Along old mid (output_from limits files (drop i steps) s) (all files))
-    → IfSome o (λ files. Appends mid new (step_text limits files step s))
-    → IfSome o (λ files. next ≡ (turn limits files step.act s).state)
-    → IfSome o (λ files. Along old new (output_from limits files (drop (i + 1) steps) next) (all files))
-goes_on limits None old mid new all i steps step s next h e along text after = tt
-goes_on limits (Some files) old mid new all i steps step s next h e along text after =
-    along-more old mid new (step_text limits files step s) (output_from limits files (drop (i + 1) steps) next) (all files)
-    (rw after (subst (λ l. Along old mid (output_from limits files l s) (all files)) (steps-drop i steps step h e) along)) text
+    → IfSome o (λ files. Along old mid (texts_from limits files (drop i steps) s) (all files))
+    → IfSome o (λ files. found ≡ found_in limits files s.group step.act)
+    → Appends mid new (turn_text step.line (turn limits found step.act s))
+    → next ≡ (turn limits found step.act s).state
+    → IfSome o (λ files. Along old new (texts_from limits files (drop (i + 1) steps) next) (all files))
+goes_on limits None old mid new all i steps step found s next h e along is text after = tt
+goes_on limits (Some files) old mid new all i steps step found s next h e along is text after =
+    let reached : next ≡ (step_turn limits files step s).state = after ∙ ap (λ what. (turn limits what step.act s).state) is in
+    let written : Appends mid new (step_text limits files step s) = subst (λ what. Appends mid new (turn_text step.line (turn limits what step.act s))) is text in
+    along-more old mid new (step_text limits files step s) (texts_from limits files (drop (i + 1) steps) next) (all files)
+    (rw reached (subst (λ l. Along old mid (texts_from limits files l s) (all files)) (steps-drop i steps step h e) along)) written
 
 -- The step fails: what was written is a front of the whole.
-pub fails_in : (limits : Limits) (o : Option Shelved) (old mid new : Option (List ℕ)) (all : Shelved → List ℕ) (i : ℕ) (steps : List Step) (step : Step) (s : State)
+pub fails_in : (limits : Limits) (o : Option Shelved) (old mid new : Option (List ℕ)) (all : Shelved → List ℕ) (i : ℕ) (steps : List Step) (step : Step) (found : Found) (s : State)
     → i < length steps → step ≡ get_or steps i step
-    → IfSome o (λ files. Along old mid (output_from limits files (drop i steps) s) (all files))
-    → IfSome o (λ files. AppendsFront mid new (step_text limits files step s))
+    → IfSome o (λ files. Along old mid (texts_from limits files (drop i steps) s) (all files))
+    → IfSome o (λ files. found ≡ found_in limits files s.group step.act)
+    → AppendsFront mid new (turn_text step.line (turn limits found step.act s))
     → IfSome o (λ files. AppendsFront old new (all files))
-fails_in limits None old mid new all i steps step s h e along text = tt
-fails_in limits (Some files) old mid new all i steps step s h e along text =
-    along-front old mid new (step_text limits files step s) (output_from limits files (drop (i + 1) steps) (turn limits files step.act s).state) (all files)
-    (subst (λ l. Along old mid (output_from limits files l s) (all files)) (steps-drop i steps step h e) along) text
+fails_in limits None old mid new all i steps step found s h e along is text = tt
+fails_in limits (Some files) old mid new all i steps step found s h e along is text =
+    let written : AppendsFront mid new (step_text limits files step s) = subst (λ what. AppendsFront mid new (turn_text step.line (turn limits what step.act s))) is text in
+    along-front old mid new (step_text limits files step s) (texts_from limits files (drop (i + 1) steps) (step_turn limits files step s).state) (all files)
+    (subst (λ l. Along old mid (texts_from limits files l s) (all files)) (steps-drop i steps step h e) along) written
 
--- nothing was written
-pub nothing_yet : (o : Option Shelved) (old : Option (List ℕ)) (all : Shelved → List ℕ) → IfSome o (λ files. AppendsFront old old (all files))
-nothing_yet None old all = tt
-nothing_yet (Some files) old all = along-stop old old (all files) (all files) (along-start old (all files))
+-- Nothing more is written.
+pub stops_here : (o : Option Shelved) (old mid : Option (List ℕ)) (left all : Shelved → List ℕ) → IfSome o (λ files. Along old mid (left files) (all files)) → IfSome o (λ files. AppendsFront old mid (all files))
+stops_here None old mid left all along = tt
+stops_here (Some files) old mid left all along = along-stop old mid (left files) (all files) along
+
+pub nothing_yet : (old : Option (List ℕ)) (all : List ℕ) → AppendsFront old old all
+nothing_yet old all = along-stop old old all all (along-start old all)
+
+-- nothing is written yet
+pub starts : (limits : Limits) (o : Option Shelved) (old : Option (List ℕ)) (steps : List Step) (s : State) → s ≡ first_state → IfSome o (λ files. Along old old (texts_from limits files steps s) (output limits files steps))
+starts limits None old steps s first = tt
+starts limits (Some files) old steps s first = rw first (along-start old (output limits files steps))
+
+-- All steps have run: the whole text is written.
+pub ends_all : (limits : Limits) (o : Option Shelved) (old new : Option (List ℕ)) (all : Shelved → List ℕ) (i : ℕ) (steps : List Step) (s : State) → length steps ≤ i
+    → IfSome o (λ files. Along old new (texts_from limits files (drop i steps) s) (all files)) → IfSome o (λ files. Appends old new (all files))
+ends_all limits None old new all i steps s past along = tt
+ends_all limits (Some files) old new all i steps s past along = along-end old new (all files) (subst (λ l. Along old new (texts_from limits files l s) (all files)) (drop_all i steps past) along)
+
+-- a script's steps are in order from the first state on
+pub orderly_first : (steps : List Step) (s : State) → s ≡ first_state → IsOrderly false steps → IsOrderly (is_open s.group) steps
+orderly_first steps s first orderly = rw first orderly
+
+-- and from the state behind a step on
+pub orderly_on : (limits : Limits) (found : Found) (act : Act) (s next : State) (steps : List Step) → next ≡ (turn limits found act s).state → IsOrderly (inside_after (is_open s.group) act) steps → IsOrderly (is_open next.group) steps
+orderly_on limits found act s next steps after orderly = subst (λ is_inside. IsOrderly is_inside steps) (sym (ap (λ (t : State). is_open t.group) after ∙ turn_open limits found act s)) orderly
 
 -- what is orderly from a step on
 pub orderly_at : (is_inside : Bool) (i : ℕ) (steps : List Step) (step : Step) → i < length steps → step ≡ get_or steps i step → IsOrderly is_inside (drop i steps)

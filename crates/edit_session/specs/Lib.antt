@@ -1,5 +1,7 @@
+pub mod Asked
 pub mod Counted
 pub mod Fetch
+pub mod Groups
 pub mod Limits
 pub mod Load
 pub mod Needs

@@ -1,11 +1,12 @@
 -- A whole session: what its steps do, what it writes, and how it ends.
-use Rattle.std.specs.Prelude.{◌≡◌, ℕ, ◌≤◌, List, [], ◌∷◌, ◌++◌, Option, None, Some, Result, Ok, Err, IsErrOf}
+use Rattle.std.specs.Prelude.{◌≡◌, ℕ, ◌≤◌, Bool, true, false, List, [], ◌∷◌, flat_map, Option, None, Some, Result, Ok, Err, IsErrOf, IfSome, IfOk, OnErr}
 use Rattle.std.specs.Io.KnownBytes.{Appends}
 use Rattle.osm_outside.specs.Outside.{Shelved, held, Rose, AppendsFront}
 use Rattle.tool_api.specs.declared.verb.Verb.{Verb}
 use Rattle.edit_script.specs.declared.step.Step.{Step}
 use Rattle.edit_script.specs.Script.{steps_of}
 use Rattle.edit_history.specs.Machine.{State, first_state}
+use Rattle.edit_history.specs.Shown.{IsThere}
 use Rattle.edit_session.specs.declared.limits.Limits.{Limits}
 use Rattle.edit_session.specs.declared.status.Status.{Status}
 use Rattle.edit_session.specs.declared.status.Status.TheVariants as status
@@ -13,17 +14,21 @@ use Rattle.edit_session.specs.declared.stop.Stop.{Stop}
 use Rattle.edit_session.specs.declared.stop.Stop.TheVariants.{ReadFault, WriteFault}
 use Rattle.edit_session.specs.Fetch.{Reading, missing, too_long, whole, reading}
 use Rattle.edit_session.specs.Needs.{missing_verb}
-use Rattle.edit_session.specs.Turn.{turn, step_text}
+use Rattle.edit_session.specs.Turn.{step_turn, step_text}
 
--- what the steps write, one after the other, from a state on
-abbrev pub output_from : Limits → Shelved → List Step → State → List ℕ
-output_from limits files [] s = []
-output_from limits files (step ∷ steps) s = step_text limits files step s ++ output_from limits files steps (turn limits files step.act s).state
+-- The steps, each with the state before it, from a state on.
+abbrev pub states_before : Limits → Shelved → List Step → State → List (Step × State)
+states_before limits files [] s = []
+states_before limits files (step ∷ steps) s = (step, s) ∷ states_before limits files steps (step_turn limits files step s).state
+
+-- what these steps write, one after the other
+abbrev pub texts : Limits → Shelved → List (Step × State) → List ℕ
+texts limits files steps = flat_map (λ (at : Step × State). step_text limits files at.0 at.1) steps
 
 -- What a session writes: the texts of its steps, run from an empty table. A group that is open at the end is closed,
 -- and nothing is written of that.
 abbrev pub output : Limits → Shelved → List Step → List ℕ
-output limits files steps = output_from limits files steps first_state
+output limits files steps = texts limits files (states_before limits files steps first_state)
 
 -- the steps run where each has its tool
 abbrev pub steps_outcome : Limits → Shelved → List Step → Option Verb → Status × List ℕ
@@ -69,9 +74,32 @@ IsEnd status.WriteFault = ⊥
 IsEnd status.Memory = ⊥
 IsEnd other = Unit {0}
 
+-- The answers with which a session ends before its steps run.
+abbrev pub IsEarly : Status → Type 0
+IsEarly status.BadWords = Unit {0}
+IsEarly status.NoScript = Unit {0}
+IsEarly (status.BadScript line) = Unit {0}
+IsEarly status.ScriptTooLong = Unit {0}
+IsEarly (status.NoTool verb) = Unit {0}
+IsEarly other = ⊥
+
+-- The shelf was asked for the script before it, and answered whether it is there.
+abbrev pub IsAsked : (begun : Bool) → Status → Type 0
+IsAsked begun status.NoScript = begun ≡ false
+IsAsked begun (status.BadScript line) = begun ≡ true
+IsAsked begun status.ScriptTooLong = begun ≡ true
+IsAsked begun (status.NoTool verb) = begun ≡ true
+IsAsked begun other = Unit {0}
+
 -- the status is that of the outcome, and the sink took all of its text
 abbrev pub Ends : Option (List ℕ) → Option (List ℕ) → Status → Status × List ℕ → Type 0
 Ends old new answer end = (answer ≡ end.0) × Appends old new end.1
+
+-- What is left of a session comes to this end where the shelf tells its files. No tool that is there is missed.
+pub record Comes (told : Option Shelved) (verbs : List Verb) (old new : Option (List ℕ)) (result : Result Status Stop) (end : List Verb → Shelved → Status × List ℕ) : Type 0 where
+  pub ok : IfOk result (λ answer. IfSome told (λ files. Ends old new answer (end verbs files)))
+  pub err : OnErr result (IfSome told (λ files. AppendsFront old new (end verbs files).1))
+  pub no_tool : IfOk result (λ answer. (verb : Verb) → answer ≡ status.NoTool verb → IsThere verb verbs → ⊥)
 
 -- The status is that of the outcome, and the sink took all of its text. After a fault or want of memory it took a front of the text.
 abbrev pub Agrees : Option (List ℕ) → Option (List ℕ) → Status → Status × List ℕ → Type 0

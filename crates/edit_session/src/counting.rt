@@ -1,7 +1,6 @@
 //! The text of `count`.
 ghost use Rattle.std.specs.Prelude.{◌≡◌, ◌++◌, ◌<◌, OnOk, OnErr};
 ghost use Rattle.osm_base.specs.Extends.{Extends};
-ghost use Rattle.osm_table.specs.Table.{is_living};
 ghost use Rattle.edit_session.specs.Counted.{count_text, counts_text, kinds_text, states_text, counts_among, part, with_one, with_key, HasRoom, is_node, is_way, is_relation, is_incomplete, is_deleted, is_in_conflict};
 
 use dataset::DataSet;
@@ -124,7 +123,7 @@ impl Counts {
         requires room { HasRoom self }
         ensures { result ≡ with_one self kind entry.now }
     {
-        let living = is_living(entry);
+        let living = entry.is_living();
         Counts {
             nodes: self.nodes + u64::from(living && is_node(kind)),
             ways: self.ways + u64::from(living && is_way(kind)),
@@ -161,15 +160,6 @@ fn is_relation(kind: Kind) -> bool
     match kind {
         Kind::Relation => true,
         Kind::Node | Kind::Way => false,
-    }
-}
-
-fn is_living(entry: &SharedEntry) -> bool
-    ensures { result ≡ is_living entry.now }
-{
-    match entry.parts() {
-        EntryParts::Incomplete => false,
-        EntryParts::Known { mine, .. } => mine.is_some(),
     }
 }
 

@@ -2,13 +2,17 @@
 //!
 //! `run_session` is the top call. Where the shelf tells its files, the session's text and its
 //! status are those of `outcome` in `specs/Session.antt`, byte for byte; a fault or want of memory
-//! leaves a front of that text. What a step does is `turn` in `specs/Turn.antt`: a step of the
-//! machine of whole tables of `edit_history`, over the jobs of `tool_api`. The tools come in boxes
-//! from outside and are known by their trait alone.
+//! leaves a front of that text. A step is read first: what it finds on the shelf is a value (`find`).
+//! Then it moves the history: `turn` in `specs/Turn.antt` says of that value and of the state of the
+//! machine of whole tables what it answers and which state follows, and knows no shelf and no sink.
+//! Then its answer is written: the reply line and the text behind it. The tools come in boxes from
+//! outside and are known by their trait alone.
 //!
-//! Each function that writes promises the whole text after Ok and a front of it after Err. To add
-//! a command with a job, give `edit_script` its grammar and hand in its tool: nothing changes here.
-//! To add a step of another kind, give `managed_turn` a line, and `manage` an arm.
+//! Each function that moves the history has one `requires` and one `ensures` on it (`Fits`, `Moved`);
+//! each that writes promises the whole text after Ok and a front of it after Err. To add a command
+//! with a job, give `edit_script` its grammar and hand in its tool: nothing changes here. To add a
+//! step of another kind, give `act_turn` a line and `take_turn` an arm; a text of its own behind its
+//! reply is a variant of `Behind`, and a file of another kind one of `Found`.
 #![tactic(auto)]
 
 mod counting;
@@ -17,6 +21,7 @@ mod limits;
 mod loading;
 mod needs;
 mod printing;
+mod response;
 mod run;
 mod sending;
 mod session;
@@ -26,7 +31,5 @@ mod stop;
 mod tests;
 mod turns;
 
-pub use counting::write_count;
-pub use printing::write_table;
 pub use session::run_session;
 pub use status::Status;

@@ -1,26 +1,29 @@
 //! The steps of a script, run one after the other.
-ghost use Rattle.std.specs.Prelude.{◌≡◌, ◌++◌, true, None, IfSome, OnOk, OnErr};
+ghost use Rattle.std.specs.Prelude.{◌≡◌, false, IfSome, OnOk, OnErr};
 ghost use Rattle.std.specs.Io.KnownBytes.{Appends};
 ghost use Rattle.osm_outside.specs.Outside.{AppendsFront};
-ghost use Rattle.edit_script.specs.Order.{IsMeant, IsOrderly, may_stand, inside_after};
-ghost use Rattle.edit_script.specs.Reply.{reply_line};
-ghost use Rattle.edit_history.specs.Shown.{shown, Valid, IsThere, verbs_of};
-ghost use Rattle.edit_session.specs.Needs.{needs, missing_verb};
-ghost use Rattle.edit_session.specs.Send.{WriteCause};
-ghost use Rattle.edit_session.specs.Session.{output_from, StopCause};
-ghost use Rattle.edit_session.specs.Turn.{is_open, behind, turn, step_text};
+ghost use Rattle.edit_script.specs.Order.{IsOrderly};
+ghost use Rattle.edit_session.specs.Asked.{MayTake, MayRunAll};
+ghost use Rattle.edit_session.specs.Load.{AreTold};
+ghost use Rattle.edit_history.specs.Moved.{Fits};
+ghost use Rattle.edit_session.specs.Send.{WriteCause, Plays};
+ghost use Rattle.edit_session.specs.Session.{output, StopCause};
+ghost use Rattle.edit_session.specs.Turn.{turn, behind_text, response_text};
 
 use crate::limits::Limits;
+use crate::loading::{Found, find};
+use crate::response::{Behind, Response};
 use crate::sending::{WriteError, send_count, send_reply, send_table};
 use crate::stop::Stop;
 use crate::turns::take_turn;
 use dataset::DataSet;
 use edit_history::History;
-use edit_script::{Act, Step, StepReply};
+use edit_script::Step;
 use osm_outside::{Shelf, Sink};
 use std::alloc::Global;
 
-/// Runs the steps.
+/// Runs the steps from the first state on. Each is read from the shelf first, then it moves the history, then its reply
+/// and the text behind it are written.
 ///
 /// # Errors
 /// The shelf or the sink failed, or no memory was left. A front of the text was written.
@@ -32,79 +35,69 @@ pub fn run_steps<S: Shelf, K: Sink>(
     history: &mut History,
     steps: &[Step],
 ) -> Result<(), Stop>
-    requires valid { Valid (λ b. done (b.vtable, b.value)) (λ b. undone (b.vtable, b.value)) history.old }
-    requires orderly { IsOrderly (is_open (shown (λ b. done (b.vtable, b.value)) (λ b. undone (b.vtable, b.value)) history.old).group) steps.now }
-    requires there { missing_verb (verbs_of (λ b. kind (b.vtable, b.value)) history.old) steps.now ≡ None }
+    requires fits { Fits (λ b. done (b.vtable, b.value)) (λ b. undone (b.vtable, b.value)) (λ b. kind (b.vtable, b.value)) history.old (MayRunAll steps.now) }
+    requires orderly { IsOrderly false steps.now }
     ensures told { S.told shelf.new ≡ S.told shelf.old }
-    ensures ok { OnOk result (IfSome (S.told shelf.old) (λ files. Appends (K.taken out.old) (K.taken out.new) (output_from limits files steps.now (shown (λ b. done (b.vtable, b.value)) (λ b. undone (b.vtable, b.value)) history.old)))) }
-    ensures err { OnErr result (IfSome (S.told shelf.old) (λ files. AppendsFront (K.taken out.old) (K.taken out.new) (output_from limits files steps.now (shown (λ b. done (b.vtable, b.value)) (λ b. undone (b.vtable, b.value)) history.old)))) }
+    ensures ok { OnOk result (IfSome (S.told shelf.old) (λ files. Appends (K.taken out.old) (K.taken out.new) (output limits files steps.now))) }
+    ensures err { OnErr result (IfSome (S.told shelf.old) (λ files. AppendsFront (K.taken out.old) (K.taken out.new) (output limits files steps.now))) }
     ensures cause { StopCause (S.faults shelf.old) (S.faults shelf.new) (K.faults out.old) (K.faults out.new) result }
 {
     for step in steps {
-        run_step(alloc, limits, shelf, out, history, step)?;
+        let found = find(alloc, limits, shelf, history.group(), &step.act)?;
+        run_step(alloc, limits, out, history, step, found)?;
     }
     Ok(())
 }
 
 // Runs one step: what it does, its reply, and the text behind the reply.
-fn run_step<S: Shelf, K: Sink>(
+fn run_step<K: Sink>(
     alloc: Global,
     limits: Limits,
-    shelf: &mut S,
     out: &mut K,
     history: &mut History,
     step: &Step,
-) -> Result<(), Stop>
-    requires valid { Valid (λ b. done (b.vtable, b.value)) (λ b. undone (b.vtable, b.value)) history.old }
-    requires meant { IsMeant step.now.act }
-    requires stands { may_stand (is_open (shown (λ b. done (b.vtable, b.value)) (λ b. undone (b.vtable, b.value)) history.old).group) step.now.act ≡ true }
-    requires there { IfSome (needs step.now.act) (λ verb. IsThere verb (verbs_of (λ b. kind (b.vtable, b.value)) history.old)) }
-    ensures told { S.told shelf.new ≡ S.told shelf.old }
-    ensures valid { Valid (λ b. done (b.vtable, b.value)) (λ b. undone (b.vtable, b.value)) history.new }
-    ensures ok { OnOk result (IfSome (S.told shelf.old) (λ files. Appends (K.taken out.old) (K.taken out.new) (step_text limits files step.now (shown (λ b. done (b.vtable, b.value)) (λ b. undone (b.vtable, b.value)) history.old)))) }
-    ensures state { OnOk result (IfSome (S.told shelf.old) (λ files. shown (λ b. done (b.vtable, b.value)) (λ b. undone (b.vtable, b.value)) history.new ≡ (turn limits files step.now.act (shown (λ b. done (b.vtable, b.value)) (λ b. undone (b.vtable, b.value)) history.old)).state)) }
-    ensures group { OnOk result (is_open (shown (λ b. done (b.vtable, b.value)) (λ b. undone (b.vtable, b.value)) history.new).group ≡ inside_after (is_open (shown (λ b. done (b.vtable, b.value)) (λ b. undone (b.vtable, b.value)) history.old).group) step.now.act) }
-    ensures kinds { verbs_of (λ b. kind (b.vtable, b.value)) history.new ≡ verbs_of (λ b. kind (b.vtable, b.value)) history.old }
-    ensures err { OnErr result (IfSome (S.told shelf.old) (λ files. AppendsFront (K.taken out.old) (K.taken out.new) (step_text limits files step.now (shown (λ b. done (b.vtable, b.value)) (λ b. undone (b.vtable, b.value)) history.old)))) }
-    ensures cause { StopCause (S.faults shelf.old) (S.faults shelf.new) (K.faults out.old) (K.faults out.new) result }
+    found: Found,
+) -> Result<(), WriteError>
+    requires fits { Fits (λ b. done (b.vtable, b.value)) (λ b. undone (b.vtable, b.value)) (λ b. kind (b.vtable, b.value)) history.old (MayTake step.now.act) }
+    requires told { AreTold found }
+    ensures plays { Plays (λ b. done (b.vtable, b.value)) (λ b. undone (b.vtable, b.value)) (λ b. kind (b.vtable, b.value)) history.old history.new (K.taken out.old) (K.taken out.new) result step.now.line (turn limits found step.now.act) }
+    ensures cause { WriteCause (K.faults out.old) (K.faults out.new) result }
 {
-    let reply = take_turn(alloc, limits, shelf, history, &step.act)?;
-    send_turn(alloc, out, step, &reply, history.ds())?;
-    Ok(())
+    let response = take_turn(alloc, limits, history, &step.act, found)?;
+    send_response(alloc, out, step.line, &response, history.ds())
 }
 
 // The reply line, and the text behind it.
 #[tactic(auto, using(osm_outside::proofs::Along::front_of_first, osm_outside::proofs::Along::front_of_second))]
-fn send_turn<K: Sink>(
+fn send_response<K: Sink>(
     alloc: Global,
     out: &mut K,
-    step: &Step,
-    reply: &StepReply,
+    line: u64,
+    response: &Response,
     ds: &DataSet,
 ) -> Result<(), WriteError>
-    ensures ok { OnOk result (Appends (K.taken out.old) (K.taken out.new) (reply_line step.now.line reply.now ++ behind reply.now step.now.act ds.now)) }
-    ensures err { OnErr result (AppendsFront (K.taken out.old) (K.taken out.new) (reply_line step.now.line reply.now ++ behind reply.now step.now.act ds.now)) }
+    ensures ok { OnOk result (Appends (K.taken out.old) (K.taken out.new) (response_text line response.now ds.now)) }
+    ensures err { OnErr result (AppendsFront (K.taken out.old) (K.taken out.new) (response_text line response.now ds.now)) }
     ensures cause { WriteCause (K.faults out.old) (K.faults out.new) result }
 {
-    send_reply(alloc, out, step.line, reply)?;
-    send_behind(alloc, out, reply, &step.act, ds)
+    send_reply(alloc, out, line, &response.reply)?;
+    send_behind(alloc, out, response.behind, ds)
 }
 
-// The text behind an accepted reply.
+// The text behind a reply.
 fn send_behind<K: Sink>(
     alloc: Global,
     out: &mut K,
-    reply: &StepReply,
-    act: &Act,
+    behind: Behind,
     ds: &DataSet,
 ) -> Result<(), WriteError>
-    ensures ok { OnOk result (Appends (K.taken out.old) (K.taken out.new) (behind reply.now act.now ds.now)) }
-    ensures err { OnErr result (AppendsFront (K.taken out.old) (K.taken out.new) (behind reply.now act.now ds.now)) }
+    ensures ok { OnOk result (Appends (K.taken out.old) (K.taken out.new) (behind_text behind ds.now)) }
+    ensures err { OnErr result (AppendsFront (K.taken out.old) (K.taken out.new) (behind_text behind ds.now)) }
     ensures cause { WriteCause (K.faults out.old) (K.faults out.new) result }
 {
-    match (reply, act) {
-        (StepReply::Done(_), Act::Print) => send_table(alloc, out, ds),
-        (StepReply::Done(_), Act::Count) => send_count(alloc, out, ds),
-        _ => Ok(()),
+    match behind {
+        Behind::Nothing => Ok(()),
+        Behind::Table => send_table(alloc, out, ds),
+        Behind::Counts => send_count(alloc, out, ds),
     }
 }

@@ -1,13 +1,14 @@
 //! A whole session.
-ghost use Rattle.std.specs.Prelude.{◌≡◌, ◌⊎◌, ◌↔◌, None, Some, IfSome, IfOk, IsSome, OnErr, map, string_bytes};
-ghost use Rattle.osm_outside.specs.Outside.{AppendsFront, Rose};
+ghost use Rattle.std.specs.Prelude.{◌≡◌, ◌≤◌, ◌⊎◌, ◌↔◌, true, None, Some, IfSome, IfOk, IsSome, OnErr, map, string_bytes};
+ghost use Rattle.osm_outside.specs.Outside.{Rose};
 ghost use Rattle.tool_api.specs.declared.verb.Verb.{Verb};
 ghost use Rattle.edit_script.specs.Script.{steps_of};
-ghost use Rattle.edit_history.specs.Machine.{first_state};
 ghost use Rattle.edit_history.specs.Trail.{KeepNothing};
-ghost use Rattle.edit_history.specs.Shown.{shown, Valid, IsThere, verbs_of};
+ghost use Rattle.edit_history.specs.Moved.{Fits};
+ghost use Rattle.edit_history.specs.Shown.{IsThere, verbs_of};
+ghost use Rattle.edit_session.specs.Asked.{Begins};
 ghost use Rattle.edit_session.specs.Limits.{default_limits};
-ghost use Rattle.edit_session.specs.Session.{outcome, script_name, name_outcome, script_outcome, Agrees, Ends, IsEnd, StopCause};
+ghost use Rattle.edit_session.specs.Session.{outcome, script_name, name_outcome, script_outcome, Agrees, Comes, IsAsked, IsEarly, IsEnd, StopCause};
 
 use crate::Status;
 use crate::files::{Fetched, fetch};
@@ -42,6 +43,11 @@ pub fn run_session<S: Shelf, K: Sink>(
     ensures write { result ≡ Status.WriteFault → Rose (K.faults out.old) (K.faults out.new) }
     ensures words { (result ≡ Status.BadWords) ↔ (script_name (map string_bytes words.now) ≡ None) }
     ensures unread { result ≡ Status.BadWords → (shelf.new ≡ shelf.old) × (out.new ≡ out.old) }
+    // Until the steps run nothing is written, and whether there is a script is what the shelf answered.
+    ensures unwritten { IsEarly result → out.new ≡ out.old }
+    ensures asked { IsAsked (S.begun shelf.new) result }
+    ensures told { S.told shelf.new ≡ S.told shelf.old }
+    ensures later { (S.faults shelf.old ≤ S.faults shelf.new) × (K.faults out.old ≤ K.faults out.new) }
     // A tool is missed only where no box has its verb.
     ensures no_tool { (verb : Verb) → result ≡ Status.NoTool verb → IsThere verb (map (λ b. kind b) tools.items) → ⊥ }
     // It doesn't give up by itself, but for memory.
@@ -64,15 +70,15 @@ fn run_words<S: Shelf, K: Sink>(
     shelf: &mut S,
     out: &mut K,
 ) -> Result<Status, Stop>
-    requires valid { Valid (λ b. done (b.vtable, b.value)) (λ b. undone (b.vtable, b.value)) history.old }
-    requires state { shown (λ b. done (b.vtable, b.value)) (λ b. undone (b.vtable, b.value)) history.old ≡ first_state }
-    ensures ok { IfOk result (λ status. IfSome (S.told shelf.old) (λ files. Ends (K.taken out.old) (K.taken out.new) status (outcome limits (verbs_of (λ b. kind (b.vtable, b.value)) history.old) (map string_bytes words.now) files))) }
-    ensures err { OnErr result (IfSome (S.told shelf.old) (λ files. AppendsFront (K.taken out.old) (K.taken out.new) (outcome limits (verbs_of (λ b. kind (b.vtable, b.value)) history.old) (map string_bytes words.now) files).1)) }
+    requires { Fits (λ b. done (b.vtable, b.value)) (λ b. undone (b.vtable, b.value)) (λ b. kind (b.vtable, b.value)) history.old Begins }
+    ensures comes { Comes (S.told shelf.old) (verbs_of (λ b. kind (b.vtable, b.value)) history.old) (K.taken out.old) (K.taken out.new) result (λ verbs files. outcome limits verbs (map string_bytes words.now) files) }
+    ensures early { IfOk result (λ status. IsEarly status → out.new ≡ out.old) }
+    ensures asked { IfOk result (IsAsked (S.begun shelf.new)) }
+    ensures told { S.told shelf.new ≡ S.told shelf.old }
     ensures cause { StopCause (S.faults shelf.old) (S.faults shelf.new) (K.faults out.old) (K.faults out.new) result }
     ensures words { OnErr result (IsSome (script_name (map string_bytes words.now))) }
     ensures status { IfOk result (λ status. (status ≡ Status.BadWords) ↔ (script_name (map string_bytes words.now) ≡ None)) }
     ensures unread { IfOk result (λ status. status ≡ Status.BadWords → (shelf.new ≡ shelf.old) × (out.new ≡ out.old)) }
-    ensures no_tool { IfOk result (λ status. (verb : Verb) → status ≡ Status.NoTool verb → IsThere verb (verbs_of (λ b. kind (b.vtable, b.value)) history.old) → ⊥) }
     ensures not_stop { IfOk result IsEnd }
 {
     let [_, name] = words else {
@@ -89,13 +95,13 @@ fn run_named<S: Shelf, K: Sink>(
     shelf: &mut S,
     out: &mut K,
 ) -> Result<Status, Stop>
-    requires valid { Valid (λ b. done (b.vtable, b.value)) (λ b. undone (b.vtable, b.value)) history.old }
-    requires state { shown (λ b. done (b.vtable, b.value)) (λ b. undone (b.vtable, b.value)) history.old ≡ first_state }
-    ensures ok { IfOk result (λ status. IfSome (S.told shelf.old) (λ files. Ends (K.taken out.old) (K.taken out.new) status (name_outcome limits (verbs_of (λ b. kind (b.vtable, b.value)) history.old) files (Some name.now)))) }
-    ensures err { OnErr result (IfSome (S.told shelf.old) (λ files. AppendsFront (K.taken out.old) (K.taken out.new) (name_outcome limits (verbs_of (λ b. kind (b.vtable, b.value)) history.old) files (Some name.now)).1)) }
+    requires { Fits (λ b. done (b.vtable, b.value)) (λ b. undone (b.vtable, b.value)) (λ b. kind (b.vtable, b.value)) history.old Begins }
+    ensures comes { Comes (S.told shelf.old) (verbs_of (λ b. kind (b.vtable, b.value)) history.old) (K.taken out.old) (K.taken out.new) result (λ verbs files. name_outcome limits verbs files (Some name.now)) }
+    ensures early { IfOk result (λ status. IsEarly status → out.new ≡ out.old) }
+    ensures asked { IfOk result (IsAsked (S.begun shelf.new)) }
+    ensures told { S.told shelf.new ≡ S.told shelf.old }
     ensures cause { StopCause (S.faults shelf.old) (S.faults shelf.new) (K.faults out.old) (K.faults out.new) result }
     ensures status { IfOk result (λ status. status ≡ Status.BadWords → ⊥) }
-    ensures no_tool { IfOk result (λ status. (verb : Verb) → status ≡ Status.NoTool verb → IsThere verb (verbs_of (λ b. kind (b.vtable, b.value)) history.old) → ⊥) }
     ensures not_stop { IfOk result IsEnd }
 {
     match fetch(alloc, shelf, name, limits.script)? {
@@ -113,13 +119,14 @@ fn run_script<S: Shelf, K: Sink>(
     out: &mut K,
     bytes: &[u8],
 ) -> Result<Status, Stop>
-    requires valid { Valid (λ b. done (b.vtable, b.value)) (λ b. undone (b.vtable, b.value)) history.old }
-    requires state { shown (λ b. done (b.vtable, b.value)) (λ b. undone (b.vtable, b.value)) history.old ≡ first_state }
-    ensures ok { IfOk result (λ status. IfSome (S.told shelf.old) (λ files. Ends (K.taken out.old) (K.taken out.new) status (script_outcome limits (verbs_of (λ b. kind (b.vtable, b.value)) history.old) files (steps_of bytes.now)))) }
-    ensures err { OnErr result (IfSome (S.told shelf.old) (λ files. AppendsFront (K.taken out.old) (K.taken out.new) (script_outcome limits (verbs_of (λ b. kind (b.vtable, b.value)) history.old) files (steps_of bytes.now)).1)) }
+    requires fits { Fits (λ b. done (b.vtable, b.value)) (λ b. undone (b.vtable, b.value)) (λ b. kind (b.vtable, b.value)) history.old Begins }
+    requires begun { S.begun shelf.old ≡ true }
+    ensures comes { Comes (S.told shelf.old) (verbs_of (λ b. kind (b.vtable, b.value)) history.old) (K.taken out.old) (K.taken out.new) result (λ verbs files. script_outcome limits verbs files (steps_of bytes.now)) }
+    ensures early { IfOk result (λ status. IsEarly status → out.new ≡ out.old) }
+    ensures asked { IfOk result (IsAsked (S.begun shelf.new)) }
+    ensures told { S.told shelf.new ≡ S.told shelf.old }
     ensures cause { StopCause (S.faults shelf.old) (S.faults shelf.new) (K.faults out.old) (K.faults out.new) result }
     ensures status { IfOk result (λ status. status ≡ Status.BadWords → ⊥) }
-    ensures no_tool { IfOk result (λ status. (verb : Verb) → status ≡ Status.NoTool verb → IsThere verb (verbs_of (λ b. kind (b.vtable, b.value)) history.old) → ⊥) }
     ensures not_stop { IfOk result IsEnd }
 {
     match read_script(alloc, bytes) {

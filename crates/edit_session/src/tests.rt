@@ -8,12 +8,12 @@ ghost use Rattle.osm_table.specs.declared.entry.Entry.TheVariants.{Known};
 ghost use Rattle.dataset.specs.Sound.{IsSound};
 ghost use Rattle.dataset.specs.Draft.{drafted};
 
-use crate::{write_count, write_table};
+use crate::sending::{WriteError, send_count, send_table};
 use dataset::{DataSet, Draft};
 use osm_base::{Content, Coord, Key, Kind, Tags};
+use osm_outside::{Calls, MemorySink};
 use osm_table::{Base, Entry};
 use std::alloc::{AllocError, Global};
-use std::test::Fail;
 
 const NODE: Key = Key {
     kind: Kind::Node,
@@ -56,22 +56,23 @@ fn add_node(ds: &mut DataSet) -> Result<(), AllocError>
     ds.apply(&patch)
 }
 
-fn texts(alloc: Global) -> Result<Vec<u8>, AllocError> {
+// What the sink has of an empty table and of one with a node.
+fn texts(alloc: Global) -> Result<MemorySink, WriteError> {
     let mut ds = DataSet::new(alloc);
-    let mut out = Vec::new(alloc);
-    write_table(&ds, &mut out)?;
-    write_count(&ds, &mut out)?;
+    let mut sink = MemorySink::new(alloc, Calls::new(alloc));
+    send_table(alloc, &mut sink, &ds)?;
+    send_count(alloc, &mut sink, &ds)?;
     add_node(&mut ds)?;
-    write_table(&ds, &mut out)?;
-    write_count(&ds, &mut out)?;
-    Ok(out)
+    send_table(alloc, &mut sink, &ds)?;
+    send_count(alloc, &mut sink, &ds)?;
+    Ok(sink)
 }
 
 #[test]
-fn writes_whole_texts(rt: HostRuntime) -> Result<(), Fail> {
+fn writes_whole_texts(rt: HostRuntime) {
     let want = "count nodes 0 ways 0 relations 0 incomplete 0 deleted 0 changed 0 conflicts 0\n\
         n-1 v0 dV c0 t i0 u T x1.5 y0.5\n\
         count nodes 1 ways 0 relations 0 incomplete 0 deleted 0 changed 1 conflicts 0\n";
-    assert_eq!(rt; texts(rt.alloc())?.as_slice(), want.as_bytes());
-    Ok(())
+    let written = texts(rt.alloc());
+    assert!(rt; matches!(&written, Ok(sink) if sink.as_bytes() == want.as_bytes()));
 }

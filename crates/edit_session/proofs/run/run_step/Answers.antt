@@ -1,9 +1,10 @@
 use Rattle.std.proofs.lemmas.Result.{err_from_is_err_and}
-use Rattle.edit_session.specs.Turn.{step_text}
+use Rattle.edit_session.specs.Turn.{turn, turn_text}
 use Rattle.edit_session.proofs.Steps.{nothing_yet}
 use Rattle.edit_session.proofs.run.run_step.Goals as goal
 
-pub returns-in_err-reply-clause-err : goal.returns-in_err-reply-clause-err
-returns-in_err-reply-clause-err g c =
+pub returns-in_err-response-clause-plays : goal.returns-in_err-response-clause-plays
+returns-in_err-response-clause-plays g c =
     let p = err_from_is_err_and c.from_residual.result c.from_residual.ensures.1 in
-    rw p.1 (nothing_yet (g.S.Shelf.told c.args.shelf.now) (g.K.Sink.taken c.args.out.now) (λ files. step_text c.args.limits files c.args.step.now _))
+    let moved = c.take_turn.ensures in
+    record { valid = moved.valid; verbs = moved.verbs; state = rw p.1 tt; ok = rw p.1 tt; err = rw p.1 (nothing_yet _ (turn_text c.args.step.now.line (turn c.args.limits c.args.found c.args.step.now.act _))) }

@@ -3,4 +3,4 @@ use Rattle.edit_history.specs.Shown.{IsThere}
 use Rattle.edit_session.proofs.session.run_session.Goals as goal
 
 pub returns-in-Ok-clause-no_tool : goal.returns-in-Ok-clause-no_tool
-returns-in-Ok-clause-no_tool g c = λ verb same there. c.in-Ok.ensures.no_tool verb same (subst (IsThere verb) (sym c.new-history.ensures.kinds) there)
+returns-in-Ok-clause-no_tool g c = λ verb same there. c.in-Ok.ensures.comes.no_tool verb same (subst (IsThere verb) (sym c.new-history.ensures.kinds) there)
