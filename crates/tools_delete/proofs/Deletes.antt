@@ -53,7 +53,7 @@ pub is_user : (t : TableValue) (k r : Key) (e : Entry) → entry_of t k ≡ Some
 is_user t k r e has used = user_uses t r k ∙ ap (λ (o : Option Entry). option_map_or (λ e. uses e r) o false) has ∙ used
 
 -- where the test of uses passed, each user is named
-pub user_named : (t : TableValue) (named : List Key) (k r : Key) (e : Entry) → use_test t named r ≡ None → entry_of t k ≡ Some e → uses e r ≡ true → is_named named k ≡ true
+user_named : (t : TableValue) (named : List Key) (k r : Key) (e : Entry) → use_test t named r ≡ None → entry_of t k ≡ Some e → uses e r ≡ true → is_named named k ≡ true
 user_named t named k r e free has used =
     not-false (is_named named k) (none_passes (λ u. not (is_named named u)) (users t r) k (none_in (find (λ u. not (is_named named u)) (users t r)) (λ by. InUse r by) free) (is_user t k r e has used))
 
@@ -65,7 +65,7 @@ either P true new old e has at elsewhere = at refl has
 either P false new old e has at elsewhere = elsewhere refl has
 
 -- what is there stays there where it doesn't change
-pub unchanged_there : (b : Bool) (new old : Option Entry) → b ≡ false → IsThere old → IsThere (cond b new old)
+unchanged_there : (b : Bool) (new old : Option Entry) → b ≡ false → IsThere old → IsThere (cond b new old)
 unchanged_there true new old e h = cc
 unchanged_there false new old e h = h
 
@@ -83,7 +83,7 @@ closed_deleted t ks s free k e has r used =
     (by_bool (is_named ks r) _ (λ gone. never (is_named ks k) (user_named t ks k r e (passes (use_test t ks) ks r free gone) old used) unnamed) (λ stays. stays))
     (s.closed k e old r used)))
 
-pub delete_sound : (t : TableValue) (ks : List Key) → IsSound t → list_tests t Any ks ≡ None → first_of (use_test t ks) ks ≡ None → IsSound (changed t (delete t) ks)
+delete_sound : (t : TableValue) (ks : List Key) → IsSound t → list_tests t Any ks ≡ None → first_of (use_test t ks) ks ≡ None → IsSound (changed t (delete t) ks)
 delete_sound t ks s passed free =
     let live = λ (k : Key) (e : Entry) (named : is_named ks k ≡ true) (has : entry_of t k ≡ Some e). named_lives t Any ks k e (both_none (twice_test [] ks) (first_of (target_test t Any) ks) passed).1 named has in
     record {

@@ -30,13 +30,13 @@ abbrev pub touched : Bool → Bool → Bool → (Content → Content) → (Conte
 touched going mending losing f g o = cond losing (option_map (with_mine g) o) (cond mending (option_map (with_mine f) o) (cond going (option_and_then deleted o) o))
 
 -- three changes one after the other
-pub entry_touched : (t : TableValue) (f g : Content → Content) (going mending losing : List Key) (q : Key)
+entry_touched : (t : TableValue) (f g : Content → Content) (going mending losing : List Key) (q : Key)
     → entry_of (changed (changed (changed t (delete t) going) (edit t f) mending) (edit t g) losing) q ≡ touched (is_named going q) (is_named mending q) (is_named losing q) f g (entry_of t q)
 entry_touched t f g going mending losing q =
     entry_changed (changed (changed t (delete t) going) (edit t f) mending) (edit t g) losing q
     ∙ ap (cond (is_named losing q) (edit t g q)) (entry_changed (changed t (delete t) going) (edit t f) mending q ∙ ap (cond (is_named mending q) (edit t f q)) (entry_changed t (delete t) going q))
 
-pub next_touched : (t : TableValue) (f g : Content → Content) (going mending losing : List Key)
+next_touched : (t : TableValue) (f g : Content → Content) (going mending losing : List Key)
     → (changed (changed (changed t (delete t) going) (edit t f) mending) (edit t g) losing).next ≡ t.next
 next_touched t f g going mending losing =
     next_changed (changed (changed t (delete t) going) (edit t f) mending) (edit t g) losing ∙ next_changed (changed t (delete t) going) (edit t f) mending ∙ next_changed t (delete t) going

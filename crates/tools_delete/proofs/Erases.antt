@@ -46,7 +46,7 @@ calm true false false e h = cc
 calm false b c e h = inl refl
 
 -- an entry that isn't named has no conflict, or stays as it is
-pub undisturbed : (t u : TableValue) (limit : ℕ) (named : List Key) (k : Key) (e : Entry) → closing_tests t limit named u ≡ None → is_named named k ≡ false → entry_of t k ≡ Some e → (in_conflict (entry_of t k) ≡ false) ⊎ (entry_of t k ≡ entry_of u k)
+undisturbed : (t u : TableValue) (limit : ℕ) (named : List Key) (k : Key) (e : Entry) → closing_tests t limit named u ≡ None → is_named named k ≡ false → entry_of t k ≡ Some e → (in_conflict (entry_of t k) ≡ false) ⊎ (entry_of t k ≡ entry_of u k)
 undisturbed t u limit named k e passed unnamed has =
     elim (calm (in_conflict (entry_of t k)) (is_named named k) (same_at (entry_of t k) (entry_of u k)) unnamed
     (none_passes (disturbs_at t named u) (keys_by_rank t) k (none_in (find (disturbs_at t named u) (keys_by_rank t)) InConflict (passed_tests t u limit named passed).undisturbed) (has_key t k (ap is_some has)))) [

@@ -24,7 +24,7 @@ use Rattle.tools_delete.proofs.Anys.{any_passes, none_any}
 use Rattle.tools_delete.proofs.Deletes.{is_user, either, never}
 
 -- where the test of uses passed, nothing else uses the key
-pub not_used : (t : TableValue) (named : List Key) (k : Key) → use_test t named k ≡ None → is_used t named k ≡ false
+not_used : (t : TableValue) (named : List Key) (k : Key) → use_test t named k ≡ None → is_used t named k ≡ false
 not_used t named k free = none_any (λ u. not (is_named named u)) (users t k) (none_in (find (λ u. not (is_named named u)) (users t k)) (λ by. InUse k by) free)
 
 -- a purged entry
@@ -44,12 +44,8 @@ positive_case n k (Some (Known New mine conflict)) used fits passed free used_no
 positive_case n k (Some (Known (Live v c m) mine conflict)) used fits passed free used_now = fits (Known (Live v c m) mine conflict) refl
 positive_case n k (Some (Known (Gone v m) mine conflict)) used fits passed free used_now = fits (Known (Gone v m) mine conflict) refl
 
-stays_there : (b : Bool) → b ≡ true → IsThere (cond b (Some Incomplete) None)
-stays_there true e = tt
-stays_there false e = cc
-
 purged_there : (named used : Bool) (old : Option Entry) → (named ≡ true → used ≡ true) → IsThere old → IsThere (cond named (cond used (Some Incomplete) None) old)
-purged_there true used old h there = stays_there used (h refl)
+purged_there true used old h there = subst (λ b. IsThere (cond b (Some Incomplete) None)) (sym (h refl)) tt
 purged_there false used old h there = there
 
 closed_purged : (t : TableValue) (ks : List Key) → IsSound t → Each (changed t (purged t ks) ks) (λ k e. LivesIn (changed t (purged t ks) ks) e)
@@ -60,7 +56,7 @@ closed_purged t ks s k e has r used =
     (λ named. any_passes (λ u. not (is_named ks u)) k (users t r) (is_user t k r e old used) (not_from_false (is_named ks k) unnamed))
     (s.closed k e old r used)))
 
-pub purge_sound : (t : TableValue) (ks : List Key) → IsSound t → first_of (λ k. purge_entry_test k (entry_of t k)) ks ≡ None → first_of (new_use_test t ks) ks ≡ None → IsSound (changed t (purged t ks) ks)
+purge_sound : (t : TableValue) (ks : List Key) → IsSound t → first_of (λ k. purge_entry_test k (entry_of t k)) ks ≡ None → first_of (new_use_test t ks) ks ≡ None → IsSound (changed t (purged t ks) ks)
 purge_sound t ks s passed free = record {
   entries = next_is (λ n. Each (changed t (purged t ks) ks) (IsSoundEntry n)) t (purged t ks) ks
       (each_changed (IsSoundEntry t.next) t (purged t ks) ks s.entries

@@ -28,11 +28,11 @@ entry_refers r None = refl
 entry_refers r (Some e) = refl
 
 -- who lives and refers to a key is one of its users
-pub user_refers : (t : TableValue) (r k : Key) → is_named (users t r) k ≡ option_map_or (λ c. refers c r) (content_of t k) false
+user_refers : (t : TableValue) (r k : Key) → is_named (users t r) k ≡ option_map_or (λ c. refers c r) (content_of t k) false
 user_refers t r k = user_uses t r k ∙ entry_refers r (entry_of t k)
 
 -- keys from several lists that pass, each once
-pub once_among : (p : Key → Bool) (f : Key → List Key) (ks : List Key) (q : Key) → is_named (distinct (filter p (flat_map f ks))) q ≡ (p q && list_any (λ k. is_named (f k) q) ks)
+once_among : (p : Key → Bool) (f : Key → List Key) (ks : List Key) (q : Key) → is_named (distinct (filter p (flat_map f ks))) q ≡ (p q && list_any (λ k. is_named (f k) q) ks)
 once_among p f ks q = in_distinct q (filter p (flat_map f ks)) ∙ in_filter p q (flat_map f ks) ∙ ap (λ b. p q && b) (named_flat f ks q)
 
 -- Mended ways.
