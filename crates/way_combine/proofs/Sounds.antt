@@ -22,7 +22,7 @@ use Rattle.osm_table.specs.declared.entry.Entry.{Entry}
 use Rattle.osm_table.specs.declared.entry.Entry.TheVariants.{Incomplete, Known}
 use Rattle.osm_table.specs.Table.{TableValue, entry_of, keys_by_rank, uses, mine_of, Each, IsThere}
 use Rattle.dataset.specs.Sound.{IsSound, IsSoundEntry, IsNumber, LivesIn}
-use Rattle.dataset.proofs.Changes.{mine_entry, deleted_entry}
+use Rattle.dataset.proofs.Changes.{deleted_entry}
 use Rattle.dataset.proofs.Differs.{same_at_decides}
 use Rattle.dataset.proofs.Listed.{user_uses}
 use Rattle.tool_api.specs.declared.kinds.Kinds.TheVariants.{Ways}
@@ -40,8 +40,8 @@ use Rattle.way_combine.proofs.Among.{way_kind, user_is, uses_one, some_user}
 use Rattle.way_combine.proofs.Joints.{Only, joined_only}
 use Rattle.way_combine.proofs.Looks.{entry_thrice, next_thrice, four_cases}
 use Rattle.way_combine.proofs.Runs.{folds_alike, folded_stays, Stays}
-use Rattle.tool_api.proofs.Bools.{and_right, left_alone, or_true}
-use Rattle.tool_api.proofs.Sounds.{edited_there}
+use Rattle.tool_api.proofs.Bools.{and_right, both, left_alone, or_true}
+use Rattle.tool_api.proofs.Sounds.{content_edited, edited_there}
 
 -- The kept way is one of the ways.
 
@@ -88,8 +88,7 @@ fits_edited t u limit named k base c d passed was is =
     fits_or_stays (Some c) d fine
 
 sound_edited : (n : ℕ) (k : Key) (base : Base) (c d : Content) → kind_of_content d ≡ k.kind → (fits d ≡ true) ⊎ (Some c ≡ Some d) → IsSoundEntry n k (Known base (Some c) None) → IsSoundEntry n k (Known base (Some d) None)
-sound_edited n k base c d kind (inl fit) s = mine_entry n k base (Some c) d None s kind fit tt
-sound_edited n k base c d kind (inr same) s = subst (λ (x : Option Content). IsSoundEntry n k (Known base x None)) same s
+sound_edited n k base c d kind fit s = content_edited n (λ _. d) k base c (kind ∙ sym s.kinds.1) fit s
 
 edited_from : (P : Entry → Type 0) (f : Content → Content) (e : Entry) (o : Option Entry) → option_map (with_mine f) o ≡ Some e → ((x : Entry) → o ≡ Some x → with_mine f x ≡ e → P e) → P e
 edited_from P f e None has h = cc
@@ -316,19 +315,13 @@ module _ (t : TableValue) (limit : ℕ) (ways : List Key) (refs : List ℤ) (kep
   rel_closed : (q : Key) (e : Entry) → edit t folds q ≡ Some e → LivesIn after e
   rel_closed q e is = edited_from (LivesIn after) folds e (entry_of t q) is (λ x was same. subst (LivesIn after) same (folded_closed q x was))
 
-  and_true : (a b c : Bool) → a ≡ true → b ≡ true → c ≡ true → ((a && b) && c) ≡ true
-  and_true true true true e f g = refl
-  and_true true true false e f g = g
-  and_true true false c e f g = cc
-  and_true false b c e f g = cc
-
   -- who refers to one of the ways is one of the relations
   user_among : (q r : Key) (e : Entry) → entry_of t q ≡ Some e → IsTrue (uses e r) → is_named ways r ≡ true → is_named rels q ≡ true
   user_among q r e is used named =
       let usage : option_map_or (λ (x : Entry). uses x r) (entry_of t q) false ≡ true = ap (λ (o : Option Entry). option_map_or (λ (x : Entry). uses x r) o false) is ∙ used in
       let h = user_is r (entry_of t q) (named_way r named) usage in
       in_filter (λ (k : Key). option_map_or is_relation (content_of t k) false && uses_one t ways k) q (keys_by_rank t)
-      ∙ and_true _ _ _ h.1 (some_user t ways q r named (user_uses t r q ∙ usage)) (has_key t q h.0)
+      ∙ both _ _ (both _ _ h.1 (some_user t ways q r named (user_uses t r q ∙ usage))) (has_key t q h.0)
 
   rest_closed : (q : Key) (e : Entry) → is_named rels q ≡ false → entry_of t q ≡ Some e → LivesIn after e
   rest_closed q e apart is r used =

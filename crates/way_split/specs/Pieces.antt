@@ -5,6 +5,7 @@
 use Rattle.std.specs.Prelude.{◌≡◌, ℕ, ℤ, ◌-◌, ◌<◌, ◌≤◌, ◌&&◌, Bool, true, false, not, nat_le, List, [], ◌∷◌, ◌++◌, length, map, take, drop, get_or}
 use Rattle.std.specs.List.{flat_map, list_all, list_any, range_with_len}
 use Rattle.std.specs.Option.{option_map_or}
+use Rattle.osm_base.specs.Rank.{is_key}
 use Rattle.osm_base.specs.declared.key.Key.{Key}
 use Rattle.osm_base.specs.declared.key.Kind.TheVariants as kind
 use Rattle.tool_api.specs.Changes.{new_key}
@@ -56,3 +57,11 @@ pub record IsFirstLongest (ps : List (List ℤ)) (i : ℕ) : Type 0 where
 -- the keys of new ways, in order from a number on
 abbrev pub new_ways : ℕ → ℕ → List Key
 new_ways next count = map (new_key kind.Way) (range_with_len next count)
+
+-- the keys of the pieces, along the way
+abbrev pub keys_of : List (Key × List ℤ) → List Key
+keys_of parts = map (λ p. p.0) parts
+
+-- the way's key is none of the new ones from a number on
+abbrev pub IsOlder : Key → ℕ → Type 0
+IsOlder way next = (n : ℕ) → next ≤ n → is_key way (new_key kind.Way n) ≡ false
