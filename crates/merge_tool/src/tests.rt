@@ -170,7 +170,7 @@ fn deletion(ds: &DataSet, key: Key) -> Result<Draft, AllocError>
 fn delete(ds: &mut DataSet, key: Key) -> Result<bool, AllocError> {
     if ds.users(key).is_empty() {
         let draft = deletion(ds, key)?;
-        Steps::new(ds.alloc()).commit(ds, &draft)?;
+        Steps::new(ds.alloc()).commit(ds, draft)?;
     }
     Ok(state(ds, key) == b'x')
 }

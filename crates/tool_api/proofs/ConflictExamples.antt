@@ -3,6 +3,7 @@ use Rattle.std.proofs.Common.{◌≡◌, ℕ, pos, negsuc, true, false, List, []
 use Rattle.std.specs.Prelude.{codes, Result}
 use Rattle.std.specs.FinMap as fin
 use Rattle.osm_base.specs.OnMap.{is_on_map}
+use Rattle.osm_base.specs.Place.{place_at}
 use Rattle.osm_base.specs.Rank.{rank_cmp}
 use Rattle.osm_base.specs.RankLaws.{rank_total}
 use Rattle.osm_base.specs.Content.{node}
@@ -95,6 +96,7 @@ conflict_before_range : move_entry_test (pos 3600000000) (pos 0) (n 1) (Some (wi
 conflict_before_range = refl
 
 out_of_range : move_entry_test (pos 3600000000) (pos 0) (n 1) (Some (live (dot 0 refl))) ≡ Some (OutOfRange (n 1))
+unfolding place_at
 out_of_range = refl
 
 -- One in conflict isn't purged, deleted or not; an Incomplete one and a deleted one are.
@@ -212,6 +214,7 @@ deletes_one_in_conflict = simp (fin.get-entries, in_street) refl
 
 -- `move w6 0 0` would move its node n4
 moves_one_in_conflict : refused (shift town 9 (w 6 ∷ []) (pos 0) (pos 0)) ≡ Some (InConflict (n 4))
+unfolding place_at
 moves_one_in_conflict = simp (fin.get-entries, in_street) refl
 
 -- `erase n1` would mend w5

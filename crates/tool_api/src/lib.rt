@@ -31,7 +31,7 @@ mod undoable;
 mod uses;
 mod verb;
 
-pub use closing::{accept, closed, closing_tests, finish, room_test};
+pub use closing::{closed, closing_tests, room_test};
 pub use command::Command;
 pub use contents::{content_of, is_relation, refs_at};
 pub use deletion::delete_all;

@@ -65,19 +65,20 @@ impl Steps {
     }
 
     /// Makes the draft's table the table, and puts the difference last on `done`. It costs the draft's entries and
-    /// their references.
+    /// their references. The draft is let go before the table changes, so that the two don't stand side by side.
     ///
     /// # Errors
     /// Want of memory, and then nothing is changed.
-    pub fn commit(&mut self, ds: &mut DataSet, draft: &Draft) -> Result<(), AllocError>
-        requires sound { IsSound (drafted draft.now ds.old) }
-        ensures table { OnOk result (ds.new ≡ drafted draft.now ds.old) }
+    pub fn commit(&mut self, ds: &mut DataSet, draft: Draft) -> Result<(), AllocError>
+        requires sound { IsSound (drafted draft ds.old) }
+        ensures table { OnOk result (ds.new ≡ drafted draft ds.old) }
         ensures done { OnOk result (self.new.0 ≡ self.old.0 ++ diff ds.old ds.new ∷ []) }
         ensures undone { self.new.1 ≡ self.old.1 }
         ensures err_table { OnErr result (ds.new ≡ ds.old) }
         ensures err_done { OnErr result (self.new.0 ≡ self.old.0) }
     {
-        let patch = ds.patch_of(draft)?;
+        let patch = ds.patch_of(&draft)?;
+        drop(draft);
         self.behind.reserve(1)?;
         ds.apply(&patch)?;
         match self.behind.push(patch) {

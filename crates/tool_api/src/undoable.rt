@@ -48,7 +48,7 @@ impl<C: Command> Tool for Undoable<C> {
         match self.command.plan(ds, job, limit)? {
             Plan::Refused(refusal) => Ok(Reply::Refused(refusal)),
             Plan::Change { draft, made } => {
-                self.steps.commit(ds, &draft)?;
+                self.steps.commit(ds, draft)?;
                 Ok(Reply::Done(made))
             }
         }
