@@ -1,5 +1,5 @@
 -- Steps of a history are steps of the machine.
-use Rattle.std.proofs.Common.{◌≡◌, ℕ, suc, zero, ◌<◌, ◌≤◌, ◌+◌, ◌-◌, List, [], ◌∷◌, length, take, drop, sym, ◌∙◌, ap, refl, arith, zero-add, false, true, nat_le, Bool, if◌then◌else◌}
+use Rattle.std.proofs.Common.{◌≡◌, ℕ, suc, zero, ◌<◌, ◌≤◌, ◌+◌, List, [], ◌∷◌, length, take, drop, sym, ◌∙◌, ap, refl, arith, zero-add, false, true, nat_le, Bool, if◌then◌else◌}
 use Rattle.std.proofs.lemmas.Bool.Decides.{nat_tests}
 use Rattle.std.proofs.lemmas.List.{length-take-le}
 use Rattle.osm_table.specs.Table.{TableValue}

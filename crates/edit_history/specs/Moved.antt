@@ -2,10 +2,9 @@
 --
 -- Each call is a move of the machine: of the state before it follow its answer and the state after it. The functions
 -- `done`, `undone` and `kind` say what a box keeps and which verb it has.
-use Rattle.std.specs.Prelude.{◌≡◌, ◌≢◌, ℕ, ◌≤◌, List, length, Bool, true, false, nat_le, if◌then◌else◌, Result, OnOk, IfOk, ◌⊎◌}
+use Rattle.std.specs.Prelude.{◌≡◌, ◌≢◌, ℕ, List, length, Bool, true, false, nat_le, if◌then◌else◌, Result, OnOk, IfOk}
 use Rattle.std.specs.declared.dyn_box.DynBox.{DynBox}
 use Rattle.std.specs.declared.alloc.Global.{Global}
-use Rattle.osm_table.specs.Table.{TableValue}
 use Rattle.dataset.specs.Patch.{PatchValue, StandsBefore, after_of}
 use Rattle.dataset.specs.Sound.{IsSound}
 use Rattle.tool_api.specs.declared.verb.Verb.{Verb}
@@ -15,7 +14,7 @@ use Rattle.tool_api.specs.Plain.{verb_of, plain, IsWellFormed}
 use Rattle.edit_history.specs.declared.counts.Group.TheVariants.{Outside, Refused}
 use Rattle.edit_history.specs.declared.sides.Direction.{Direction}
 use Rattle.edit_history.specs.declared.history.History.{History}
-use Rattle.edit_history.specs.Machine.{State, IsWiped, ran, went_back, went_on}
+use Rattle.edit_history.specs.Machine.{State, IsWiped, ran}
 use Rattle.edit_history.specs.Single.{tables, went}
 use Rattle.edit_history.specs.Trail.{KeepNothing, IsAlong}
 use Rattle.edit_history.specs.Boxes.{trail_of}

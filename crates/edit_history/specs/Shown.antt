@@ -79,6 +79,6 @@ pub record IsFirst (v : Verb) (vs : List Verb) (i : ℕ) : Type 0 where
   pub none : (k : ℕ) → k < i → slice_get vs k ≢ Some v
 
 -- With Done the difference of the tables is last at the first box with the verb, and the others keep what they had.
-abbrev pub KeptByFirst : Reply → Verb → List Verb → TableValue → TableValue → List (List PatchValue) → List (List PatchValue) → Type 0
-KeptByFirst (reply.Done keys) v vs t u ls ms = (i : ℕ) × IsFirst v vs i × (ms ≡ slice_set ls i (get_or ls i [] ++ diff t u ∷ []))
-KeptByFirst (reply.Refused r) v vs t u ls ms = Unit {0}
+abbrev pub KeptByFirst : {X : Type 0} {F : X → Type 0} → (DynBox X Global F → List PatchValue) → (DynBox X Global F → Verb) → Verb → History X F → History X F → Reply → Type 0
+KeptByFirst done kind v old new (reply.Done keys) = (i : ℕ) × IsFirst v (verbs_of kind old) i × (patches_of done new ≡ slice_set (patches_of done old) i (get_or (patches_of done old) i [] ++ diff old.jobs.ds new.jobs.ds ∷ []))
+KeptByFirst done kind v old new (reply.Refused r) = Unit {0}

@@ -7,7 +7,7 @@ ghost use Rattle.edit_history.specs.Boxes.{WentBy, trail_of};
 ghost use Rattle.edit_history.specs.Machine.{IsWiped, fresh, first_state, ran, began, gave_up, ended, settled};
 ghost use Rattle.edit_history.specs.Single.{go_1, go_n};
 ghost use Rattle.edit_history.specs.Ways.{side};
-ghost use Rattle.edit_history.specs.Shown.{shown, Valid, IsThere, IsFirst, KeptByFirst, verbs_of, patches_of};
+ghost use Rattle.edit_history.specs.Shown.{shown, Valid, IsThere, IsFirst, KeptByFirst, verbs_of};
 ghost use Rattle.edit_history.specs.Moved.{Alone, Fits, IsBetween, MayRun, MaySettle, Moved, Stopped, run_move, silent, steps_move};
 ghost use Rattle.edit_history.specs.declared.counts.Group.TheVariants.{Outside, Running, Refused};
 ghost use Rattle.edit_history.specs.declared.sides.Direction.TheVariants.{Back, On};
@@ -87,7 +87,7 @@ impl History {
     pub fn run(&mut self, job: &Job, limit: u64) -> Result<Reply, AllocError>
         requires { Fits (λ b. done b) (λ b. undone b) (λ b. kind b) self.old (MayRun job.now) }
         ensures moved { Moved (λ b. done b) (λ b. undone b) (λ b. kind b) self.old self.new result (run_move job.now limit) }
-        ensures first { IfOk result (λ r. KeptByFirst r (verb_of job.now) (verbs_of (λ b. kind b) self.old) (shown (λ b. done b) (λ b. undone b) self.old).now (shown (λ b. done b) (λ b. undone b) self.new).now (patches_of (λ b. done b) self.old) (patches_of (λ b. done b) self.new)) }
+        ensures first { IfOk result (KeptByFirst (λ b. done b) (λ b. kind b) (verb_of job.now) self.old self.new) }
         ensures stopped { OnErr result (Stopped (λ b. done b) (λ b. undone b) self.new) }
         ensures between { OnErr result (IsBetween Back (λ b. done b) (λ b. undone b) self.old self.new ⊎ ((shown (λ b. done b) (λ b. undone b) self.new).now ≡ (plain job.now (shown (λ b. done b) (λ b. undone b) self.old).now limit).table)) }
     {
@@ -215,7 +215,7 @@ impl History {
         ensures reply { IfOk result (λ r. r ≡ (plain job.now self.old.jobs.ds limit).reply) }
         ensures valid { OnOk result (Valid (λ b. done b) (λ b. undone b) self.new) }
         ensures state { IfOk result (λ r. shown (λ b. done b) (λ b. undone b) self.new ≡ ran r (plain job.now self.old.jobs.ds limit).table (shown (λ b. done b) (λ b. undone b) self.old)) }
-        ensures first { IfOk result (λ r. KeptByFirst r (verb_of job.now) (verbs_of (λ b. kind b) self.old) self.old.jobs.ds self.new.jobs.ds (patches_of (λ b. done b) self.old) (patches_of (λ b. done b) self.new)) }
+        ensures first { IfOk result (KeptByFirst (λ b. done b) (λ b. kind b) (verb_of job.now) self.old self.new) }
         ensures verbs { verbs_of (λ b. kind b) self.new ≡ verbs_of (λ b. kind b) self.old }
         ensures err { OnErr result (IsBetween Back (λ b. done b) (λ b. undone b) self.old self.new ⊎ (self.new.jobs.ds ≡ (plain job.now self.old.jobs.ds limit).table)) }
     {

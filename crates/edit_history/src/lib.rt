@@ -7,7 +7,8 @@
 //!
 //! Advice for who changes it: a type can't hold a fact on what a boxed tool keeps, so `Valid` stands on each method and
 //! `shown` gives the state. Only `boxes` speaks of boxes; above it (`jobs`) all is plain lists of patches, one for each
-//! box, and numbers that say whose turn it is; `counts` knows the steps and the group, and no box at all. To add a call,
+//! box, and numbers that say whose turn it is; `counts` knows the steps and the group, and no box at all. What goes back
+//! and on again goes by a `Direction` over the two sides of such numbers (`sides`), so it is written once. To add a call,
 //! add its step to `specs/Machine`, and then the call to `history`: what it asks by `Fits`, what it makes by `Moved`
 //! (`specs/Moved`), and what want of memory leaves.
 #![tactic(auto)]
