@@ -6,17 +6,14 @@ ghost use Rattle.session_cases.specs.Named.{is_named, LacksUnnamed};
 
 use crate::case::{Case, CaseFile, Tools};
 use crate::poor::PoorTool;
+use all_tools::run_editor;
 use anyhow::Result;
 use edit_history::{no_boxes, with_box};
 use edit_session::{Status, run_session};
-use merge_tool::MergeTool;
 use osm_outside::{Calls, Files, MemoryShelf, MemorySink};
 use std::alloc::{AllocError, Global};
 use tool_api::Verb;
-use tools_basic::{AddTool, ChangeTool, MoveTool, TagTool};
-use tools_delete::{DeleteTool, EraseTool, PurgeTool};
-use way_combine::{CombineTool, ReverseTool};
-use way_split::SplitTool;
+use tools_basic::{AddTool, TagTool};
 
 /// Runs the case, and again for each call that is to fail.
 pub fn run_case(rt: &HostRuntime, case: &Case) -> Result<()> {
@@ -67,47 +64,10 @@ fn run_with(
     sink: &mut MemorySink,
 ) -> Result<Status, AllocError> {
     match tools {
-        Tools::All => run_with_all(alloc, words, shelf, sink),
+        Tools::All => run_editor(alloc, words, shelf, sink),
         Tools::None => Ok(run_session(alloc, words, no_boxes(alloc), shelf, sink)),
         Tools::Poor => run_with_poor(alloc, words, shelf, sink),
     }
-}
-
-fn run_with_all(
-    alloc: Global,
-    words: &[String],
-    shelf: &mut MemoryShelf,
-    sink: &mut MemorySink,
-) -> Result<Status, AllocError> {
-    let tools = no_boxes(alloc);
-    let tools = with_box(tools, Verb::Add, Box::new(alloc, AddTool::new(alloc))?)?;
-    let tools = with_box(tools, Verb::Tag, Box::new(alloc, TagTool::new(alloc))?)?;
-    let tools = with_box(tools, Verb::Move, Box::new(alloc, MoveTool::new(alloc))?)?;
-    let tools = with_box(
-        tools,
-        Verb::Change,
-        Box::new(alloc, ChangeTool::new(alloc))?,
-    )?;
-    let tools = with_box(
-        tools,
-        Verb::Delete,
-        Box::new(alloc, DeleteTool::new(alloc))?,
-    )?;
-    let tools = with_box(tools, Verb::Erase, Box::new(alloc, EraseTool::new(alloc))?)?;
-    let tools = with_box(tools, Verb::Purge, Box::new(alloc, PurgeTool::new(alloc))?)?;
-    let tools = with_box(tools, Verb::Split, Box::new(alloc, SplitTool::new(alloc))?)?;
-    let tools = with_box(
-        tools,
-        Verb::Combine,
-        Box::new(alloc, CombineTool::new(alloc))?,
-    )?;
-    let tools = with_box(
-        tools,
-        Verb::Reverse,
-        Box::new(alloc, ReverseTool::new(alloc))?,
-    )?;
-    let tools = with_box(tools, Verb::Merge, Box::new(alloc, MergeTool::new(alloc))?)?;
-    Ok(run_session(alloc, words, tools, shelf, sink))
 }
 
 // With two tools for tagging, of which the first never finds memory.

@@ -1,0 +1,81 @@
+//! A session with a tool for each verb.
+//!
+//! `run_editor` makes the tools in their boxes and hands them to `run_session`, whose clauses it has, with the verbs of all
+//! commands in place of those of the boxes; so no step misses its tool. A box can't be handed out by the function that
+//! makes it, so the shelf and the sink come in from above, of whatever kind.
+//!
+//! To add a tool of a new verb: its line here, and the verb in `specs/Verbs`.
+#![tactic(auto)]
+
+ghost use Rattle.std.specs.Prelude.{◌≡◌, ◌⊎◌, ◌↔◌, None, IfSome, IfOk, OnErr, map, string_bytes};
+ghost use Rattle.osm_outside.specs.Outside.{Rose};
+ghost use Rattle.tool_api.specs.declared.verb.Verb.{Verb};
+ghost use Rattle.edit_session.specs.Limits.{default_limits};
+ghost use Rattle.edit_session.specs.Session.{outcome, script_name, Agrees};
+ghost use Rattle.all_tools.specs.Verbs.{all_verbs};
+
+use edit_history::{no_boxes, with_box};
+use edit_session::{Status, run_session};
+use merge_tool::MergeTool;
+use osm_outside::{Shelf, Sink};
+use std::alloc::{AllocError, Global};
+use tool_api::Verb;
+use tools_basic::{AddTool, ChangeTool, MoveTool, TagTool};
+use tools_delete::{DeleteTool, EraseTool, PurgeTool};
+use way_combine::{CombineTool, ReverseTool};
+use way_split::SplitTool;
+
+/// Runs the session that the words ask for, with a tool for each verb.
+///
+/// # Errors
+/// No memory was left for the tools, and then nothing was read or written.
+pub fn run_editor<S: Shelf, K: Sink>(
+    alloc: Global,
+    words: &[String],
+    shelf: &mut S,
+    out: &mut K,
+) -> Result<Status, AllocError>
+    // Where the shelf tells its files, the status is that of the outcome and the sink took its text; after a fault
+    // or want of memory it took a front of the text.
+    ensures outcome { IfOk result (λ status. IfSome (S.told shelf.old) (λ files. Agrees (K.taken out.old) (K.taken out.new) status (outcome default_limits all_verbs (map string_bytes words.now) files))) }
+    ensures read { IfOk result (λ status. status ≡ Status.ReadFault → Rose (S.faults shelf.old) (S.faults shelf.new)) }
+    ensures write { IfOk result (λ status. status ≡ Status.WriteFault → Rose (K.faults out.old) (K.faults out.new)) }
+    ensures words { IfOk result (λ status. (status ≡ Status.BadWords) ↔ (script_name (map string_bytes words.now) ≡ None)) }
+    ensures unread { IfOk result (λ status. status ≡ Status.BadWords → (shelf.new ≡ shelf.old) × (out.new ≡ out.old)) }
+    ensures tools { (verb : Verb) → IfOk result (λ status. status ≡ Status.NoTool verb → ⊥) }
+    // It doesn't give up by itself, but for memory.
+    ensures complete { IfOk result (λ status. IfSome (S.told shelf.old) (λ files. (outcome default_limits all_verbs (map string_bytes words.now) files).0 ≡ Status.Done
+        → (Rose (S.faults shelf.old) (S.faults shelf.new) → ⊥) → (Rose (K.faults out.old) (K.faults out.new) → ⊥)
+        → (status ≡ Status.Done) ⊎ (status ≡ Status.Memory))) }
+    ensures err { OnErr result ((shelf.new ≡ shelf.old) × (out.new ≡ out.old)) }
+{
+    let tools = no_boxes(alloc);
+    let tools = with_box(tools, Verb::Add, Box::new(alloc, AddTool::new(alloc))?)?;
+    let tools = with_box(tools, Verb::Tag, Box::new(alloc, TagTool::new(alloc))?)?;
+    let tools = with_box(tools, Verb::Move, Box::new(alloc, MoveTool::new(alloc))?)?;
+    let tools = with_box(
+        tools,
+        Verb::Change,
+        Box::new(alloc, ChangeTool::new(alloc))?,
+    )?;
+    let tools = with_box(
+        tools,
+        Verb::Delete,
+        Box::new(alloc, DeleteTool::new(alloc))?,
+    )?;
+    let tools = with_box(tools, Verb::Erase, Box::new(alloc, EraseTool::new(alloc))?)?;
+    let tools = with_box(tools, Verb::Purge, Box::new(alloc, PurgeTool::new(alloc))?)?;
+    let tools = with_box(tools, Verb::Split, Box::new(alloc, SplitTool::new(alloc))?)?;
+    let tools = with_box(
+        tools,
+        Verb::Combine,
+        Box::new(alloc, CombineTool::new(alloc))?,
+    )?;
+    let tools = with_box(
+        tools,
+        Verb::Reverse,
+        Box::new(alloc, ReverseTool::new(alloc))?,
+    )?;
+    let tools = with_box(tools, Verb::Merge, Box::new(alloc, MergeTool::new(alloc))?)?;
+    Ok(run_session(alloc, words, tools, shelf, out))
+}
