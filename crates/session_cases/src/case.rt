@@ -1,5 +1,7 @@
 //! A session to run.
 
+use std::fmt;
+
 /// A file of the shelf.
 #[derive(Debug, Drop)]
 pub struct CaseFile {
@@ -21,6 +23,58 @@ pub enum Tools {
     Poor,
 }
 
+/// The call that fails in a run, counted from 1.
+#[derive(Clone, Copy, Debug, PartialEq, Eq)]
+pub enum Failing {
+    /// None.
+    Nothing,
+    /// A call of the shelf.
+    Shelf(u64),
+    /// A call of the sink.
+    Sink(u64),
+}
+
+impl Failing {
+    /// The call of the shelf that fails, 0 for none.
+    pub fn of_shelf(self) -> u64 {
+        match self {
+            Failing::Shelf(call) => call,
+            _ => 0,
+        }
+    }
+
+    /// The call of the sink that fails, 0 for none.
+    pub fn of_sink(self) -> u64 {
+        match self {
+            Failing::Sink(call) => call,
+            _ => 0,
+        }
+    }
+}
+
+impl fmt::Display for Failing {
+    fn fmt<W: fmt::Write>(&self, f: &mut fmt::Formatter<W>) -> fmt::Result {
+        match self {
+            Failing::Nothing => Ok(()),
+            Failing::Shelf(call) => write!(f, ", call {call} of the shelf fails"),
+            Failing::Sink(call) => write!(f, ", call {call} of the sink fails"),
+        }
+    }
+}
+
+/// A run of a session, and what it has to come to.
+#[derive(Debug, Drop)]
+pub struct Run {
+    /// The call that fails.
+    pub failing: Failing,
+
+    /// The words of its status.
+    pub status: String,
+
+    /// What it writes.
+    pub text: Vec<u8>,
+}
+
 /// A session to run.
 #[derive(Debug, Drop)]
 pub struct Case {
@@ -36,9 +90,6 @@ pub struct Case {
     /// The files of its shelf.
     pub files: Vec<CaseFile>,
 
-    /// How many calls of the shelf fail in turn.
-    pub shelf_calls: u64,
-
-    /// How many calls of the sink fail in turn.
-    pub sink_calls: u64,
+    /// The runs of it, each with what it has to come to.
+    pub runs: Vec<Run>,
 }

@@ -1,8 +1,11 @@
-//! Runs whole sessions over the shelf and the sink in memory, and prints how each ended and what it wrote.
+//! Runs whole sessions over the shelf and the sink in memory, and compares how each ended and what it wrote with what it
+//! has to give.
 //!
-//! The sessions are data: the bundles of `BUNDLES` in the folder where it runs, one for each subject. `stdout` of this
-//! crate has what they must give, written from the rules of the formats. A case more needs no code and no proof.
-//! A line that begins with `= ` directs, every other line is a line of the file that was begun:
+//! The sessions are data: the bundles of `BUNDLES` in the folder where it runs, one for each subject. Each has its words,
+//! its files and, behind them, what is expected of it, written from the rules of the formats. It prints `ok` and the name
+//! of each run that came as expected, else both texts, and then it ends with an error. A case more needs no code and no
+//! proof, and its lines of `stdout`.
+//! A line that begins with `= ` directs, every other line is a line of what was begun last:
 //!
 //! - `= case NAME` begins a case,
 //! - `= word WORD` gives it a word; without any they are `editor` and `script`,
@@ -10,11 +13,11 @@
 //! - `= fill COUNT` puts so many `#` into the file,
 //! - `= no-tools` hands in no tool, and `= poor` those for adding and tagging, and before them one for tagging that never
 //!   finds memory,
-//! - `= shelf COUNT` and `= sink COUNT` run it again for each of the first so many calls of the
-//!   shelf or the sink, which then fails.
+//! - `= expect STATUS` begins what it has to give: the words of its status, and in the lines behind what it writes,
+//! - `= shelf CALL STATUS` and `= sink CALL STATUS` begin what it has to give where that call of the shelf or the sink
+//!   fails, counted from 1.
 //!
-//! In a line of a file `\t`, `\r` and `\\` stand for a tab, a CR and a backslash, and a backslash at
-//! its end leaves out the LF.
+//! In a line `\t`, `\r` and `\\` stand for a tab, a CR and a backslash, and a backslash at its end leaves out the LF.
 #![tactic(auto)]
 
 mod bundle;
@@ -22,7 +25,7 @@ mod case;
 mod poor;
 mod running;
 
-use anyhow::Result;
+use anyhow::{Result, bail};
 use bundle::read_cases;
 use running::run_case;
 use std::fs;
@@ -37,17 +40,23 @@ const BUNDLES: [&str; 5] = [
 ];
 
 fn main(rt: HostRuntime) -> Result<()> {
+    let mut all = true;
     for bundle in BUNDLES {
-        run_bundle(&rt, bundle)?;
+        all = run_bundle(&rt, bundle)? && all;
+    }
+    if !all {
+        bail!("some cases gave something else");
     }
     Ok(())
 }
 
-fn run_bundle(rt: &HostRuntime, bundle: &str) -> Result<()> {
+// Whether all its cases came as expected.
+fn run_bundle(rt: &HostRuntime, bundle: &str) -> Result<bool> {
     let text = fs::read_to_string(rt, bundle)?;
     let cases = read_cases(rt.alloc(), &text)?;
+    let mut all = true;
     for case in &cases {
-        run_case(rt, case)?;
+        all = run_case(rt, case)? && all;
     }
-    Ok(())
+    Ok(all)
 }

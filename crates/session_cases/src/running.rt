@@ -1,13 +1,13 @@
-//! Runs a case and prints what came of it.
+//! Runs a case, and compares what came of it with what was expected.
 ghost use Rattle.std.specs.Prelude.{◌≡◌, List, ℕ, None, false, OnOk};
 ghost use Rattle.std.specs.Str.{bytes_eq};
 ghost use Rattle.osm_outside.specs.Outside.{held};
 ghost use Rattle.session_cases.specs.Named.{is_named, LacksUnnamed};
 
-use crate::case::{Case, CaseFile, Tools};
+use crate::case::{Case, CaseFile, Run, Tools};
 use crate::poor::PoorTool;
 use all_tools::run_editor;
-use anyhow::Result;
+use anyhow::{Result, bail};
 use edit_history::{no_boxes, with_box};
 use edit_session::{Status, run_session};
 use osm_outside::{Calls, Files, MemoryShelf, MemorySink};
@@ -15,30 +15,36 @@ use std::alloc::{AllocError, Global};
 use tool_api::Verb;
 use tools_basic::{AddTool, TagTool};
 
-/// Runs the case, and again for each call that is to fail.
-pub fn run_case(rt: &HostRuntime, case: &Case) -> Result<()> {
-    println!(rt; "= case {}", case.name)?;
-    run_once(rt, case, 0, 0)?;
-    for call in 1..=case.shelf_calls {
-        println!(rt; "= case {}, call {call} of the shelf fails", case.name)?;
-        run_once(rt, case, call, 0)?;
+/// Runs each run of the case, and prints its name, or what was expected and what came. Whether all came as expected.
+pub fn run_case(rt: &HostRuntime, case: &Case) -> Result<bool> {
+    if case.runs.is_empty() {
+        bail!("nothing is expected of {}", case.name);
     }
-    for call in 1..=case.sink_calls {
-        println!(rt; "= case {}, call {call} of the sink fails", case.name)?;
-        run_once(rt, case, 0, call)?;
+    let mut all = true;
+    for run in &case.runs {
+        all = compare(rt, case, run)? && all;
     }
-    Ok(())
+    Ok(all)
 }
 
-// Runs the case with these calls of the shelf and the sink failing, none where the number is 0.
-fn run_once(rt: &HostRuntime, case: &Case, shelf_fails: u64, sink_fails: u64) -> Result<()> {
+// Runs it once, and prints its name, or both texts.
+fn compare(rt: &HostRuntime, case: &Case, run: &Run) -> Result<bool> {
     let alloc = rt.alloc();
-    let mut shelf = MemoryShelf::new(files_of(alloc, &case.files)?, calls(alloc, shelf_fails)?);
-    let mut sink = MemorySink::new(alloc, calls(alloc, sink_fails)?);
-    let status = run_words(alloc, case, &mut shelf, &mut sink)?;
-    println!(rt; "{status}")?;
-    print!(rt; "{}", str::from_utf8(sink.as_bytes())?)?;
-    Ok(())
+    let mut shelf = MemoryShelf::new(
+        files_of(alloc, &case.files)?,
+        calls(alloc, run.failing.of_shelf())?,
+    );
+    let mut sink = MemorySink::new(alloc, calls(alloc, run.failing.of_sink())?);
+    let status = format!(in alloc; "{}", run_words(alloc, case, &mut shelf, &mut sink)?)?;
+    if status == run.status && sink.as_bytes() == run.text.as_slice() {
+        println!(rt; "ok {}{}", case.name, run.failing)?;
+        return Ok(true);
+    }
+    println!(rt; "{}{}: expected was", case.name, run.failing)?;
+    println!(rt; "{}\n{}", run.status, str::from_utf8(&run.text)?)?;
+    println!(rt; "and this came")?;
+    println!(rt; "{status}\n{}", str::from_utf8(sink.as_bytes())?)?;
+    Ok(false)
 }
 
 fn run_words(
