@@ -1,8 +1,8 @@
-//! The closing tests of jobs, and how a job ends.
+//! The closing tests of jobs, and the plan that they leave.
 //!
 //! The tests speak of the whole table before and after a job, and the code looks at the draft's keys alone: what the
 //! draft doesn't name is as it was.
-ghost use Rattle.std.specs.Prelude.{◌≡◌, None, IfOk, OnOk, OnErr, is_some};
+ghost use Rattle.std.specs.Prelude.{◌≡◌, None, IfOk, is_some};
 ghost use Rattle.std.specs.List.{find, count_by};
 ghost use Rattle.std.specs.Option.{option_copied};
 ghost use Rattle.std.specs.FinMap as map;
@@ -13,16 +13,11 @@ ghost use Rattle.dataset.specs.Draft.{drafted};
 ghost use Rattle.dataset.specs.Sound.{IsSound};
 ghost use Rattle.tool_api.specs.Changes.{content_of};
 ghost use Rattle.tool_api.specs.Closing.{closing, closing_tests, disturb_test, fit_test, room_test, disturbs, spoils, in_conflict, is_full};
-ghost use Rattle.tool_api.specs.Patches.{Kept};
-ghost use Rattle.tool_api.specs.Plain.{answered};
 ghost use Rattle.tool_api.specs.Planned.{Plans};
-ghost use Rattle.tool_api.specs.declared.reply.Reply.TheVariants.{Done};
 
 use crate::contents::content;
 use crate::plan::Plan;
 use crate::refusal::Refusal;
-use crate::reply::Reply;
-use crate::steps::Steps;
 use crate::tests::is_named;
 use dataset::{DataSet, Draft};
 use osm_base::{Content, Key, Keys, fits, same};
@@ -172,7 +167,7 @@ pub fn room_test(ds: &DataSet, draft: &Draft, limit: u64) -> Result<Option<Refus
 ///
 /// # Errors
 /// No memory was left.
-pub fn closing_tests(
+fn closing_tests(
     ds: &DataSet,
     draft: &Draft,
     named: &[Key],
@@ -208,54 +203,4 @@ pub fn closed(
         Some(refusal) => Ok(Plan::Refused(refusal)),
         None => Ok(Plan::Change { draft, made }),
     }
-}
-
-/// Ends a job: refuses by the closing tests, or makes the draft's table the table, keeps the difference as the last
-/// step, and answers the keys. It costs the draft's entries and their references.
-///
-/// # Errors
-/// No memory was left, and then nothing is changed.
-pub fn finish(
-    steps: &mut Steps,
-    ds: &mut DataSet,
-    draft: &Draft,
-    named: &[Key],
-    limit: u64,
-    keys: Keys,
-) -> Result<Reply, AllocError>
-    requires sound { closing_tests ds.old limit named.now (drafted draft.now ds.old) ≡ None → IsSound (drafted draft.now ds.old) }
-    ensures reply { IfOk result (λ r. r ≡ (answered ds.old (closing ds.old limit named.now (record { keys = keys; table = drafted draft.now ds.old }))).reply) }
-    ensures table { OnOk result (ds.new ≡ (answered ds.old (closing ds.old limit named.now (record { keys = keys; table = drafted draft.now ds.old }))).table) }
-    ensures done { IfOk result (λ r. Kept r ds.old ds.new steps.old.0 steps.new.0) }
-    ensures undone { steps.new.1 ≡ steps.old.1 }
-    ensures err_table { OnErr result (ds.new ≡ ds.old) }
-    ensures err_done { OnErr result (steps.new.0 ≡ steps.old.0) }
-{
-    if let Some(refusal) = closing_tests(ds, draft, named, limit)? {
-        return Ok(Reply::Refused(refusal));
-    }
-    accept(steps, ds, draft, keys)
-}
-
-/// Ends a job that has no closing tests: makes the draft's table the table, keeps the difference as the last step, and
-/// answers the keys. It costs the draft's entries and their references.
-///
-/// # Errors
-/// No memory was left, and then nothing is changed.
-pub fn accept(
-    steps: &mut Steps,
-    ds: &mut DataSet,
-    draft: &Draft,
-    keys: Keys,
-) -> Result<Reply, AllocError>
-    requires sound { IsSound (drafted draft.now ds.old) }
-    ensures reply { IfOk result (λ r. r ≡ Done keys) }
-    ensures table { OnOk result (ds.new ≡ drafted draft.now ds.old) }
-    ensures done { IfOk result (λ r. Kept r ds.old ds.new steps.old.0 steps.new.0) }
-    ensures undone { steps.new.1 ≡ steps.old.1 }
-    ensures err_table { OnErr result (ds.new ≡ ds.old) }
-    ensures err_done { OnErr result (steps.new.0 ≡ steps.old.0) }
-{
-    steps.commit(ds, draft)?;
-    Ok(Reply::Done(keys))
 }
