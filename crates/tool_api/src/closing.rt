@@ -1,4 +1,4 @@
-//! The closing tests of jobs, and how a job ends.
+//! The closing tests of jobs, and the plan that they leave.
 //!
 //! The tests speak of the whole table before and after a job, and the code looks at the draft's keys alone: what the
 //! draft doesn't name is as it was.
@@ -175,7 +175,7 @@ pub fn room_test(ds: &DataSet, draft: &Draft, limit: u64) -> Result<Option<Refus
 ///
 /// # Errors
 /// No memory was left.
-pub fn closing_tests(
+fn closing_tests(
     ds: &DataSet,
     draft: &Draft,
     named: &[Key],

@@ -89,11 +89,7 @@ pub fn edit_all<E: EditContent>(
 ///
 /// # Errors
 /// No memory was left.
-pub fn edited_draft<E: EditContent>(
-    ds: &DataSet,
-    keys: &[Key],
-    rule: &E,
-) -> Result<Draft, AllocError>
+fn edited_draft<E: EditContent>(ds: &DataSet, keys: &[Key], rule: &E) -> Result<Draft, AllocError>
     ensures { IfOk result (λ draft. drafted draft ds.now ≡ changed ds.now (edit ds.now (E.edited rule.now)) keys.now) }
 {
     let mut draft = Draft::new(ds);

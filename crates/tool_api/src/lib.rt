@@ -31,11 +31,11 @@ mod undoable;
 mod uses;
 mod verb;
 
-pub use closing::{closed, closing_tests, room_test};
+pub use closing::{closed, room_test};
 pub use command::Command;
 pub use contents::{content_of, is_relation, refs_at};
 pub use deletion::delete_all;
-pub use edits::{EditContent, edit_all, edited_draft, edits_plan};
+pub use edits::{EditContent, edit_all, edits_plan};
 pub use job::Job;
 pub use key_set::{KeySet, distinct};
 pub use kinds::Kinds;
