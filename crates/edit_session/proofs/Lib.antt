@@ -1,3 +1,4 @@
+pub mod Examples
 pub mod Fed
 pub mod Pieces
 pub mod Steps

@@ -3,8 +3,6 @@ use Rattle.std.proofs.Common.{◌≡◌, ℕ, Bool, true, false, refl, ap, if◌
 use Rattle.osm_table.specs.Table.{TableValue}
 use Rattle.tool_api.specs.declared.reply.Reply.{Reply}
 use Rattle.tool_api.specs.declared.reply.Reply.TheVariants as reply
-use Rattle.tool_api.specs.declared.job.Job as jobs
-use Rattle.tool_api.specs.Plain.{plain}
 use Rattle.edit_script.specs.declared.step.Act.{Act}
 use Rattle.edit_script.specs.declared.step.Act.TheVariants.{Job, Download, Begin, End, Undo, Redo, Print, Count}
 use Rattle.edit_script.specs.Order.{inside_after}

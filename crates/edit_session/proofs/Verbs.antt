@@ -1,38 +1,16 @@
 -- Verbs among others, by a test and by a place.
-use Rattle.std.proofs.Common.{◌≡◌, ℕ, zero, suc, ◌==◌, ◌||◌, Bool, true, false, List, [], ◌∷◌, Option, None, Some, refl, sym, ap, ◌∙◌, arith}
-use Rattle.std.specs.Prelude.{slice_get, if◌then◌else◌}
-use Rattle.std.proofs.lemmas.Bool.Decides.{nat_tests}
+use Rattle.std.proofs.Common.{◌≡◌, ℕ, zero, suc, ◌||◌, Bool, true, false, List, [], ◌∷◌, Option, None, Some, refl, sym, ap, ◌∙◌}
+use Rattle.std.specs.Prelude.{slice_get}
 use Rattle.tool_api.specs.declared.verb.Verb.{Verb}
-use Rattle.tool_api.specs.declared.verb.Verb.TheVariants.{Add, Tag, Move, Change, Delete, Erase, Purge, Split, Combine, Reverse, Merge}
+use Rattle.tool_api.specs.Verbs.{same_verb}
+use Rattle.tool_api.proofs.SameVerb.{same_is, is_same}
 use Rattle.tool_api.proofs.Bools.{or_true}
 use Rattle.edit_history.specs.Shown.{IsThere}
-use Rattle.edit_session.specs.Needs.{verb_number, same_verb, has_verb, lacks}
-
-abbrev of_number : ℕ → Verb
-of_number n = if n == 0 then Add else (if n == 1 then Tag else (if n == 2 then Move else (if n == 3 then Change else (if n == 4 then Delete else (if n == 5 then Erase else (if n == 6 then Purge else (if n == 7 then Split else (if n == 8 then Combine else (if n == 9 then Reverse else Merge)))))))))
-
-back : (v : Verb) → of_number (verb_number v) ≡ v
-back Add = refl
-back Tag = refl
-back Move = refl
-back Change = refl
-back Delete = refl
-back Erase = refl
-back Purge = refl
-back Split = refl
-back Combine = refl
-back Reverse = refl
-back Merge = refl
-
-same_is : (a b : Verb) → same_verb a b ≡ true → a ≡ b
-same_is a b e = let n : verb_number a ≡ verb_number b = grind (arith, nat_tests) in sym (back a) ∙ ap of_number n ∙ back b
-
-same_self : (v : Verb) → same_verb v v ≡ true
-same_self v = grind (arith, nat_tests)
+use Rattle.edit_session.specs.Needs.{has_verb, lacks}
 
 there_has : (v : Verb) (vs : List Verb) (i : ℕ) → slice_get vs i ≡ Some v → has_verb vs v ≡ true
 there_has v [] i e = absurd cc
-there_has v (w ∷ vs) zero e = let is : w ≡ v = cc in ap (λ x. same_verb v x || has_verb vs v) is ∙ ap (λ b. b || has_verb vs v) (same_self v)
+there_has v (w ∷ vs) zero e = let is : w ≡ v = cc in ap (λ x. same_verb v x || has_verb vs v) is ∙ ap (λ b. b || has_verb vs v) (is_same v v refl)
 there_has v (w ∷ vs) (suc i) e = ap (λ b. same_verb v w || b) (there_has v vs i e) ∙ or_true (same_verb v w)
 
 later : (v w : Verb) (vs : List Verb) → IsThere v vs → IsThere v (w ∷ vs)

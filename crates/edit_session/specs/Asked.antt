@@ -1,5 +1,5 @@
 -- What the functions of a session ask of the history that they move.
-use Rattle.std.specs.Prelude.{◌≡◌, Bool, true, false, List, Option, None, IfSome}
+use Rattle.std.specs.Prelude.{◌≡◌, Bool, true, false, List, None, IfSome}
 use Rattle.tool_api.specs.declared.verb.Verb.{Verb}
 use Rattle.edit_script.specs.declared.step.Act.{Act}
 use Rattle.edit_script.specs.declared.step.Step.{Step}

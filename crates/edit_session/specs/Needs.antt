@@ -2,12 +2,13 @@
 --
 -- For example `download f`, `tag n1 Ta=1`, `print` need the tools for merging and tagging; where no box has the verb
 -- Tag, that is the verb that is missing.
-use Rattle.std.specs.Prelude.{ℕ, ◌==◌, Bool, if◌then◌else◌, List, [], ◌∷◌, Option, None, Some}
+use Rattle.std.specs.Prelude.{Bool, if◌then◌else◌, List, [], ◌∷◌, Option, None, Some}
 use Rattle.std.specs.List.{list_any}
 use Rattle.std.specs.Option.{option_or}
 use Rattle.tool_api.specs.declared.verb.Verb.{Verb}
-use Rattle.tool_api.specs.declared.verb.Verb.TheVariants.{Add, Tag, Move, Change, Delete, Erase, Purge, Split, Combine, Reverse, Merge}
+use Rattle.tool_api.specs.declared.verb.Verb.TheVariants.{Merge}
 use Rattle.tool_api.specs.Plain.{verb_of}
+use Rattle.tool_api.specs.Verbs.{same_verb}
 use Rattle.edit_script.specs.declared.step.Act.{Act}
 use Rattle.edit_script.specs.declared.step.Act.TheVariants.{Job, Download}
 use Rattle.edit_script.specs.declared.step.Step.{Step}
@@ -17,23 +18,6 @@ abbrev pub needs : Act → Option Verb
 needs (Job job) = Some (verb_of job)
 needs (Download name) = Some Merge
 needs act = None
-
--- the verbs, told apart by numbers
-abbrev pub verb_number : Verb → ℕ
-verb_number Add = 0
-verb_number Tag = 1
-verb_number Move = 2
-verb_number Change = 3
-verb_number Delete = 4
-verb_number Erase = 5
-verb_number Purge = 6
-verb_number Split = 7
-verb_number Combine = 8
-verb_number Reverse = 9
-verb_number Merge = 10
-
-abbrev pub same_verb : Verb → Verb → Bool
-same_verb a b = verb_number a == verb_number b
 
 -- whether a verb is among these
 abbrev pub has_verb : List Verb → Verb → Bool

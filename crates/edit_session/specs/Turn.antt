@@ -2,11 +2,10 @@
 --
 -- For example in a state without a group `tag n9 Ta=1` over a table without n9 replies `refused 1 n9`, and the state
 -- stays. In a running group the table is then again the one at `begin`, and what follows up to `end` is skipped.
-use Rattle.std.specs.Prelude.{◌≡◌, ℕ, true, nat_le, if◌then◌else◌, List, [], ◌++◌, length, IfSome}
+use Rattle.std.specs.Prelude.{ℕ, nat_le, if◌then◌else◌, List, [], ◌++◌, length}
 use Rattle.osm_outside.specs.Outside.{Shelved}
 use Rattle.osm_table.specs.Table.{TableValue}
 use Rattle.download.specs.Tell.{told_of}
-use Rattle.tool_api.specs.declared.verb.Verb.{Verb}
 use Rattle.tool_api.specs.declared.job.Job as jobs
 use Rattle.tool_api.specs.declared.job.Job.TheVariants.{Merge}
 use Rattle.tool_api.specs.declared.reply.Reply.{Reply}

@@ -20,13 +20,15 @@ use edit_history::History;
 use edit_script::{ScriptFault, read_script};
 use osm_outside::{Shelf, Sink};
 use std::alloc::Global;
+use std::mem;
 use tool_api::Tool;
 
 /// Runs the session that the words ask for: the first word is the program's name, the second that of the script on the
 /// shelf. The tools run the jobs of the steps, one tool for each verb; of two with one verb the first is used.
 ///
 /// The words are tested first, then the script is read and its grammar tested, then whether each step has its tool, and
-/// then the steps run. Until they run nothing is written.
+/// then the steps run. Until they run nothing is written. A session is the last that its program does: what it holds at
+/// its end is let go and not freed.
 pub fn run_session<S: Shelf, K: Sink>(
     alloc: Global,
     words: &[String],
@@ -57,9 +59,17 @@ pub fn run_session<S: Shelf, K: Sink>(
 {
     let mut history = History::new(alloc, tools);
     match run_words(alloc, default_limits(), words, &mut history, shelf, out) {
-        Ok(status) => status,
-        Err(stop) => Status::from(stop),
+        Ok(status) => ended(history, status),
+        Err(stop) => ended(history, Status::from(stop)),
     }
+}
+
+// The status; the table and the patches go with the program, since to free them piece by piece takes time.
+fn ended(history: History, status: Status) -> Status
+    ensures { result ≡ status }
+{
+    mem::forget(history);
+    status
 }
 
 fn run_words<S: Shelf, K: Sink>(

@@ -1,7 +1,7 @@
 //! How a session ends.
 ghost use Rattle.std.specs.Prelude.{◌≡◌, Some};
 ghost use Rattle.edit_session.specs.StopStatus.{status_of};
-ghost use Rattle.edit_session.specs.StatusText.{number_of, status_text, verb_name};
+ghost use Rattle.edit_session.specs.StatusText.{number_of, status_text};
 
 use crate::stop::Stop;
 use std::fmt;
@@ -55,24 +55,6 @@ impl Status {
     }
 }
 
-fn verb_name(verb: Verb) -> &'static str
-    ensures { result.now ≡ verb_name verb }
-{
-    match verb {
-        Verb::Add => "Add",
-        Verb::Tag => "Tag",
-        Verb::Move => "Move",
-        Verb::Change => "Change",
-        Verb::Delete => "Delete",
-        Verb::Erase => "Erase",
-        Verb::Purge => "Purge",
-        Verb::Split => "Split",
-        Verb::Combine => "Combine",
-        Verb::Reverse => "Reverse",
-        Verb::Merge => "Merge",
-    }
-}
-
 /// The words by which a program tells it.
 impl fmt::Display for Status {
     ghost output = { λ status. Some (status_text status) };
@@ -84,7 +66,7 @@ impl fmt::Display for Status {
             Status::NoScript => write!(f, "no script"),
             Status::BadScript { line } => write!(f, "bad script line {line}"),
             Status::ScriptTooLong => write!(f, "script too long"),
-            Status::NoTool { verb } => write!(f, "no tool {}", verb_name(*verb)),
+            Status::NoTool { verb } => write!(f, "no tool {}", verb.name()),
             Status::ReadFault => write!(f, "read fault"),
             Status::WriteFault => write!(f, "write fault"),
             Status::Memory => write!(f, "out of memory"),

@@ -12,3 +12,4 @@ pub mod Passed
 pub mod Rooms
 pub mod Seen
 pub mod Sounds
+pub mod SameVerb

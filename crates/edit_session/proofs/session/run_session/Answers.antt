@@ -1,6 +1,6 @@
-use Rattle.std.proofs.Common.{sym, subst}
+use Rattle.std.proofs.Common.{◌∙◌, sym, subst}
 use Rattle.edit_history.specs.Shown.{IsThere}
 use Rattle.edit_session.proofs.session.run_session.Goals as goal
 
 pub returns-in-Ok-clause-no_tool : goal.returns-in-Ok-clause-no_tool
-returns-in-Ok-clause-no_tool g c = λ verb same there. c.in-Ok.ensures.comes.no_tool verb same (subst (IsThere verb) (sym c.new-history.ensures.kinds) there)
+returns-in-Ok-clause-no_tool g c = λ verb same there. c.in-Ok.ensures.comes.no_tool verb (sym c.ended.ensures ∙ same) (subst (IsThere verb) (sym c.new-history.ensures.kinds) there)

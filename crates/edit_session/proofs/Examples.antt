@@ -1,0 +1,54 @@
+-- Worked examples of turns.
+use Rattle.std.proofs.Common.{◌≡◌, true, false, [], ◌∷◌, refl}
+use Rattle.std.specs.Prelude.{codes}
+use Rattle.std.specs.FinMap as fin
+use Rattle.osm_table.specs.Table.{TableValue}
+use Rattle.edit_script.specs.declared.step.Act.TheVariants.{Download, Begin, End, Undo, Print}
+use Rattle.edit_script.specs.declared.reply.StepReply.TheVariants.{Done, Refused, Skipped}
+use Rattle.edit_script.specs.declared.reply.StepRefusal.TheVariants.{NoFile, NothingToUndo}
+use Rattle.edit_history.specs.declared.counts.Group.TheVariants as group
+use Rattle.edit_history.specs.Machine.{State, first_state}
+use Rattle.edit_session.specs.declared.loading.Found.TheVariants.{Nothing}
+use Rattle.edit_session.specs.declared.response.Behind.TheVariants as behind
+use Rattle.edit_session.specs.Limits.{default_limits}
+use Rattle.edit_session.specs.Load.{found_in}
+use Rattle.edit_session.specs.Session.{states_before}
+use Rattle.edit_session.specs.Turn.{turn}
+
+abbrev numbered : TableValue
+numbered = record { entries = fin.empty; next = 7 }
+
+-- a group that began at the first state, and in which a job was done since
+abbrev running : State
+running = record { past = []; now = numbered; undone = []; group = group.Running; start = first_state.now; accepted = true }
+
+abbrev given_up : State
+given_up = record { past = []; now = first_state.now; undone = []; group = group.Refused; start = first_state.now; accepted = false }
+
+-- A download that isn't there is refused, and gives the group up: the table is again the one at `begin`.
+no_file : turn default_limits Nothing (Download (codes "f")) running ≡ record { answer = record { reply = Refused NoFile; behind = behind.Nothing }; state = given_up }
+no_file = refl
+
+-- Then each step is skipped, with nothing behind it, up to the group's end.
+print_skipped : turn default_limits Nothing Print given_up ≡ record { answer = record { reply = Skipped; behind = behind.Nothing }; state = given_up }
+print_skipped = refl
+
+end_skipped : turn default_limits Nothing End given_up ≡ record { answer = record { reply = Skipped; behind = behind.Nothing }; state = first_state }
+end_skipped = refl
+
+-- No file is read in it.
+nothing_read : found_in default_limits ((codes "f", codes "x") ∷ []) group.Refused (Download (codes "f")) ≡ Nothing
+nothing_read = refl
+
+-- There is nothing to undo at first.
+undo_first : turn default_limits Nothing (Undo 1) first_state ≡ record { answer = record { reply = Refused NothingToUndo; behind = behind.Nothing }; state = first_state }
+undo_first = refl
+
+-- Behind `print` stands the table.
+print_done : turn default_limits Nothing Print first_state ≡ record { answer = record { reply = Done []; behind = behind.Table }; state = first_state }
+print_done = refl
+
+-- Each step has the state before it.
+two_steps : states_before default_limits [] (record { line = 1; act = Begin } ∷ record { line = 2; act = End } ∷ []) first_state
+    ≡ (record { line = 1; act = Begin }, first_state) ∷ (record { line = 2; act = End }, record { past = []; now = first_state.now; undone = []; group = group.Running; start = first_state.now; accepted = false }) ∷ []
+two_steps = refl
