@@ -1,11 +1,9 @@
 -- A sound table after one change: an entry set, taken away, made Incomplete, given another content, or new.
-use Rattle.std.proofs.Common.{◌≡◌, ◌≤◌, ℕ, Bool, true, false, cond, Option, Some, None, [], refl, sym, ◌∙◌, ap, subst, IsTrue}
+use Rattle.std.proofs.Common.{◌≡◌, ◌≤◌, ℕ, Bool, true, false, cond, Option, Some, None, refl, sym, ◌∙◌, ap, subst, IsTrue}
 use Rattle.std.specs.Option.{option_map_or, unwrap_or}
 use Rattle.std.specs.FinMap as fin
 use Rattle.osm_base.specs.Rank.{rank_cmp, is_key}
 use Rattle.osm_base.specs.RankLaws.{rank_total}
-use Rattle.osm_base.specs.RisingKeys.{is_in}
-use Rattle.osm_base.proofs.RisingKeys.{one_key}
 use Rattle.osm_base.specs.Content.{refers, fits, kind_of_content}
 use Rattle.osm_base.specs.declared.key.Key.{Key}
 use Rattle.osm_base.specs.declared.content.Content.{Content}
@@ -14,14 +12,13 @@ use Rattle.osm_table.specs.declared.entry.Base.TheVariants.{New, Live, Gone}
 use Rattle.osm_table.specs.declared.entry.Conflict.{Conflict}
 use Rattle.osm_table.specs.declared.entry.Entry.{Entry}
 use Rattle.osm_table.specs.declared.entry.Entry.TheVariants.{Incomplete, Known}
-use Rattle.osm_table.specs.Table.{TableValue, entry_of, with_entry, without_entry, is_new, Each, IsThere, IsPositive, uses, users}
-use Rattle.osm_table.proofs.Each.{get_with, get_without, each_with, each_without, same_table}
+use Rattle.osm_table.specs.Table.{TableValue, entry_of, with_entry, is_new, IsThere, IsPositive, uses}
+use Rattle.osm_table.proofs.Each.{get_with, each_with, same_table}
 use Rattle.dataset.specs.Patch.{placed}
 use Rattle.dataset.specs.Draft.{DraftValue, drafted}
 use Rattle.dataset.specs.Sound.{IsSound, IsSoundEntry, IsNumber, LivesIn, BaseFits, ConflictFits, IsGiven}
 use Rattle.dataset.proofs.Looked.{get_placed}
 use Rattle.dataset.proofs.Drafted.{get_drafted}
-use Rattle.dataset.proofs.Listed.{user_uses}
 use Rattle.dataset.proofs.Kept.{entry_more}
 
 -- Entries by themselves.
@@ -87,50 +84,13 @@ set_sound t k e s own here lives = record {
 pub noted_sound : (t : TableValue) (k : Key) → IsSound t → IsPositive k.id → IsSound (with_entry t k Incomplete)
 noted_sound t k s positive = set_sound t k Incomplete s (incomplete_entry t.next k positive) tt (λ r u. let f : false ≡ true = u in cc)
 
--- given another content, whose references are there
-pub changed_sound : (t : TableValue) (k : Key) (base : Base) (mine : Option Content) (c : Content) (conflict : Option Conflict) → IsSound t → entry_of t k ≡ Some (Known base mine conflict) → kind_of_content c ≡ k.kind → IsTrue (fits c) → ConflictFits base (Some c) conflict
-    → ((r : Key) → IsTrue (refers c r) → IsThere (entry_of t r)) → IsSound (with_entry t k (Known base (Some c) conflict))
-changed_sound t k base mine c conflict s at kind fit why there =
-    set_sound t k (Known base (Some c) conflict) s (mine_entry t.next k base mine c conflict (s.entries k _ at) kind fit why) refl
-    (λ r u. there_with t k (Known base (Some c) conflict) r refl (there r u))
-
 -- a new object, whose references are there
 pub new_sound : (t : TableValue) (k : Key) (c : Content) → IsSound t → IsGiven t.next k.id → kind_of_content c ≡ k.kind → IsTrue (fits c) → ((r : Key) → IsTrue (refers c r) → IsThere (entry_of t r)) → IsSound (with_entry t k (Known New (Some c) None))
 new_sound t k c s given kind fit there =
     set_sound t k (Known New (Some c) None) s (new_entry t.next k c given kind fit) refl (λ r u. there_with t k (Known New (Some c) None) r refl (there r u))
 
--- no living entry refers to the key
-abbrev pub IsUnused : TableValue → Key → Type 0
-IsUnused t k = Each t (λ u e. uses e k ≡ false)
-
 used_case : (o : Option Entry) (e : Entry) (k : Key) (b : Bool) → o ≡ Some e → b ≡ option_map_or (λ e. uses e k) o false → b ≡ false → uses e k ≡ false
 used_case o e k b has is none = sym (ap (λ (x : Option Entry). option_map_or (λ e. uses e k) x false) has) ∙ sym is ∙ none
-
--- as it is where it has no users
-pub unused : (t : TableValue) (k : Key) → users t k ≡ [] → IsUnused t k
-unused t k none u e has = used_case (entry_of t u) e k (is_in u (users t k)) has (user_uses t k u) (ap (is_in u) none)
-
-apart_case : (b : Bool) (r k : Key) (f : Entry) (x y : Option Entry) → is_key r k ≡ b → uses f k ≡ false → IsTrue (uses f r) → IsThere y → IsThere (cond b x y)
-apart_case true r k f x y is none u there = let z : true ≡ false = sym u ∙ ap (uses f) (one_key r k is) ∙ none in cc
-apart_case false r k f x y is none u there = there
-
--- an entry set whose key nobody uses, as one that is deleted
-pub unused_sound : (t : TableValue) (k : Key) (e : Entry) → IsSound t → IsUnused t k → IsSoundEntry t.next k e → ((r : Key) → IsTrue (uses e r) → IsThere (entry_of (with_entry t k e) r)) → IsSound (with_entry t k e)
-unused_sound t k e s none own lives = record {
-  entries = each_with (IsSoundEntry t.next) t k e s.entries own;
-  closed = each_with (λ j f. LivesIn (with_entry t k e) f) t k e (λ j f has r u. subst IsThere (sym (get_with t k e r)) (apart_case (is_key r k) r k f (Some e) (entry_of t r) refl (none j f has) u (s.closed j f has r u))) lives;
-  number = s.number;
-}
-
--- a key taken away that nobody uses
-pub taken_sound : (t : TableValue) (k : Key) → IsSound t → IsUnused t k → IsSound (without_entry t k)
-taken_sound t k s none = record {
-  entries = each_without (IsSoundEntry t.next) t k s.entries;
-  closed = λ j f has r u.
-      let old : entry_of t j ≡ Some f = each_without (λ j f. entry_of t j ≡ Some f) t k (λ i g is. is) j f has in
-      subst IsThere (sym (get_without t k r)) (apart_case (is_key r k) r k f None (entry_of t r) refl (none j f old) u (s.closed j f old r u));
-  number = s.number;
-}
 
 -- a number that rises
 pub number_sound : (t : TableValue) (n : ℕ) → IsSound t → t.next ≤ n → IsNumber n → IsSound (record { entries = t.entries; next = n })
@@ -156,18 +116,3 @@ pub drafted_put : (d : DraftValue) (t : TableValue) (k : Key) (y : Option Entry)
 drafted_put d t k y = same_table _ _
     (λ q. get_drafted (record { puts = fin.insert d.puts k y; next = d.next }) t q ∙ ap (λ (o : Option (Option Entry)). unwrap_or o (entry_of t q)) (fin.get-insert rank_total d.puts k y q)
     ∙ put_case (is_key q k) y (fin.get d.puts q) (entry_of t q) ∙ ap (cond (is_key q k) y) (sym (get_drafted d t q)) ∙ sym (get_placed (drafted d t).entries k y q)) refl
-
--- a draft of one put
-abbrev pub one_put : TableValue → Key → Option Entry → DraftValue
-one_put t k y = record { puts = fin.insert fin.empty k y; next = t.next }
-
-pub drafted_one : (t : TableValue) (k : Key) (y : Option Entry) → drafted (one_put t k y) t ≡ record { entries = placed t.entries k y; next = t.next }
-drafted_one t k y =
-    drafted_put (record { puts = fin.empty; next = t.next }) t k y
-    ∙ ap (λ (u : TableValue). record { entries = placed u.entries k y; next = t.next }) (drafted_none t.next t)
-
--- a draft that gives one entry another content
-pub mine_sound : (t : TableValue) (k : Key) (base : Base) (mine : Option Content) (c : Content) (conflict : Option Conflict) → IsSound t → entry_of t k ≡ Some (Known base mine conflict) → kind_of_content c ≡ k.kind → IsTrue (fits c) → ConflictFits base (Some c) conflict
-    → ((r : Key) → IsTrue (refers c r) → IsThere (entry_of t r)) → IsSound (drafted (one_put t k (Some (Known base (Some c) conflict))) t)
-mine_sound t k base mine c conflict s at kind fit why there =
-    subst IsSound (sym (drafted_one t k (Some (Known base (Some c) conflict)))) (changed_sound t k base mine c conflict s at kind fit why there)

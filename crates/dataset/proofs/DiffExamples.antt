@@ -6,7 +6,6 @@ use Rattle.osm_base.specs.OnMap.{is_on_map}
 use Rattle.osm_base.specs.Rank.{rank_cmp}
 use Rattle.osm_base.specs.RankLaws.{rank_total}
 use Rattle.osm_base.specs.Content.{node}
-use Rattle.osm_base.specs.declared.coord.Coord.{Coord}
 use Rattle.osm_base.specs.declared.meta.Meta.{Meta}
 use Rattle.osm_base.specs.declared.content.Content.{Content}
 use Rattle.osm_base.specs.declared.content.Content.TheVariants as content

@@ -10,8 +10,8 @@ use Rattle.osm_table.specs.declared.entry.Entry.{Entry}
 use Rattle.osm_table.specs.Table.{TableValue, entry_of}
 use Rattle.osm_table.proofs.Each.{same_table}
 use Rattle.dataset.specs.Edit.{Edit}
-use Rattle.dataset.specs.Patch.{Entries, PatchValue, IsPatch, StandsBefore, StandsAfter, Leads, IsDiff, keyed, edit_at, edited, after_of, before_of}
-use Rattle.dataset.proofs.Looked.{get_edited, found, found_key, all_from_found}
+use Rattle.dataset.specs.Patch.{Entries, PatchValue, Leads, IsDiff, keyed, edit_at, edited, after_of, before_of}
+use Rattle.dataset.proofs.Looked.{get_edited, found, found_key}
 
 -- an edit that is found decides, and else the rest
 pub by_edit : (P : Type 0) (o : Option Edit) → (o ≡ None → P) → ((e : Edit) → o ≡ Some e → P) → P
@@ -23,39 +23,6 @@ at_edit side p m k e is = get_edited side p.edits m k ∙ ap (λ (o : Option Edi
 
 at_rest : (side : Edit → Option Entry) (p : PatchValue) (m : Entries) (k : Key) → edit_at k p.edits ≡ None → fin.get (edited side p.edits m) k ≡ fin.get m k
 at_rest side p m k is = get_edited side p.edits m k ∙ ap (λ (o : Option Edit). option_map_or side o (fin.get m k)) is
-
-pub stands_after : (p : PatchValue) (t : TableValue) → IsPatch p → StandsAfter p (after_of p t)
-stands_after p t is = record {
-  entries = all_from_found (λ e. entry_of (after_of p t) e.key ≡ e.after) p.edits is.by_rank (λ e here. at_edit (λ e. e.after) p t.entries e.key e here);
-  number = refl;
-}
-
-pub stands_before : (p : PatchValue) (u : TableValue) → IsPatch p → StandsBefore p (before_of p u)
-stands_before p u is = record {
-  entries = all_from_found (λ e. entry_of (before_of p u) e.key ≡ e.before) p.edits is.by_rank (λ e here. at_edit (λ e. e.before) p u.entries e.key e here);
-  number = refl;
-}
-
--- to apply and then revert is to do nothing
-pub back_again : (p : PatchValue) (t : TableValue) → StandsBefore p t → t ≡ before_of p (after_of p t)
-back_again p t s = same_table t (before_of p (after_of p t))
-    (λ k. by_edit _ (edit_at k p.edits)
-    (λ none. sym (at_rest (λ e. e.before) p (after_of p t).entries k none ∙ at_rest (λ e. e.after) p t.entries k none))
-    (λ e some. ap (entry_of t) (found_key p.edits k e some) ∙ found (λ e. entry_of t e.key ≡ e.before) p.edits s.entries k e some ∙ sym (at_edit (λ e. e.before) p (after_of p t).entries k e some)))
-    s.number
-
-pub forth_again : (p : PatchValue) (u : TableValue) → StandsAfter p u → u ≡ after_of p (before_of p u)
-forth_again p u s = same_table u (after_of p (before_of p u))
-    (λ k. by_edit _ (edit_at k p.edits)
-    (λ none. sym (at_rest (λ e. e.after) p (before_of p u).entries k none ∙ at_rest (λ e. e.before) p u.entries k none))
-    (λ e some. ap (entry_of u) (found_key p.edits k e some) ∙ found (λ e. entry_of u e.key ≡ e.after) p.edits s.entries k e some ∙ sym (at_edit (λ e. e.after) p (before_of p u).entries k e some)))
-    s.number
-
-pub leads_on : (p : PatchValue) (t : TableValue) → IsPatch p → StandsBefore p t → Leads p t (after_of p t)
-leads_on p t is s = record { before = s; to = refl; after = stands_after p t is; back = back_again p t s }
-
-pub leads_back : (p : PatchValue) (u : TableValue) → IsPatch p → StandsAfter p u → Leads p (before_of p u) u
-leads_back p u is s = record { before = stands_before p u is; to = forth_again p u s; after = s; back = refl }
 
 -- the difference of two tables leads from the one to the other
 pub diff_leads : (t u : TableValue) (p : PatchValue) → IsDiff t u p → Leads p t u
@@ -72,15 +39,6 @@ diff_leads t u p d = record {
       (λ none. d.rest k none ∙ sym (at_rest (λ e. e.before) p u.entries k none))
       (λ e some. ap (entry_of t) (found_key p.edits k e some) ∙ found (λ e. entry_of t e.key ≡ e.before) p.edits d.before.entries k e some ∙ sym (at_edit (λ e. e.before) p u.entries k e some)))
       d.before.number;
-}
-
--- a patch that leads from one table to another is their difference
-pub leads_diff : (t u : TableValue) (p : PatchValue) → IsPatch p → Leads p t u → IsDiff t u p
-leads_diff t u p is l = record {
-  patch = is;
-  before = l.before;
-  after = l.after;
-  rest = λ k none. sym (ap (λ (x : TableValue). entry_of x k) l.to ∙ at_rest (λ e. e.after) p t.entries k none);
 }
 
 -- two tables have one difference
@@ -113,9 +71,6 @@ one_diff t u p q d g =
     let b = sym d.before.number ∙ g.before.number in
     let a = sym d.after.number ∙ g.after.number in
     λ i. record { edits = es i; next_before = b i; next_after = a i }
-
-pub diff_stands : (t u : TableValue) (p : PatchValue) → IsDiff t u p → StandsBefore p t
-diff_stands t u p d = d.before
 
 pub diff_to : (t u v : TableValue) (p : PatchValue) → IsDiff t u p → v ≡ after_of p t → v ≡ u
 diff_to t u v p d e = e ∙ sym (diff_leads t u p d).to

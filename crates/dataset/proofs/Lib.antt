@@ -7,7 +7,6 @@ pub mod LeadLaws
 pub mod Drafted
 pub mod Differs
 pub mod Kept
-pub mod Gone
 pub mod Changes
 mod Examples
 mod SoundExamples

@@ -1,4 +1,3 @@
 pub mod Steps
 pub mod Ends
 pub mod Sounds
-pub mod Undone

@@ -11,7 +11,5 @@
 
 mod intake;
 mod merge;
-#[cfg(test)]
-mod tests;
 
 pub use merge::MergeTool;

@@ -10,8 +10,6 @@
 mod drop;
 mod fold;
 mod replace;
-#[cfg(test)]
-mod tests;
 
 pub use drop::drop_members;
 pub use fold::fold_members;
