@@ -7,11 +7,11 @@
 //! To add a tool of a new verb: its line here, and the verb in `specs/Verbs`.
 #![tactic(auto)]
 
-ghost use Rattle.std.specs.Prelude.{◌≡◌, ◌⊎◌, ◌↔◌, None, IfSome, IfOk, OnErr, map, string_bytes};
+ghost use Rattle.std.specs.Prelude.{◌≡◌, ◌≤◌, ◌⊎◌, ◌↔◌, None, IfSome, IfOk, OnErr, map, string_bytes};
 ghost use Rattle.osm_outside.specs.Outside.{Rose};
 ghost use Rattle.tool_api.specs.declared.verb.Verb.{Verb};
 ghost use Rattle.edit_session.specs.Limits.{default_limits};
-ghost use Rattle.edit_session.specs.Session.{outcome, script_name, Agrees};
+ghost use Rattle.edit_session.specs.Session.{outcome, script_name, Agrees, IsAsked, IsEarly};
 ghost use Rattle.all_tools.specs.Verbs.{all_verbs};
 
 use edit_history::{no_boxes, with_box};
@@ -42,6 +42,11 @@ pub fn run_editor<S: Shelf, K: Sink>(
     ensures write { IfOk result (λ status. status ≡ Status.WriteFault → Rose (K.faults out.old) (K.faults out.new)) }
     ensures words { IfOk result (λ status. (status ≡ Status.BadWords) ↔ (script_name (map string_bytes words.now) ≡ None)) }
     ensures unread { IfOk result (λ status. status ≡ Status.BadWords → (shelf.new ≡ shelf.old) × (out.new ≡ out.old)) }
+    // Until the steps run nothing is written, and whether there is a script is what the shelf answered.
+    ensures unwritten { IfOk result (λ status. IsEarly status → out.new ≡ out.old) }
+    ensures asked { IfOk result (IsAsked (S.begun shelf.new)) }
+    ensures told { IfOk result (λ _. S.told shelf.new ≡ S.told shelf.old) }
+    ensures later { IfOk result (λ _. (S.faults shelf.old ≤ S.faults shelf.new) × (K.faults out.old ≤ K.faults out.new)) }
     ensures tools { (verb : Verb) → IfOk result (λ status. status ≡ Status.NoTool verb → ⊥) }
     // It doesn't give up by itself, but for memory.
     ensures complete { IfOk result (λ status. IfSome (S.told shelf.old) (λ files. (outcome default_limits all_verbs (map string_bytes words.now) files).0 ≡ Status.Done
