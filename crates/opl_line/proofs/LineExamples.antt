@@ -1,15 +1,15 @@
 -- Lines with their faults, lines of both modes, and a written line: worked examples.
-use Rattle.std.proofs.Common.{◌≡◌, ℕ, pos, negsuc, List, [], ◌∷◌, map, Option, Some, None, Result, Ok, Err, refl}
+use Rattle.std.proofs.Common.{◌≡◌, ℕ, pos, negsuc, List, [], ◌∷◌, map, Some, None, Ok, Err, refl}
 use Rattle.std.specs.Prelude.{codes}
 use Rattle.std.specs.Fmt.{digits}
 use Rattle.std.specs.Str.{is_utf8, chars}
 use lib.Utf8.{encode}
 use Rattle.osm_base.specs.Coord.{part_text, whole_text, pointed_text, size_text, coord_text}
 use Rattle.osm_base.specs.Number.{number_text, id_text, kind_letter}
+use Rattle.osm_base.specs.Place.{place_at}
 use Rattle.osm_base.specs.declared.content.Content.TheVariants as content
 use Rattle.osm_base.specs.declared.key.Key.{Key}
 use Rattle.osm_base.specs.declared.key.Kind.TheVariants.{Node, Way, Relation}
-use Rattle.osm_base.specs.declared.members.Member.{Member}
 use Rattle.osm_base.specs.declared.meta.Meta.{Meta}
 use Rattle.opl_text.specs.Text.{unescaped, escaped}
 use Rattle.opl_text.specs.Time.{is_date, has_marks, parts_of, stamp_text, time_text, time_written}
@@ -17,8 +17,7 @@ use Rattle.opl_text.specs.Written.{hex_written, spelling}
 use Rattle.opl_line.specs.declared.mode.Mode.TheVariants.{Download, Import}
 use Rattle.opl_line.specs.declared.fault.LineFault.{LineFault}
 use Rattle.opl_line.specs.declared.fault.LineFault.TheVariants as faults
-use Rattle.opl_line.specs.declared.object.LineKind.{LineKind}
-use Rattle.opl_line.specs.declared.object.LineKind.TheVariants.{Skipped, Object}
+use Rattle.opl_line.specs.declared.object.LineKind.TheVariants.{Object}
 use Rattle.opl_line.specs.Field.{letter_of, number_to, version_into, visible_text, visible_into, changeset_into, uid_into, time_into, user_into, place_text, x_into, y_into, is_place, ref_text, ref_into, refs_text, refs_into, tag_into, tags_text, tags_into, member_at, member_into, members_text, members_into, named_into, field_into}
 use Rattle.opl_line.specs.Line.{id_at, key_at, version_of, location_of, content_of, side_of, completed, object_of, kind_of_line, line_of}
 use Rattle.opl_line.specs.Written.{written, object_with}
@@ -99,7 +98,7 @@ abbrev negative : ℕ → Key
 negative i = record { kind = Node; id = negsuc i }
 
 node_brought : line_of Import (codes "n-1 v7 x1.5 y-0.5") ≡ Ok (Object (object_with (negative 0) 0 (Some (content.Node [] (record { lon = pos 15000000; lat = negsuc 4999999; on_map = refl }))) unknown))
-unfolding line_of kind_of_line object_of key_at id_at kind_letter id_text number_text field_into letter_of named_into version_into number_to x_into y_into place_text coord_text size_text pointed_text whole_text part_text completed version_of location_of side_of content_of
+unfolding line_of kind_of_line object_of key_at id_at kind_letter id_text number_text field_into letter_of named_into version_into number_to x_into y_into place_text coord_text size_text pointed_text whole_text part_text completed version_of location_of place_at side_of content_of
 node_brought = refl
 
 way_brought : line_of Import (codes "w-1 Nn-2,n3x1y2") ≡ Ok (Object (object_with (record { kind = Way; id = negsuc 0 }) 0 (Some (content.Way [] (negsuc 1 ∷ pos 3 ∷ []))) unknown))
