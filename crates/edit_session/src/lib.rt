@@ -27,8 +27,6 @@ mod sending;
 mod session;
 mod status;
 mod stop;
-#[cfg(test)]
-mod tests;
 mod turns;
 
 pub use session::run_session;
