@@ -38,7 +38,7 @@ rises_case : (b : Bool) (e : Key × Entry) (es : List (Key × Entry)) (p : Key �
 rises_case true e es p l h = both _ _ l h
 rises_case false e es p l h = h
 
-rises_users : (p : Key × Entry → Bool) (es : List (Key × Entry)) → T (is_sorted rank_cmp es) → T (rises (map (λ e. e.0) (filter p es)))
+pub rises_users : (p : Key × Entry → Bool) (es : List (Key × Entry)) → T (is_sorted rank_cmp es) → T (rises (map (λ e. e.0) (filter p es)))
 rises_users p [] h = tt
 rises_users p (e ∷ es) h = rises_case (p e) e es p (below_users e.0 p es (fore (below_all rank_cmp e.0 es) _ h)) (rises_users p es (aft (below_all rank_cmp e.0 es) _ h))
 

@@ -3,6 +3,7 @@ ghost use Rattle.std.specs.Prelude.{◌≡◌, not, neg_ℤ, pos, T, OnOk, OnErr
 ghost use Rattle.std.specs.List.{AllByRecursion};
 ghost use Rattle.std.specs.Option.{option_copied};
 ghost use Rattle.std.specs.FinMap as fin;
+ghost use Rattle.osm_base.specs.RisingKeys.{is_in};
 ghost use Rattle.osm_table.specs.Table.{entry_of, keys_by_rank, users};
 ghost use Rattle.dataset.specs.Sound.{IsSound};
 ghost use Rattle.dataset.specs.Patch.{IsDiff, in_order, StandsBefore, StandsAfter, after_of, before_of};
@@ -69,6 +70,14 @@ impl DataSet {
         ensures { result.now ≡ users self.now key }
     {
         self.index.users(key)
+    }
+
+    /// Whether a living entry refers to the key. Costs one look-up and a search by halving, and
+    /// takes no memory.
+    pub fn is_user(&self, key: Key, user: Key) -> bool
+        ensures { result ≡ is_in user (users self.now key) }
+    {
+        self.index.is_user(key, user)
     }
 
     /// The number of the next new object.

@@ -10,7 +10,7 @@
 //! order in which they are made. By their sides edits bring a key, give one another entry, or take
 //! one out (`specs/Sides`). The first are made before the index changes, and undone where it finds
 //! no memory; the others come last, since they take none. How a tool shows that its draft keeps the
-//! table sound stands in `proofs/Kept`, `proofs/Changes` and `proofs/Gone`.
+//! table sound stands in `proofs/Kept` and `proofs/Changes`.
 #![tactic(auto)]
 
 mod dataset;

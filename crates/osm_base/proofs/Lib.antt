@@ -6,6 +6,7 @@ pub mod CoordLaw
 pub mod MapViews
 pub mod RisingKeys
 pub mod ByRank
+pub mod RankedKeys
 pub mod ExtendLaws
 pub mod AnyMap
 pub mod TagLaws

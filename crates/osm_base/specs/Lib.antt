@@ -12,4 +12,5 @@ pub mod Rank
 pub mod OnMap
 pub mod Place
 pub mod RisingKeys
+pub mod Order
 pub mod Extends

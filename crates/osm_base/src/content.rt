@@ -149,7 +149,10 @@ pub fn fits(content: &Content) -> bool
     tags_fit(content.tags().as_slice()) && body_fits(content)
 }
 
-fn body_fits(content: &Content) -> bool
+/// Whether the API takes the body of a content: the references of a way, the members of a relation.
+///
+/// It walks the roles of a relation.
+pub fn body_fits(content: &Content) -> bool
     ensures { result ≡ body_fits content.now }
 {
     match content {
@@ -178,7 +181,8 @@ fn roles_fit(members: &[Member]) -> bool
     members.iter().all(|member| text_fits(&member.role))
 }
 
-fn text_fits(text: &Text) -> bool
+/// Whether the API takes a key, a value or a role. It walks the text.
+pub fn text_fits(text: &Text) -> bool
     ensures { result ≡ text_fits text.now }
 {
     text.as_str().chars().count() <= MOST_CHARACTERS

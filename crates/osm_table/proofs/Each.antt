@@ -22,12 +22,6 @@ get_with_other t k e j other = get_with t k e j ∙ ap (λ b. cond b (Some e) (e
 pub get_without : (t : TableValue) (k j : Key) → entry_of (without_entry t k) j ≡ cond (is_key j k) None (entry_of t j)
 get_without t k j = fin.get-remove rank_total t.entries k j
 
-pub get_without_same : (t : TableValue) (k : Key) → entry_of (without_entry t k) k ≡ None
-get_without_same t k = get_without t k k ∙ ap (λ b. cond b None (entry_of t k)) ((is_key_decides k k).1 refl)
-
-pub get_without_other : (t : TableValue) (k j : Key) → is_key j k ≡ false → entry_of (without_entry t k) j ≡ entry_of t j
-get_without_other t k j other = get_without t k j ∙ ap (λ b. cond b None (entry_of t j)) other
-
 -- a condition on keys and values that holds at the key that is set, and at each other one before
 pub with_cases : {V : Type 0} (P : Key → V → Type 0) (j k : Key) (e f : V) (old : Option V) (b : Bool) → is_key j k ≡ b → cond b (Some e) old ≡ Some f → P k e → (old ≡ Some f → P j f) → P j f
 with_cases {V = V} P j k e f old true t s here there = subst (λ (x : V). P j x) (let h : e ≡ f = cc in h) (subst (λ (x : Key). P x e) (sym ((is_key_decides j k).0 t)) here)
@@ -35,13 +29,6 @@ with_cases {V = V} P j k e f old false t s here there = there s
 
 pub each_with : (P : Key → Entry → Type 0) (t : TableValue) (k : Key) (e : Entry) → Each t P → P k e → Each (with_entry t k e) P
 each_with P t k e all here j f has = with_cases P j k e f (entry_of t j) (is_key j k) refl (sym (get_with t k e j) ∙ has) here (all j f)
-
-without_cases : (old : Option Entry) (b : Bool) (f : Entry) → cond b None old ≡ Some f → old ≡ Some f
-without_cases old true f s = cc
-without_cases old false f s = s
-
-pub each_without : (P : Key → Entry → Type 0) (t : TableValue) (k : Key) → Each t P → Each (without_entry t k) P
-each_without P t k all j f has = all j f (without_cases (entry_of t j) (is_key j k) f (sym (get_without t k j) ∙ has))
 
 -- tables that have the same at each key and the same number are one
 pub same_table : (t u : TableValue) → ((k : Key) → entry_of t k ≡ entry_of u k) → t.next ≡ u.next → t ≡ u

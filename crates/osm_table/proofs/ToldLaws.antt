@@ -29,11 +29,6 @@ told_empty j t has = let h : None ≡ Some t = sym (fin.get-empty rank_cmp j) �
 
 -- What is told, and the entries that are kept.
 
-pub told_again : (t : Told) → told_of (entry_told t) ≡ t
-told_again Mentioned = refl
-told_again (Live v c m) = refl
-told_again (Gone v m) = refl
-
 told_step : (b : Bool) (e : Entry) (o : Option Entry) → cond b (Some (told_of e)) (option_map told_of o) ≡ option_map told_of (cond b (Some e) o)
 told_step true e o = refl
 told_step false e o = refl

@@ -146,3 +146,11 @@ in_there k ks at e test = ap (is_in k) (put_there k ks at e test) ∙ in_with k 
 -- and one that doesn't is not
 pub in_none : (k : Key) (ks : List Key) (at : ℕ) → T (rises ks) → at ≡ place_in k ks → Stands k ks at ≡ false → is_in k ks ≡ false
 in_none k ks at h e test = ap (is_in k) (take_none k ks at h e test) ∙ in_without k k ks ∙ ap (λ b. not b && is_in k ks) (key_itself k)
+
+stands_case : (k : Key) (ks : List Key) (at : ℕ) (b : Bool) → T (rises ks) → at ≡ place_in k ks → Stands k ks at ≡ b → b ≡ is_in k ks
+stands_case k ks at true h e test = sym (in_there k ks at e test)
+stands_case k ks at false h e test = sym (in_none k ks at h e test)
+
+-- a key is one of keys that rise where it stands at its place
+pub stands_is : (k : Key) (ks : List Key) (at : ℕ) → T (rises ks) → at ≡ place_in k ks → Stands k ks at ≡ is_in k ks
+stands_is k ks at h e = stands_case k ks at (Stands k ks at) h e refl

@@ -10,7 +10,7 @@ ghost use Rattle.ref_index.specs.Repeats.{AreRepeats, times_there};
 use crate::lists::{list_at, list_user, unlist_user};
 use crate::pair::Pair;
 use crate::repeats::{count_again, number_of, set_number};
-use crate::users::Users;
+use crate::users::{Users, is_among};
 use indexmap::IndexMap;
 use osm_base::Key;
 use std::alloc::{AllocError, Global};
@@ -80,6 +80,13 @@ impl RefIndex {
         ensures members { (user : Key) → is_in user result.now ≡ nat_lt 0 (count self.now (record { of = of; user = user })) }
     {
         list_at(&self.lists, of)
+    }
+
+    /// Whether a key is used by another. Costs one look-up by hash and a search by halving, and takes no memory.
+    pub fn is_user(&self, of: Key, user: Key) -> bool
+        ensures { result ≡ nat_lt 0 (count self.now (record { of = of; user = user })) }
+    {
+        is_among(self.users(of), user)
     }
 }
 

@@ -93,6 +93,14 @@ fn listed(items: &Items) -> &[Key]
     }
 }
 
+/// Whether the key is one of keys that rise. It is found by halving.
+pub fn is_among(items: &[Key], key: Key) -> bool
+    requires { T (rises items.now) }
+    ensures { result ≡ is_in key items.now }
+{
+    stands_at(items, place(items, key), key)
+}
+
 fn put_item(alloc: Global, items: &mut Items, key: Key) -> Result<bool, AllocError>
     requires { T (rises (listed items.old)) }
     ensures first { IfOk result (λ first. first ≡ not (is_in key (listed items.old))) }

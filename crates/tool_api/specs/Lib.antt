@@ -1,5 +1,4 @@
 pub mod Verbs
-pub mod Order
 pub mod Refusals
 pub mod Patches
 pub mod Tests

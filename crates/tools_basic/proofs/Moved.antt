@@ -18,9 +18,10 @@ use Rattle.dataset.specs.Sound.{IsSound}
 use Rattle.tool_api.specs.declared.kinds.Kinds.TheVariants.{Nodes, NodesAndWays}
 use Rattle.tool_api.specs.declared.refusal.Refusal.{Refusal}
 use Rattle.tool_api.specs.Basic.{has_node, is_moved, moved_nodes}
-use Rattle.tool_api.specs.Order.{ranked}
+use Rattle.osm_base.specs.Order.{ranked}
 use Rattle.tool_api.specs.Tests.{first_of, is_named, takes, entry_test, target_test, list_tests, twice_test}
-use Rattle.tool_api.proofs.Bridge.{ranked_filter, named_ranked}
+use Rattle.osm_base.proofs.RankedKeys.{named_ranked}
+use Rattle.tool_api.proofs.Bridge.{ranked_filter}
 use Rattle.tool_api.proofs.Passed.{both_none}
 use Rattle.tools_basic.specs.Moves.{moved_with, all_moved_with}
 use Rattle.tool_api.proofs.Bools.{by_either, or_true, false_between}

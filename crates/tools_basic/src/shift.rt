@@ -11,12 +11,12 @@ ghost use Rattle.tool_api.specs.Tests.{first_of, list_tests};
 ghost use Rattle.tools_basic.specs.Moves.{moved_with, all_moved_with};
 
 use dataset::DataSet;
-use osm_base::{Content, Coord, Key, shift};
+use osm_base::{Content, Coord, Key, ranked, shift};
 use osm_table::{EntryParts, SharedEntry};
 use std::alloc::AllocError;
 use tool_api::{
     Command, EditContent, Job, Kinds, Plan, Refusal, Undoable, Verb, content_of, edits_plan,
-    list_tests, node_keys, ranked,
+    list_tests, node_keys,
 };
 
 /// How far nodes are moved to the east and to the north, in units of 10^-7 degree.

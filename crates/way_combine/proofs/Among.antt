@@ -25,7 +25,7 @@ use Rattle.tool_api.specs.Tests.{is_named, first_of, target_test, entry_test, co
 use Rattle.tool_api.specs.Changes.{content_of}
 use Rattle.tool_api.specs.Gone.{is_relation}
 use Rattle.tool_api.specs.Combine.{relations_among, member_test, clashes}
-use Rattle.tool_api.specs.Order.{ranked}
+use Rattle.osm_base.specs.Order.{ranked}
 use Rattle.tool_api.proofs.Bridge.{ranked_filter}
 use Rattle.tool_api.proofs.Least.{has_key}
 use Rattle.tool_api.proofs.Passed.{passes}

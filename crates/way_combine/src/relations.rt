@@ -10,11 +10,11 @@ ghost use Rattle.tool_api.specs.Tests.{first_of, target_test};
 ghost use Rattle.tool_api.specs.declared.kinds.Kinds.TheVariants.{Ways};
 
 use dataset::{DataSet, Draft};
-use osm_base::{Content, Key};
+use osm_base::{Content, Key, ranked};
 use osm_table::Entry;
 use relation_upkeep::fold_members;
 use std::alloc::{AllocError, Global};
-use tool_api::{Refusal, all_users, ranked};
+use tool_api::{Refusal, all_users};
 
 /// The living relations with a member among the ways, by rank. They are the users of the ways; it sorts those once.
 ///

@@ -1,6 +1,6 @@
 use Rattle.std.proofs.Common.{◌≡◌, ap, ◌∙◌, subst, IfOk, List}
 use Rattle.osm_base.specs.declared.key.Key.{Key}
-use Rattle.tool_api.specs.Order.{ranked}
+use Rattle.osm_base.specs.Order.{ranked}
 use Rattle.tools_basic.proofs.Moved.{moved_is}
 use Rattle.tools_basic.proofs.shift.moved_nodes.Goals as goal
 

@@ -1,6 +1,6 @@
 use Rattle.std.proofs.Common.{◌≡◌, List, ap, ◌∙◌, subst, IfOk}
 use Rattle.osm_base.specs.declared.key.Key.{Key}
-use Rattle.tool_api.specs.Order.{ranked}
+use Rattle.osm_base.specs.Order.{ranked}
 use Rattle.way_combine.proofs.Among.{among_users}
 use Rattle.way_combine.proofs.relations.relations_among.Goals as goal
 

@@ -1,8 +1,8 @@
 //! Keys in the order of tables.
 ghost use Rattle.std.specs.Prelude.{◌≡◌, IfOk};
-ghost use Rattle.tool_api.specs.Order.{ranked};
+ghost use Rattle.osm_base.specs.Order.{ranked};
 
-use osm_base::Key;
+use crate::key::Key;
 use std::alloc::AllocError;
 
 /// The keys by rank, each once. Sorts them once.
