@@ -11,7 +11,7 @@ use Rattle.opl_file.specs.declared.fault.FileFault.{FileFault}
 use Rattle.opl_file.specs.declared.fault.FileFault.TheVariants.{Line, Twice, LineTooLong, FileTooLong}
 use Rattle.tool_api.specs.Refusals as refusals
 use Rattle.tool_api.specs.declared.refusal.Refusal.{Refusal}
-use Rattle.tool_api.specs.declared.refusal.Refusal.TheVariants.{Absent, IncompleteObject, DeletedObject, InConflict, InUse, WrongKind, Unfit, OutOfRange, NamedTwice, NotInWay, NothingToSplit, NotJoined, TagClash, MemberClash, TableFull, NotBuilt}
+use Rattle.tool_api.specs.declared.refusal.Refusal.TheVariants.{Absent, IncompleteObject, DeletedObject, InConflict, InUse, WrongKind, Unfit, OutOfRange, NamedTwice, NotInWay, NothingToSplit, NotJoined, TagClash, MemberClash, VersionClash, TableFull}
 use Rattle.edit_script.specs.declared.reply.StepRefusal.{StepRefusal}
 use Rattle.edit_script.specs.declared.reply.StepRefusal.TheVariants.{Tool, NoFile, BadFile, NothingToUndo, NothingToRedo}
 use Rattle.edit_script.specs.declared.reply.StepReply.{StepReply}
@@ -29,7 +29,7 @@ number_of NothingToRedo = 22
 abbrev pub key_behind : Key → List ℕ
 key_behind key = 32 ∷ key_written key
 
--- what the refusal of a job carries: the objects, or the tag's key
+-- what the refusal of a job carries: the objects, the tag's key, or the object and its version
 abbrev pub job_carried : Refusal → List ℕ
 job_carried (Absent key) = key_behind key
 job_carried (IncompleteObject key) = key_behind key
@@ -45,8 +45,8 @@ job_carried (NothingToSplit key) = key_behind key
 job_carried (NotJoined key) = key_behind key
 job_carried (TagClash text) = 32 ∷ escaped text
 job_carried (MemberClash key) = key_behind key
+job_carried (VersionClash key version) = key_behind key ++ (32 ∷ decimal version)
 job_carried TableFull = []
-job_carried (NotBuilt key) = key_behind key
 
 abbrev pub fault_text : FileFault → List ℕ
 fault_text (Line line fault) = codes " line " ++ (decimal line ++ (codes " fault " ++ decimal (line_fault.number_of fault)))

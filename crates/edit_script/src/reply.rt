@@ -140,7 +140,7 @@ fn write_carried(why: &StepRefusal, out: &mut Vec<u8>) -> Result<(), AllocError>
     }
 }
 
-/// Appends the objects that the refusal of a job is about, or the key of the tag.
+/// Appends the objects that the refusal of a job is about, the key of the tag, or the object and its version.
 #[tactic(auto, using(osm_base::proofs::ExtendLaws::extends_steps))]
 fn write_job_refusal(refusal: &Refusal, out: &mut Vec<u8>) -> Result<(), AllocError>
     ensures written { OnOk result (out.new.items ≡ out.old.items ++ job_carried refusal.now) }
@@ -158,8 +158,7 @@ fn write_job_refusal(refusal: &Refusal, out: &mut Vec<u8>) -> Result<(), AllocEr
         | Refusal::NotInWay(key)
         | Refusal::NothingToSplit(key)
         | Refusal::NotJoined(key)
-        | Refusal::MemberClash(key)
-        | Refusal::NotBuilt(key) => write_key_behind(*key, out),
+        | Refusal::MemberClash(key) => write_key_behind(*key, out),
         Refusal::InUse(key, user) => {
             write_key_behind(*key, out)?;
             write_key_behind(*user, out)
@@ -167,6 +166,10 @@ fn write_job_refusal(refusal: &Refusal, out: &mut Vec<u8>) -> Result<(), AllocEr
         Refusal::TagClash(text) => {
             out.push(b' ')?;
             write_escaped(text, out)
+        }
+        Refusal::VersionClash(key, version) => {
+            write_key_behind(*key, out)?;
+            write_numbered(b" ", u64::from(*version), out)
         }
         Refusal::TableFull => Ok(()),
     }
@@ -236,8 +239,8 @@ mod tests {
         (11, "7 refused 11 w-5\n"),
         (12, "7 refused 12 w-5\n"),
         (14, "7 refused 14 w-5\n"),
+        (17, "7 refused 17 n1 3\n"),
         (18, "7 refused 18\n"),
-        (28, "7 refused 28 n1\n"),
         (19, "7 refused 19\n"),
         (21, "7 refused 21\n"),
         (22, "7 refused 22\n"),
@@ -258,8 +261,8 @@ mod tests {
             11 => Tool(Refusal::NothingToSplit(WAY)),
             12 => Tool(Refusal::NotJoined(WAY)),
             14 => Tool(Refusal::MemberClash(WAY)),
+            17 => Tool(Refusal::VersionClash(NODE, 3)),
             18 => Tool(Refusal::TableFull),
-            28 => Tool(Refusal::NotBuilt(NODE)),
             21 => NothingToUndo,
             22 => NothingToRedo,
             _ => NoFile,

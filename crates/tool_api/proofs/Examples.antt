@@ -21,7 +21,7 @@ use Rattle.osm_table.specs.declared.entry.Entry.{Entry}
 use Rattle.osm_table.specs.declared.entry.Entry.TheVariants.{Known}
 use Rattle.osm_table.specs.Table.{TableValue, mine_of}
 use Rattle.tool_api.specs.declared.kinds.Kinds.TheVariants.{Any}
-use Rattle.tool_api.specs.declared.refusal.Refusal.TheVariants.{Absent, NamedTwice, InUse, WrongKind, NotInWay, NothingToSplit, TagClash, TableFull, NotBuilt}
+use Rattle.tool_api.specs.declared.refusal.Refusal.TheVariants.{Absent, NamedTwice, InUse, WrongKind, NotInWay, NothingToSplit, TagClash, TableFull}
 use Rattle.tool_api.specs.Tests.{is_named, twice_test, list_tests}
 use Rattle.tool_api.specs.Basic.{add, reversed, moved_nodes}
 use Rattle.tool_api.specs.Combine.{combine, united, clash_test}
@@ -241,31 +241,3 @@ moves = simp (fin.get-entries, in_village) refl
 purges : mine_in (purge village (w 1 ∷ []))
     ≡ (n 1, Some (dot [])) ∷ (n 2, Some (dot [])) ∷ (n 3, Some (dot [])) ∷ (w 1, None) ∷ (w 2, Some (line (3 ∷ 2 ∷ []))) ∷ (r 9, Some (route_of (m (w 1) [] ∷ m (w 2) [] ∷ []))) ∷ []
 purges = simp (fin.get-entries, fin.entries-insert {X = Entry} rank_total, in_village) refl
-
--- a download of n1 again, and one that tells n4 gone
-abbrev told_of : Key → Told → ToldValue
-told_of k told = record { told = fin.from_sorted ((k, told) ∷ []); order = k ∷ [] }
-
-in_told : (k : Key) (told : Told) → fin.entries (fin.from_sorted {R = rank_cmp} ((k, told) ∷ [])) ≡ (k, told) ∷ []
-in_told k told = fin.entries-from_sorted rank_cmp ((k, told) ∷ []) tt
-
-known_already : refused (merge village 9 (told_of (n 1) (told.Live 2 (dot []) server))) ≡ Some (NotBuilt (n 1))
-known_already = simp (fin.get-entries, in_told, in_village) refl
-
--- w3 Nn3,n4 is taken in, and n4 enters as Incomplete
-takes_in : mine_in (merge village 9 (told_of (w 3) (told.Live 1 (line (3 ∷ 4 ∷ [])) server)))
-    ≡ (n 1, Some (dot [])) ∷ (n 2, Some (dot [])) ∷ (n 3, Some (dot [])) ∷ (n 4, None) ∷ (w 1, Some (line (1 ∷ 2 ∷ []))) ∷ (w 2, Some (line (3 ∷ 2 ∷ []))) ∷ (w 3, Some (line (3 ∷ 4 ∷ []))) ∷ (r 9, Some (route_of (m (w 1) [] ∷ m (w 2) [] ∷ []))) ∷ []
-takes_in = simp (in_told, fin.len-entries, fin.get-entries, fin.entries-insert {X = Entry} rank_total, in_village) refl
-
--- where n1 is deleted, w3 Nn1,n4 is refused
-abbrev deleted : List (Key × Entry)
-deleted = (n 1, Known (base.Live 1 (dot []) server) None None) ∷ []
-
-abbrev ruin : TableValue
-ruin = record { entries = fin.from_sorted deleted; next = 1 }
-
-in_ruin : fin.entries (fin.from_sorted {R = rank_cmp} deleted) ≡ deleted
-in_ruin = fin.entries-from_sorted rank_cmp deleted tt
-
-on_deleted : refused (merge ruin 9 (told_of (w 3) (told.Live 1 (line (1 ∷ 4 ∷ [])) server))) ≡ Some (NotBuilt (n 1))
-on_deleted = simp (fin.get-entries, in_told, in_ruin) refl

@@ -10,6 +10,7 @@ pub mod Gone
 pub mod Upkeep
 pub mod Split
 pub mod Combine
+pub mod Staged
 pub mod Merged
 pub mod Plain
 pub mod Planned

@@ -1,83 +1,107 @@
--- What taking in a download does.
+-- What a merge makes of a whole table.
 --
--- What is told of objects that aren't known yet is taken in; all else isn't built yet and is refused. For example where
--- w5 Nn1,n2 and n1 are told, and the table is empty, the new table has w5 and n1 as told, and n2 as Incomplete. The same
--- download again is refused as NotBuilt n1, and so is w6 Nn1,n3 once n1 is deleted.
-use Rattle.std.specs.Prelude.{ℕ, ◌++◌, if◌then◌else◌, Bool, true, false, List, [], Option, Some, None, Result, Ok}
-use Rattle.std.specs.List.{filter, flat_map, fold}
-use Rattle.std.specs.Option.{option_map, is_none}
-use Rattle.std.specs.Ordering.{is_le}
-use Rattle.osm_base.specs.Rank.{rank_cmp}
-use Rattle.osm_base.specs.Content.{refs_of}
+-- Each key takes the outcome of its case, and then all at once the lost objects that are wanted come back, the
+-- candidates that are held stay, all other candidates go, and what living objects refer to is there. For example where
+-- two relations refer to each other and both are told gone, both go; where a third, of which nothing is told, refers to
+-- one of them, both are held.
+use Rattle.std.specs.Prelude.{ℕ, ◌&&◌, ◌||◌, Bool, if◌then◌else◌, is_some, List, [], ◌++◌, Option, Some, None, Result, Ok}
+use Rattle.std.specs.List.{find, list_any, flat_map}
+use Rattle.std.specs.Option.{option_map}
+use Rattle.std.specs.FinMap as fin
+use Rattle.osm_base.specs.Rank.{is_key}
 use Rattle.osm_base.specs.declared.key.Key.{Key}
-use Rattle.osm_table.specs.Table.{TableValue, entry_of}
-use Rattle.osm_table.specs.Told.{ToldValue, told_at}
-use Rattle.osm_table.specs.declared.entry.Base.TheVariants as base
+use Rattle.osm_base.specs.declared.content.Content.{Content}
+use Rattle.osm_table.specs.declared.entry.Why.TheVariants.{Held}
 use Rattle.osm_table.specs.declared.entry.Entry.{Entry}
-use Rattle.osm_table.specs.declared.entry.Entry.TheVariants.{Incomplete, Known}
-use Rattle.osm_table.specs.declared.told.Told.{Told}
-use Rattle.osm_table.specs.declared.told.Told.TheVariants.{Mentioned, Live, Gone}
+use Rattle.osm_table.specs.declared.entry.Entry.TheVariants.{Known}
+use Rattle.osm_table.specs.Table.{TableValue, keys_by_rank, version_of}
+use Rattle.osm_table.specs.Told.{ToldEntries, ToldValue}
+use Rattle.dataset.specs.Exact.{mine_at}
 use Rattle.tool_api.specs.declared.refusal.Refusal.{Refusal}
-use Rattle.tool_api.specs.declared.refusal.Refusal.TheVariants.{NotBuilt}
+use Rattle.tool_api.specs.declared.refusal.Refusal.TheVariants.{VersionClash}
 use Rattle.tool_api.specs.Tests.{◌>>◌}
 use Rattle.tool_api.specs.Changes.{Outcome, done, changed}
 use Rattle.tool_api.specs.Closing.{room_test}
+use Rattle.closure.specs.Closure.{has, least, by_chains}
+use Rattle.tool_api.specs.Staged.{Staged, stage_of, verdict_at, theirs_at, is_clash, lost_of, refers_by, refs_by, against, back, bared}
 
--- the lesser by rank of a key and perhaps another
-abbrev pub lesser : Option Key → Key → Option Key
-lesser None key = Some key
-lesser (Some other) key = if is_le (rank_cmp other key) then Some other else Some key
+-- Over a stage of each key, and the keys of both sides:
+module _ (stage : Key → Staged) (keys : List Key) where
+  -- by what a firm entry refers: one that lives and is no candidate
+  abbrev pub firm_content : Key → Option Content
+  firm_content k = if (stage k).candidate then None else mine_at (stage k).entry
 
--- the least key by rank, none of none
-abbrev pub least : List Key → Option Key
-least keys = fold lesser None keys
+  -- by what a lost object would refer
+  abbrev pub lost_content : Key → Option Content
+  lost_content k = if (stage k).candidate then None else lost_of (stage k).entry
 
--- what an object that is told live refers to
-abbrev pub told_refs : Option Told → List Key
-told_refs (Some (Live version content meta)) = refs_of content
-told_refs told = []
+  -- by what a candidate refers
+  abbrev pub candidate_content : Key → Option Content
+  candidate_content k = if (stage k).candidate then mine_at (stage k).entry else None
 
--- all that the told objects refer to
-abbrev pub references : ToldValue → List Key
-references told = flat_map (λ k. told_refs (told_at told k)) told.order
+  abbrev pub named_by_firm : Key → Bool
+  named_by_firm k = list_any (λ j. refers_by (firm_content j) k) keys
 
--- whether an object is told gone, or is told live and is known already
-abbrev pub is_news : Option Entry → Option Told → Bool
-is_news entry (Some (Gone version meta)) = true
-is_news (Some (Known base mine conflict)) (Some (Live version content meta)) = true
-is_news entry told = false
+  -- The wanted objects: the lost ones at the ends of chains that begin at a firm entry, of lost ones between.
+  abbrev pub wanted_start : Key → Bool
+  wanted_start k = is_some (lost_content k) && named_by_firm k
 
--- whether an object is known and doesn't live
-abbrev pub is_deleted : Option Entry → Bool
-is_deleted (Some (Known base None conflict)) = true
-is_deleted entry = false
+  abbrev pub wanted_leads : Key → Key → Bool
+  wanted_leads j k = is_some (lost_content k) && refers_by (lost_content j) k
 
--- the keys that keep a download out: those of which there is news, and those that are referred to and deleted
-abbrev pub unbuilt : TableValue → ToldValue → List Key
-unbuilt t told = filter (λ k. is_news (entry_of t k) (told_at told k)) told.order ++ filter (λ r. is_deleted (entry_of t r)) (references told)
+  abbrev pub wanted : List Key
+  wanted = least is_key (by_chains wanted_start wanted_leads) keys
 
--- NotBuilt with the least of them
-abbrev pub news_test : TableValue → ToldValue → Option Refusal
-news_test t told = option_map NotBuilt (least (unbuilt t told))
+  abbrev pub named_by_wanted : Key → Bool
+  named_by_wanted k = list_any (λ j. refers_by (lost_content j) k) wanted
 
--- What is known stays. Another object stands as it is told live, and one that is mentioned is Incomplete.
-abbrev pub taken : Option Entry → Option Told → Option Entry
-taken (Some (Known base mine conflict)) told = Some (Known base mine conflict)
-taken entry (Some (Live version content meta)) = Some (Known (base.Live version content meta) (Some content) None)
-taken None (Some Mentioned) = Some Incomplete
-taken entry told = entry
+  -- The held objects: the candidates at the ends of chains of candidates, to whose first a firm or wanted entry refers.
+  abbrev pub held_start : Key → Bool
+  held_start k = (stage k).candidate && (named_by_firm k || named_by_wanted k)
 
--- The references that aren't in the table enter as Incomplete.
-abbrev pub completed : TableValue → List Key → TableValue
-completed t refs = changed t (λ _. Some Incomplete) (filter (λ r. is_none (entry_of t r)) refs)
+  abbrev pub held_leads : Key → Key → Bool
+  held_leads j k = (stage k).candidate && refers_by (candidate_content j) k
 
--- what is told, taken in
-abbrev pub merged : TableValue → ToldValue → TableValue
-merged t told = completed (changed t (λ k. taken (entry_of t k) (told_at told k)) told.order) (references told)
+  abbrev pub held : List Key
+  held = least is_key (by_chains held_start held_leads) keys
 
--- A download taken in: NotBuilt, then TableFull. The number of the next new object stays.
+  abbrev pub named_by_held : Key → Bool
+  named_by_held k = list_any (λ j. refers_by (candidate_content j) k) held
+
+  -- whether an entry that lives in the end refers to the key
+  abbrev pub named : Key → Bool
+  named k = named_by_firm k || (named_by_wanted k || named_by_held k)
+
+  -- what a key has in the end
+  abbrev pub final : Key → Option Entry
+  final k =
+      if (stage k).candidate then (if has is_key held k then option_map (against Held (stage k).theirs) (stage k).entry else Some (Known (stage k).theirs None None))
+      else (if has is_key wanted k then option_map back (stage k).entry
+      else bared (named k) (stage k).entry)
+
+-- the keys of the table, and those that are told of
+abbrev pub both_keys : TableValue → ToldEntries → List Key
+both_keys t m = keys_by_rank t ++ fin.keys m
+
+-- and those to which their contents refer
+abbrev pub reached_keys : TableValue → ToldEntries → List Key
+reached_keys t m = both_keys t m ++ flat_map (λ k. refs_by (mine_at (stage_of t m k).entry) ++ refs_by (lost_of (stage_of t m k).entry)) (both_keys t m)
+
+-- The table with what is told merged into it, where no versions clash.
+abbrev pub merged : TableValue → ToldEntries → TableValue
+merged t m = changed t (final (stage_of t m) (both_keys t m)) (reached_keys t m)
+
+-- the refusal of an object of which one version is told in two ways
+abbrev pub clash_of : ToldEntries → Key → Refusal
+clash_of m k = VersionClash k (version_of (theirs_at m k))
+
+-- VersionClash with the least key that is told gone in the version in which it is known live, or live where it is gone
+abbrev pub clash_test : TableValue → ToldEntries → Option Refusal
+clash_test t m = option_map (clash_of m) (find (λ k. is_clash (verdict_at t m k)) (fin.keys m))
+
+-- A download merged into the table: VersionClash, then TableFull. The number of the next new object stays.
 abbrev pub merge : TableValue → ℕ → ToldValue → Result Outcome Refusal
 merge t limit told = do
-  news_test t told
-  room_test limit (merged t told)
-  Ok (done (merged t told))
+  clash_test t told.told
+  room_test limit (merged t told.told)
+  Ok (done (merged t told.told))

@@ -35,10 +35,11 @@ pub enum Refusal {
     TagClash(Text),
     /// The relation's members don't name the ways as one run.
     MemberClash(Key),
+    /// The download tells a version of the object otherwise than it is known: gone where it lives, or living where it is
+    /// gone.
+    VersionClash(Key, u32),
     /// The table would have more objects than the limit, or no number is left.
     TableFull,
-    /// The object is known already, or deleted in the file: taking that in isn't built yet.
-    NotBuilt(Key),
 }
 
 impl Refusal {
@@ -61,8 +62,8 @@ impl Refusal {
             Refusal::NotJoined(_) => 12,
             Refusal::TagClash(_) => 13,
             Refusal::MemberClash(_) => 14,
+            Refusal::VersionClash(_, _) => 17,
             Refusal::TableFull => 18,
-            Refusal::NotBuilt(_) => 28,
         }
     }
 }
