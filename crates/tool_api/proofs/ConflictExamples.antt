@@ -1,5 +1,5 @@
 -- Objects in conflict: worked examples of what each job may not do to them.
-use Rattle.std.proofs.Common.{◌≡◌, ℕ, pos, negsuc, true, false, List, [], ◌∷◌, map, Option, Some, None, refl, Ok, Err}
+use Rattle.std.proofs.Common.{◌≡◌, ℕ, pos, true, false, List, [], ◌∷◌, map, Option, Some, None, refl, Ok, Err}
 use Rattle.std.specs.Prelude.{codes, Result}
 use Rattle.std.specs.FinMap as fin
 use Rattle.osm_base.specs.OnMap.{is_on_map}
@@ -7,28 +7,25 @@ use Rattle.osm_base.specs.Place.{place_at}
 use Rattle.osm_base.specs.Rank.{rank_cmp}
 use Rattle.osm_base.specs.RankLaws.{rank_total}
 use Rattle.osm_base.specs.Content.{node}
-use Rattle.osm_base.specs.Tags.{Pair}
 use Rattle.osm_base.specs.declared.coord.Coord.{Coord}
 use Rattle.osm_base.specs.declared.meta.Meta.{Meta}
 use Rattle.osm_base.specs.declared.content.Content.{Content}
 use Rattle.osm_base.specs.declared.content.Content.TheVariants as content
 use Rattle.osm_base.specs.declared.key.Key.{Key}
 use Rattle.osm_base.specs.declared.key.Kind.TheVariants as kind
-use Rattle.osm_table.specs.declared.entry.Base.TheVariants.{New, Live, Gone}
+use Rattle.osm_table.specs.declared.entry.Base.TheVariants.{Live, Gone}
 use Rattle.osm_table.specs.declared.entry.Why.TheVariants.{Changed, Held, Withdrawn}
-use Rattle.osm_table.specs.declared.entry.Conflict.{Conflict}
 use Rattle.osm_table.specs.declared.entry.Entry.{Entry}
 use Rattle.osm_table.specs.declared.entry.Entry.TheVariants.{Incomplete, Known}
 use Rattle.osm_table.specs.Table.{TableValue, mine_of}
 use Rattle.tool_api.specs.declared.kinds.Kinds.TheVariants.{Any, Nodes, Ways}
 use Rattle.tool_api.specs.declared.refusal.Refusal.{Refusal}
-use Rattle.tool_api.specs.declared.refusal.Refusal.TheVariants.{Absent, IncompleteObject, DeletedObject, InConflict, InUse, WrongKind, Unfit, OutOfRange, TableFull}
-use Rattle.tool_api.specs.Tests.{entry_test, ref_entry_test, purge_entry_test, list_tests}
+use Rattle.tool_api.specs.declared.refusal.Refusal.TheVariants.{DeletedObject, InConflict, WrongKind, Unfit, OutOfRange, TableFull}
+use Rattle.tool_api.specs.Tests.{entry_test, ref_entry_test, purge_entry_test}
 use Rattle.tool_api.specs.Changes.{Outcome}
 use Rattle.tool_api.specs.Closing.{disturbs, closing_tests}
 use Rattle.tool_api.specs.Basic.{move_entry_test, set_tags, shift}
 use Rattle.tool_api.specs.Gone.{is_bare, delete_all, erase, purge}
-use Rattle.tool_api.specs.Split.{split}
 
 abbrev n : ℕ → Key
 n i = node (pos i)

@@ -14,9 +14,6 @@ use Rattle.osm_base.specs.declared.members.Member.{Member}
 use Rattle.osm_base.specs.declared.content.Content.TheVariants as content
 use Rattle.osm_table.specs.declared.entry.Base.TheVariants.{New}
 use Rattle.osm_table.specs.declared.entry.Base.TheVariants as base
-use Rattle.osm_table.specs.declared.told.Told.{Told}
-use Rattle.osm_table.specs.declared.told.Told.TheVariants as told
-use Rattle.osm_table.specs.Told.{ToldValue}
 use Rattle.osm_table.specs.declared.entry.Entry.{Entry}
 use Rattle.osm_table.specs.declared.entry.Entry.TheVariants.{Known}
 use Rattle.osm_table.specs.Table.{TableValue, mine_of}
@@ -25,7 +22,6 @@ use Rattle.tool_api.specs.declared.refusal.Refusal.TheVariants.{Absent, NamedTwi
 use Rattle.tool_api.specs.Tests.{is_named, twice_test, list_tests}
 use Rattle.tool_api.specs.Basic.{add, reversed, moved_nodes}
 use Rattle.tool_api.specs.Combine.{combine, united, clash_test}
-use Rattle.tool_api.specs.Merged.{merge}
 use Rattle.tool_api.specs.Split.{all_pieces, keyed, kept_number, split}
 use Rattle.std.specs.Prelude.{Result}
 use Rattle.std.proofs.lemmas.Str.{chars-nil}

@@ -4,7 +4,7 @@
 -- candidates that are held stay, all other candidates go, and what living objects refer to is there. For example where
 -- two relations refer to each other and both are told gone, both go; where a third, of which nothing is told, refers to
 -- one of them, both are held.
-use Rattle.std.specs.Prelude.{ℕ, ◌&&◌, ◌||◌, Bool, if◌then◌else◌, is_some, List, [], ◌++◌, Option, Some, None, Result, Ok}
+use Rattle.std.specs.Prelude.{ℕ, ◌&&◌, ◌||◌, Bool, if◌then◌else◌, is_some, List, ◌++◌, Option, Some, None, Result, Ok}
 use Rattle.std.specs.List.{find, list_any, flat_map}
 use Rattle.std.specs.Option.{option_map}
 use Rattle.std.specs.FinMap as fin
