@@ -5,6 +5,7 @@ use Rattle.std.specs.List.{find as find_first}
 use Rattle.std.specs.Option.{option_map, option_map_or}
 use Rattle.std.specs.FinMap as fin
 use Rattle.std.specs.FinMap.Entries.{find, is_sorted}
+use Rattle.std.specs.Str.{chars}
 use Rattle.osm_base.specs.Rank.{rank_cmp}
 use Rattle.osm_base.specs.Content.{node}
 use Rattle.osm_base.specs.Meta.{empty_meta}
@@ -140,7 +141,19 @@ taken = by_lists plain newer (n 1) tt tt
 stays : (after moved newer (n 1) ≡ Some (disputed 1 (dot 1) (Some (dot 2)) (live 2 (dot 3)))) × (after moved (removed 2) (n 1) ≡ Some (disputed 1 (dot 1) (Some (dot 2)) (gone 2)))
 stays = (by_lists moved newer (n 1) tt tt, by_lists moved (removed 2) (n 1) tt tt)
 
--- So does one that is deleted here, until both sides deleted it.
+-- What each side changed alone is joined: n1 has the tag a=2 here, and b=3 at the server.
+abbrev two : ℕ → ℕ → Content
+two a b = content.Node ((97 ∷ [], a ∷ []) ∷ (98 ∷ [], b ∷ []) ∷ []) here
+
+joined : after moved ((n 1, tells 2 (two 1 3)) ∷ []) (n 1) ≡ Some (edited 2 (two 1 3) (two 2 3))
+unfolding chars
+joined = by_lists moved ((n 1, tells 2 (two 1 3)) ∷ []) (n 1) tt tt
+
+-- An older version tells nothing.
+older : after ((n 1, kept 3 (dot 1)) ∷ []) newer (n 1) ≡ Some (kept 3 (dot 1))
+older = by_lists ((n 1, kept 3 (dot 1)) ∷ []) newer (n 1) tt tt
+
+-- One that is deleted here stays so, in conflict with a newer version, until both sides deleted it.
 deleted_stays : (after away newer (n 1) ≡ Some (disputed 1 (dot 1) None (live 2 (dot 3)))) × (after away (removed 2) (n 1) ≡ Some (off 2))
 deleted_stays = (by_lists away newer (n 1) tt tt, by_lists away (removed 2) (n 1) tt tt)
 
@@ -192,6 +205,13 @@ route = (r 1, tells 1 (group (w 1 ∷ []))) ∷ []
 
 way_back : (after ruins route (w 1) ≡ Some (came_back 1 (line (1 ∷ 2 ∷ [])))) × (after ruins route (n 1) ≡ Some (came_back 1 (dot 1))) × (after ruins route (n 2) ≡ Some Incomplete)
 way_back = (by_lists ruins route (w 1) tt tt, by_lists ruins route (n 1) tt tt, by_lists ruins route (n 2) tt tt)
+
+-- One that came back stays in that conflict with a newer version, and is held where that is gone.
+abbrev risen : List (Key × Entry)
+risen = (n 1, came_back 1 (dot 1)) ∷ (w 1, kept 1 (line (1 ∷ []))) ∷ []
+
+risen_stays : (after risen newer (n 1) ≡ Some (came_back 2 (dot 3))) × (after risen (removed 2) (n 1) ≡ Some (held 1 (dot 1) 2))
+risen_stays = (by_lists risen newer (n 1) tt tt, by_lists risen (removed 2) (n 1) tt tt)
 
 -- A node that both sides deleted is Incomplete where a way refers to it.
 abbrev rubble : List (Key × Entry)
