@@ -20,7 +20,7 @@ use Rattle.tool_api.specs.Closing.{in_conflict}
 use Rattle.tool_api.specs.Staged.{stage_of, lost_of, back, against, bared}
 use Rattle.tool_api.specs.Merged.{both_keys, lost_content, wanted, held, named, merged}
 use Rattle.merge_tool.proofs.Rows.{HasFits, live_held}
-use Rattle.merge_tool.proofs.Stand.{wanted_lost}
+use Rattle.merge_tool.proofs.Stand.{settled, wanted_lost}
 use Rattle.merge_tool.proofs.Fitting.{fits}
 use Rattle.merge_tool.proofs.Outcome.{merged_at}
 use Rattle.merge_tool.proofs.Places.{SoundAt}
@@ -76,8 +76,7 @@ module _ (t : TableValue) (m : ToldEntries) (sound : IsSound t) (is_told : IsTol
   conflicts k = ap in_conflict (merged_at t m k) ∙ by (stage_of t m k).candidate (has is_key (held (stage_of t m) (both_keys t m)) k) (has is_key (wanted (stage_of t m) (both_keys t m)) k) refl refl
     where
       by : (a h w : Bool) → (stage_of t m k).candidate ≡ a → has is_key (wanted (stage_of t m) (both_keys t m)) k ≡ w
-          → in_conflict (cond a (cond h (option_map (against Held (stage_of t m k).theirs) (stage_of t m k).entry) (Some (Known (stage_of t m k).theirs None None))) (cond w (option_map back (stage_of t m k).entry) (bared (named (stage_of t m) (both_keys t m) k) (stage_of t m k).entry)))
-          ≡ cond a h (w || in_conflict (stage_of t m k).entry)
+          → in_conflict (settled a h w (named (stage_of t m) (both_keys t m) k) (stage_of t m k).theirs (stage_of t m k).entry) ≡ cond a h (w || in_conflict (stage_of t m k).entry)
       by true true w e f = held_conflict (stage_of t m k).theirs (stage_of t m k).entry ((fits t m sound).alive k e)
       by true false w e f = refl
       by false h true e f = back_conflict (stage_of t m k).entry

@@ -1,6 +1,5 @@
 -- What the merged table has at each key, and that references stand in it.
-use Rattle.std.proofs.Common.{◌≡◌, ◌||◌, Bool, true, false, List, [], ◌∷◌, ◌++◌, Option, Some, None, is_some, cond, refl, sym, ◌∙◌, ap, subst, inl, inr, ◌⊎◌, length}
-use Rattle.std.specs.Option.{option_map}
+use Rattle.std.proofs.Common.{◌≡◌, Bool, true, false, List, [], ◌∷◌, ◌++◌, Option, Some, None, is_some, cond, refl, sym, ◌∙◌, ap, subst, inl, inr, ◌⊎◌}
 use Rattle.std.specs.List.{flat_map}
 use Rattle.std.proofs.lemmas.Bool.{or_cases, true≢false}
 use Rattle.std.specs.FinMap as fin
@@ -8,23 +7,19 @@ use Rattle.osm_base.specs.Rank.{is_key}
 use Rattle.osm_base.proofs.RisingKeys.{one_key, key_itself}
 use Rattle.osm_base.specs.declared.key.Key.{Key}
 use Rattle.osm_base.specs.declared.content.Content.{Content}
-use Rattle.osm_table.specs.declared.entry.Why.TheVariants.{Held}
 use Rattle.osm_table.specs.declared.entry.Entry.{Entry}
-use Rattle.osm_table.specs.declared.entry.Entry.TheVariants.{Known}
 use Rattle.osm_table.specs.declared.told.Told.{Told}
 use Rattle.osm_table.specs.Table.{TableValue, entry_of, mine_of, Each, IsThere}
 use Rattle.osm_table.specs.Told.{ToldEntries}
 use Rattle.dataset.specs.Exact.{mine_at}
 use Rattle.dataset.specs.Sound.{IsSound, LivesIn}
 use Rattle.tool_api.proofs.Looks.{entry_changed}
-use Rattle.closure.specs.Closure.{has, least, rounds, by_chains}
-use Rattle.closure.proofs.Least.{kept_from}
-use Rattle.closure.proofs.Chains.{some_of}
+use Rattle.closure.specs.Closure.{has}
 use Rattle.closure.proofs.Walk.{has_first, has_second}
-use Rattle.tool_api.specs.Staged.{staged, is_candidate, stage_of, lost_of, refers_by, refs_by, against, back, bared}
-use Rattle.tool_api.specs.Merged.{both_keys, reached_keys, firm_content, candidate_content, lost_content, named_by_firm, named_by_wanted, named_by_held, wanted, wanted_start, wanted_leads, held, held_start, held_leads, named, final, merged}
+use Rattle.tool_api.specs.Staged.{staged, is_candidate, stage_of, lost_of, refers_by, refs_by}
+use Rattle.tool_api.specs.Merged.{both_keys, reached_keys, wanted, held, named, final, merged}
 use Rattle.merge_tool.proofs.Rows.{theirs_by, verdict_by}
-use Rattle.merge_tool.proofs.Stand.{refs_stand}
+use Rattle.merge_tool.proofs.Stand.{settled, refs_stand, namer}
 use Rattle.merge_tool.proofs.Fitting.{fits}
 
 pub has_flat : (f : Key → List Key) (all : List Key) (j q : Key) → has is_key all j ≡ true → has is_key (f j) q ≡ true → has is_key (flat_map f all) q ≡ true
@@ -39,14 +34,9 @@ refers_at : (o : Option Content) (q : Key) → refers_by o q ≡ true → has is
 refers_at None q h = h
 refers_at (Some c) q h = h
 
-in_rounds : (rule : List Key → Key → Bool) (all : List Key) (k : Key) → has is_key (least is_key rule all) k ≡ true → has is_key all k ≡ true
-in_rounds rule all k h = (kept_from is_key key_itself one_key (λ j. has is_key (rounds is_key rule all (length all)) j || rule (rounds is_key rule all (length all)) j) all k h).0
-
 -- What a key has in the end: by its entry, what is told, and whether it is held, wanted and named.
 abbrev pub outcome : Option Entry → Option Told → Bool → Bool → Bool → Option Entry
-outcome o u held wanted named =
-    cond (is_candidate (verdict_by o u)) (cond held (option_map (against Held (theirs_by u)) (staged (verdict_by o u) o (theirs_by u))) (Some (Known (theirs_by u) None None)))
-    (cond wanted (option_map back (staged (verdict_by o u) o (theirs_by u))) (bared named (staged (verdict_by o u) o (theirs_by u))))
+outcome o u held wanted named = settled (is_candidate (verdict_by o u)) held wanted named (theirs_by u) (staged (verdict_by o u) o (theirs_by u))
 
 -- where there is none, nothing is told of it and nothing refers to it, there is none
 outcome_none : (o : Option Entry) (u : Option Told) (h w n : Bool) → o ≡ None → u ≡ None → (n ≡ true → ⊥) → outcome o u h w n ≡ o
@@ -70,27 +60,13 @@ module _ (t : TableValue) (s : ToldEntries) where
   by_lost j q i h = has_second is_key key_itself one_key (both_keys t s) (flat_map parts (both_keys t s)) q
       (has_flat parts (both_keys t s) j q i (has_second is_key key_itself one_key (refs_by (mine_at (stage_of t s j).entry)) (refs_by (lost_of (stage_of t s j).entry)) q (refers_at (lost_of (stage_of t s j).entry) q h)))
 
-  off : (b : Bool) (o : Option Content) (q : Key) → refers_by (cond b None o) q ≡ true → refers_by o q ≡ true
-  off true o q h = absurd (true≢false (sym h))
-  off false o q h = h
-
-  on : (b : Bool) (o : Option Content) (q : Key) → refers_by (cond b o None) q ≡ true → refers_by o q ≡ true
-  on true o q h = h
-  on false o q h = absurd (true≢false (sym h))
-
+  -- what is named is reached
   named_reached : (q : Key) → named (stage_of t s) (both_keys t s) q ≡ true → has is_key (reached_keys t s) q ≡ true
-  named_reached q h = by (or_cases (named_by_firm (stage_of t s) (both_keys t s) q) (named_by_wanted (stage_of t s) (both_keys t s) q || named_by_held (stage_of t s) (both_keys t s) q) h)
+  named_reached q h = let n = namer (stage_of t s) (both_keys t s) q h in by n.0 n.1 n.2
     where
-      late : (named_by_wanted (stage_of t s) (both_keys t s) q ≡ true) ⊎ (named_by_held (stage_of t s) (both_keys t s) q ≡ true) → has is_key (reached_keys t s) q ≡ true
-      late (inl e) = let f = some_of is_key key_itself one_key (λ j. refers_by (lost_content (stage_of t s) (both_keys t s) j) q) (wanted (stage_of t s) (both_keys t s)) e in
-          by_lost f.0 q (in_rounds (by_chains (wanted_start (stage_of t s) (both_keys t s)) (wanted_leads (stage_of t s) (both_keys t s))) (both_keys t s) f.0 f.1) (off (stage_of t s f.0).candidate (lost_of (stage_of t s f.0).entry) q f.2)
-      late (inr e) = let f = some_of is_key key_itself one_key (λ j. refers_by (candidate_content (stage_of t s) (both_keys t s) j) q) (held (stage_of t s) (both_keys t s)) e in
-          by_mine f.0 q (in_rounds (by_chains (held_start (stage_of t s) (both_keys t s)) (held_leads (stage_of t s) (both_keys t s))) (both_keys t s) f.0 f.1) (on (stage_of t s f.0).candidate (mine_at (stage_of t s f.0).entry) q f.2)
-
-      by : (named_by_firm (stage_of t s) (both_keys t s) q ≡ true) ⊎ ((named_by_wanted (stage_of t s) (both_keys t s) q || named_by_held (stage_of t s) (both_keys t s) q) ≡ true) → has is_key (reached_keys t s) q ≡ true
-      by (inl e) = let f = some_of is_key key_itself one_key (λ j. refers_by (firm_content (stage_of t s) (both_keys t s) j) q) (both_keys t s) e in
-          by_mine f.0 q f.1 (off (stage_of t s f.0).candidate (mine_at (stage_of t s f.0).entry) q f.2)
-      by (inr e) = late (or_cases (named_by_wanted (stage_of t s) (both_keys t s) q) (named_by_held (stage_of t s) (both_keys t s) q) e)
+      by : (j : Key) → has is_key (both_keys t s) j ≡ true → (refers_by (mine_at (stage_of t s j).entry) q ≡ true) ⊎ (refers_by (lost_of (stage_of t s j).entry) q ≡ true) → has is_key (reached_keys t s) q ≡ true
+      by j i (inl e) = by_mine j q i e
+      by j i (inr e) = by_lost j q i e
 
   none_of : {A : Type 0} (o : Option A) → (is_some o ≡ true → ⊥) → o ≡ None
   none_of None f = refl

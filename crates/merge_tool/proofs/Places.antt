@@ -92,37 +92,22 @@ side_newer b m None h = omega arith
 side_newer b m (Some c) h = why_newer c.why c.theirs b m h
 
 -- in conflict with what is told
-against_live : (n : ℕ) (k : Key) (b : Base) (m : Option Content) (f : Option Conflict) (v : ℕ) (c : Content) (meta : Meta) → IsTold k (told.Live v c meta) → IsSoundEntry n k (Known b m f) → Means Dispute b m f v (Some c) → IsSoundEntry n k (against Changed (base.Live v c meta) (Known b m f))
-against_live n k b m f v c meta h s k2 = record {
-  id = base_with n k b m m f (Some (record { why = Changed; theirs = base.Live v c meta })) h.0 s.id;
-  kinds = (s.kinds.0, s.kinds.1, h.2.0);
-  server = (s.server.0, h.2.1);
-  versions = (s.versions.0, h.1);
-  limits = s.limits;
-  conflict = (let l = side_newer b m f s.conflict in let g = k2.0 in omega (arith, l, g), own b s.id k2.1, k2.2);
-}
-  where
-    own : (a : Base) → BaseFits n k a m f → IsOwn a m → m ≢ held_by a
-    own base.New g (inl e) = absurd (not_given n k.id g.0 h.0)
-    own (base.Live w d me) g (inl e) = absurd (true≢false (sym e))
-    own (base.Gone w me) g (inl e) = absurd (true≢false (sym e))
-    own a g (inr e) = e
+own : (n : ℕ) (k : Key) (b : Base) (m : Option Content) (f : Option Conflict) → IsPositive k.id → BaseFits n k b m f → IsOwn b m → m ≢ held_by b
+own n k base.New m f p g (inl e) = absurd (not_given n k.id g.0 p)
+own n k (base.Live w d me) m f p g (inl e) = absurd (true≢false (sym e))
+own n k (base.Gone w me) m f p g (inl e) = absurd (true≢false (sym e))
+own n k b m f p g (inr e) = e
 
-against_gone : (n : ℕ) (k : Key) (b : Base) (m : Option Content) (f : Option Conflict) (v : ℕ) (meta : Meta) → IsTold k (told.Gone v meta) → IsSoundEntry n k (Known b m f) → Means Dispute b m f v None → IsSoundEntry n k (against Changed (base.Gone v meta) (Known b m f))
-against_gone n k b m f v meta h s k2 = record {
-  id = base_with n k b m m f (Some (record { why = Changed; theirs = base.Gone v meta })) h.0 s.id;
-  kinds = (s.kinds.0, s.kinds.1, tt);
-  server = (s.server.0, tt);
-  versions = (s.versions.0, h.1);
+against_sound : (n : ℕ) (k : Key) (b : Base) (m : Option Content) (f : Option Conflict) (theirs : Base) → IsPositive k.id → OfKind k (held_by theirs) → FromTheServer (held_by theirs) → HasVersion theirs
+    → IsSoundEntry n k (Known b m f) → Means Dispute b m f (version_of theirs) (held_by theirs) → IsSoundEntry n k (against Changed theirs (Known b m f))
+against_sound n k b m f theirs positive kind server version s says = record {
+  id = base_with n k b m m f (Some (record { why = Changed; theirs = theirs })) positive s.id;
+  kinds = (s.kinds.0, s.kinds.1, kind);
+  server = (s.server.0, server);
+  versions = (s.versions.0, version);
   limits = s.limits;
-  conflict = (let l = side_newer b m f s.conflict in let g = k2.0 in omega (arith, l, g), own b s.id k2.1, k2.2);
+  conflict = (let l = side_newer b m f s.conflict in let g = says.0 in omega (arith, l, g), own n k b m f positive s.id says.1, says.2);
 }
-  where
-    own : (a : Base) → BaseFits n k a m f → IsOwn a m → m ≢ held_by a
-    own base.New g (inl e) = absurd (not_given n k.id g.0 h.0)
-    own (base.Live w d me) g (inl e) = absurd (true≢false (sym e))
-    own (base.Gone w me) g (inl e) = absurd (true≢false (sym e))
-    own a g (inr e) = e
 
 -- held by what refers to it
 live_base : (b : Base) (m : Option Content) → m ≡ held_by b → is_some m ≡ true → IsLive b
@@ -211,8 +196,8 @@ disputes_sound : (n : ℕ) (k : Key) (o : Option Entry) (s : Told) → SaysTold 
 disputes_sound n k None s says h old = tt
 disputes_sound n k (Some Incomplete) s says h old = old
 disputes_sound n k (Some (Known b m f)) told.Mentioned says h old = absurd (let i : Dispute ≡ Stay = says in cc)
-disputes_sound n k (Some (Known b m f)) (told.Live w c meta) says h old = against_live n k b m f w c meta h old says
-disputes_sound n k (Some (Known b m f)) (told.Gone w meta) says h old = against_gone n k b m f w meta h old says
+disputes_sound n k (Some (Known b m f)) (told.Live w c meta) says h old = against_sound n k b m f (base.Live w c meta) h.0 h.2.0 h.2.1 h.1 old says
+disputes_sound n k (Some (Known b m f)) (told.Gone w meta) says h old = against_sound n k b m f (base.Gone w meta) h.0 tt tt h.1 old says
 
 told_staged : (n : ℕ) (k : Key) (v : Verdict) (o : Option Entry) (s : Told) → SaysTold v o s → IsTold k s → SoundAt n k o → SoundAt n k (staged v o (theirs_told s))
 told_staged n k Stay o s says h old = old

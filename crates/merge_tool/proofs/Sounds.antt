@@ -1,17 +1,17 @@
 -- The table with a download merged into it is sound.
-use Rattle.std.proofs.Common.{◌≡◌, ◌||◌, ℕ, Bool, true, false, List, [], ◌∷◌, Option, Some, None, is_some, cond, refl, sym, ◌∙◌, ap, subst, inl, inr, ◌⊎◌}
+use Rattle.std.proofs.Common.{◌≡◌, ℕ, Bool, true, false, List, [], ◌∷◌, Option, Some, None, is_some, cond, refl, sym, ◌∙◌, ap, subst, inl, inr, ◌⊎◌}
 use Rattle.std.specs.List.{AllByRecursion, list_any}
 use Rattle.std.specs.Option.{option_map}
 use Rattle.std.specs.FinMap as fin
 use Rattle.std.proofs.lemmas.Bool.{true≢false, or_cases}
 use Rattle.osm_base.specs.Rank.{is_key}
 use Rattle.osm_base.specs.Content.{refers, refs_of}
-use Rattle.osm_base.proofs.RisingKeys.{one_key, key_itself}
+use Rattle.osm_base.proofs.RisingKeys.{one_key}
 use Rattle.osm_base.specs.declared.key.Key.{Key}
 use Rattle.osm_base.specs.declared.content.Content.{Content}
 use Rattle.osm_table.specs.declared.entry.Base.{Base}
 use Rattle.osm_table.specs.declared.entry.Why.{Why}
-use Rattle.osm_table.specs.declared.entry.Why.TheVariants.{Changed, Held}
+use Rattle.osm_table.specs.declared.entry.Why.TheVariants.{Changed}
 use Rattle.osm_table.specs.declared.entry.Entry.{Entry}
 use Rattle.osm_table.specs.declared.entry.Entry.TheVariants.{Incomplete, Known}
 use Rattle.osm_table.specs.declared.told.Told.{Told}
@@ -22,15 +22,14 @@ use Rattle.dataset.specs.Exact.{mine_at}
 use Rattle.dataset.specs.Sound.{IsSound, IsSoundEntry, IsNumber, FromTheServer}
 use Rattle.tool_api.proofs.Looks.{next_changed}
 use Rattle.closure.specs.Closure.{has}
-use Rattle.closure.proofs.Chains.{some_of}
 use Rattle.merge_cases.specs.declared.verdict.Verdict.{Verdict}
 use Rattle.merge_cases.specs.declared.verdict.Verdict.TheVariants.{Stay, Mention, Take, Clash, Keep, Candidate, Settle, Join, Dispute}
 use Rattle.merge_cases.specs.Join.{joined}
 use Rattle.merge_cases.proofs.JoinedOf.{If, TakesOver, joined_takes}
-use Rattle.tool_api.specs.Staged.{verdict_at, theirs_at, staged, stage_of, with_theirs, against, all_joined, lost_of, refers_by, back, bared}
-use Rattle.tool_api.specs.Merged.{both_keys, reached_keys, firm_content, lost_content, candidate_content, named_by_firm, named_by_wanted, named_by_held, wanted, held, named, final, merged}
+use Rattle.tool_api.specs.Staged.{verdict_at, theirs_at, staged, stage_of, with_theirs, against, all_joined, lost_of, refers_by}
+use Rattle.tool_api.specs.Merged.{both_keys, reached_keys, lost_content, wanted, held, named, final, merged}
 use Rattle.merge_tool.proofs.Rows.{theirs_by}
-use Rattle.merge_tool.proofs.Stand.{wanted_lost}
+use Rattle.merge_tool.proofs.Stand.{settled, wanted_lost, namer}
 use Rattle.merge_tool.proofs.Fitting.{there}
 use Rattle.merge_tool.proofs.Outcome.{merged_at, merged_closed}
 use Rattle.merge_tool.proofs.Places.{SoundAt, IfTold, staged_sound, candidate_sound, back_sound, bared_sound}
@@ -139,39 +138,20 @@ module _ (t : TableValue) (m : ToldEntries) (sound : IsSound t) (is_told : IsTol
   absent_positive j q none (inl e) = absurd (stays_some (verdict_at t m q) (entry_of t q) (theirs_at m q) (there t m sound j q (entry_of t j) refl e) none)
   absent_positive j q none (inr p) = p
 
-  off : (b : Bool) (o : Option Content) (q : Key) → refers_by (cond b None o) q ≡ true → refers_by o q ≡ true
-  off true o q h = absurd (true≢false (sym h))
-  off false o q h = h
-
-  on : (b : Bool) (o : Option Content) (q : Key) → refers_by (cond b o None) q ≡ true → refers_by o q ≡ true
-  on true o q h = h
-  on false o q h = absurd (true≢false (sym h))
-
   -- what enters as Incomplete has a positive id
   named_positive : (q : Key) → named (stage_of t m) (both_keys t m) q ≡ true → (stage_of t m q).entry ≡ None → IsPositive q.id
-  named_positive q h none = by (or_cases (named_by_firm (stage_of t m) (both_keys t m) q) (named_by_wanted (stage_of t m) (both_keys t m) q || named_by_held (stage_of t m) (both_keys t m) q) h)
+  named_positive q h none = let n = namer (stage_of t m) (both_keys t m) q h in by n.0 n.2
     where
-      mine : (j : Key) → refers_by (mine_at (stage_of t m j).entry) q ≡ true → IsPositive q.id
-      mine j e = absent_positive j q none (staged_ours j (verdict_at t m j) (entry_of t j) (fin.get m j) q (tells j) e)
-
-      late : (named_by_wanted (stage_of t m) (both_keys t m) q ≡ true) ⊎ (named_by_held (stage_of t m) (both_keys t m) q ≡ true) → IsPositive q.id
-      late (inl e) = let f = some_of is_key key_itself one_key (λ j. refers_by (lost_content (stage_of t m) (both_keys t m) j) q) (wanted (stage_of t m) (both_keys t m)) e in
-          lost_positive t.next f.0 (stage_of t m f.0).entry q (stage_sound f.0) (off (stage_of t m f.0).candidate (lost_of (stage_of t m f.0).entry) q f.2)
-      late (inr e) = let f = some_of is_key key_itself one_key (λ j. refers_by (candidate_content (stage_of t m) (both_keys t m) j) q) (held (stage_of t m) (both_keys t m)) e in
-          mine f.0 (on (stage_of t m f.0).candidate (mine_at (stage_of t m f.0).entry) q f.2)
-
-      by : (named_by_firm (stage_of t m) (both_keys t m) q ≡ true) ⊎ ((named_by_wanted (stage_of t m) (both_keys t m) q || named_by_held (stage_of t m) (both_keys t m) q) ≡ true) → IsPositive q.id
-      by (inl e) = let f = some_of is_key key_itself one_key (λ j. refers_by (firm_content (stage_of t m) (both_keys t m) j) q) (both_keys t m) e in
-          mine f.0 (off (stage_of t m f.0).candidate (mine_at (stage_of t m f.0).entry) q f.2)
-      by (inr e) = late (or_cases (named_by_wanted (stage_of t m) (both_keys t m) q) (named_by_held (stage_of t m) (both_keys t m) q) e)
+      by : (j : Key) → (refers_by (mine_at (stage_of t m j).entry) q ≡ true) ⊎ (refers_by (lost_of (stage_of t m j).entry) q ≡ true) → IsPositive q.id
+      by j (inl e) = absent_positive j q none (staged_ours j (verdict_at t m j) (entry_of t j) (fin.get m j) q (tells j) e)
+      by j (inr e) = lost_positive t.next j (stage_of t m j).entry q (stage_sound j) e
 
   -- what each key has in the end is sound by itself
   final_sound : (k : Key) → SoundAt t.next k (final (stage_of t m) (both_keys t m) k)
   final_sound k = by (stage_of t m k).candidate (has is_key (wanted (stage_of t m) (both_keys t m)) k) refl refl
     where
       by : (a d : Bool) → (stage_of t m k).candidate ≡ a → has is_key (wanted (stage_of t m) (both_keys t m)) k ≡ d
-          → SoundAt t.next k (cond a (cond (has is_key (held (stage_of t m) (both_keys t m)) k) (option_map (against Held (stage_of t m k).theirs) (stage_of t m k).entry) (Some (Known (stage_of t m k).theirs None None)))
-          (cond d (option_map back (stage_of t m k).entry) (bared (named (stage_of t m) (both_keys t m) k) (stage_of t m k).entry)))
+          → SoundAt t.next k (settled a (has is_key (held (stage_of t m) (both_keys t m)) k) d (named (stage_of t m) (both_keys t m) k) (stage_of t m k).theirs (stage_of t m k).entry)
       by true d e f = candidate_sound t.next k (entry_of t k) (fin.get m k) e (tells k) (sound_at t k (entry_of t k) sound refl) (has is_key (held (stage_of t m) (both_keys t m)) k)
       by false true e f = back_sound t.next k (stage_of t m k).entry (stage_sound k)
           (let opened : lost_content (stage_of t m) (both_keys t m) k ≡ lost_of (stage_of t m k).entry = ap (λ (b : Bool). cond b None (lost_of (stage_of t m k).entry)) e in

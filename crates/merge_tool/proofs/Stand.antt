@@ -1,7 +1,7 @@
 -- After a merge each reference of a living entry stands, and is living or Incomplete.
-use Rattle.std.proofs.Common.{◌≡◌, ◌&&◌, Bool, true, false, not, List, Option, Some, None, is_some, cond, refl, sym, ◌∙◌, ap, subst, inl, inr, ◌⊎◌}
+use Rattle.std.proofs.Common.{◌≡◌, ◌&&◌, ◌||◌, Bool, true, false, not, List, length, Option, Some, None, is_some, cond, refl, sym, ◌∙◌, ap, subst, inl, inr, ◌⊎◌}
 use Rattle.std.specs.Option.{option_map}
-use Rattle.std.proofs.lemmas.Bool.{or_left, or_right, and_parts, and_from, true≢false}
+use Rattle.std.proofs.lemmas.Bool.{or_cases, or_left, or_right, and_parts, and_from, true≢false}
 use Rattle.osm_base.specs.Rank.{is_key}
 use Rattle.osm_base.specs.Content.{refers}
 use Rattle.osm_base.proofs.RisingKeys.{one_key, key_itself}
@@ -14,7 +14,8 @@ use Rattle.osm_table.specs.declared.entry.Entry.{Entry}
 use Rattle.osm_table.specs.declared.entry.Entry.TheVariants.{Incomplete, Known}
 use Rattle.osm_table.specs.Table.{held_by, known_base, IsThere}
 use Rattle.dataset.specs.Exact.{mine_at}
-use Rattle.closure.specs.Closure.{has}
+use Rattle.closure.specs.Closure.{has, least, rounds, by_chains}
+use Rattle.closure.proofs.Least.{kept_from}
 use Rattle.closure.proofs.Chains.{some_of, any_of, by_start, by_lead, each_in}
 use Rattle.tool_api.specs.Staged.{Staged, lost_of, refers_by, back, against, bared}
 use Rattle.tool_api.specs.Merged.{firm_content, lost_content, candidate_content, named_by_firm, named_by_wanted, named_by_held, wanted_start, wanted_leads, wanted, held_start, held_leads, held, named, final}
@@ -87,8 +88,25 @@ pub mine_is : (o : Option Entry) → is_some (mine_at o) ≡ true → is_some o 
 mine_is None h = h
 mine_is (Some x) h = refl
 
+-- a reference of a content that a test lets through is one of the content
+off : (b : Bool) (o : Option Content) (r : Key) → refers_by (cond b None o) r ≡ true → refers_by o r ≡ true
+off true o r h = absurd (true≢false (sym h))
+off false o r h = h
+
+on : (b : Bool) (o : Option Content) (r : Key) → refers_by (cond b o None) r ≡ true → refers_by o r ≡ true
+on true o r h = h
+on false o r h = absurd (true≢false (sym h))
+
+-- a least set is one of keys of its list
+in_least : (rule : List Key → Key → Bool) (all : List Key) (k : Key) → has is_key (least is_key rule all) k ≡ true → has is_key all k ≡ true
+in_least rule all k h = (kept_from is_key key_itself one_key (λ j. has is_key (rounds is_key rule all (length all)) j || rule (rounds is_key rule all (length all)) j) all k h).0
+
+-- What a staged entry becomes in the end, by whether it is a candidate, held, wanted and named.
+abbrev pub settled : Bool → Bool → Bool → Bool → Base → Option Entry → Option Entry
+settled candidate held wanted named theirs entry = cond candidate (cond held (option_map (against Held theirs) entry) (Some (Known theirs None None))) (cond wanted (option_map back entry) (bared named entry))
+
 module _ (stage : Key → Staged) (keys : List Key) where
-  -- what the rows leave of a sound table
+  -- what the cases leave of a sound table
   pub record Fits : Type 0 where
     pub covers : (k : Key) → is_some (stage k).entry ≡ true → has is_key keys k ≡ true
     pub alive : (k : Key) → (stage k).candidate ≡ true → is_some (mine_at (stage k).entry) ≡ true
@@ -104,6 +122,35 @@ module _ (stage : Key → Staged) (keys : List Key) where
   named_so k (inl e) = or_left _ _ e
   named_so k (inr (inl e)) = or_right _ _ (or_left _ _ e)
   named_so k (inr (inr e)) = or_right _ _ (or_right _ _ e)
+
+  -- one that refers to the key, by its content or by the one that was lost
+  abbrev pub Namer : Key → Type 0
+  Namer k = (j : Key) × (has is_key keys j ≡ true) × ((refers_by (mine_at (stage j).entry) k ≡ true) ⊎ (refers_by (lost_of (stage j).entry) k ≡ true))
+
+  firm_namer : (k : Key) → named_by_firm stage keys k ≡ true → Namer k
+  firm_namer k h = let s = some_of is_key key_itself one_key (λ j. refers_by (firm_content stage keys j) k) keys h in (s.0, s.1, inl (off (stage s.0).candidate (mine_at (stage s.0).entry) k s.2))
+
+  wanted_namer : (k : Key) → named_by_wanted stage keys k ≡ true → Namer k
+  wanted_namer k h =
+      let s = some_of is_key key_itself one_key (λ j. refers_by (lost_content stage keys j) k) (wanted stage keys) h in
+      (s.0, in_least (by_chains (wanted_start stage keys) (wanted_leads stage keys)) keys s.0 s.1, inr (off (stage s.0).candidate (lost_of (stage s.0).entry) k s.2))
+
+  held_namer : (k : Key) → named_by_held stage keys k ≡ true → Namer k
+  held_namer k h =
+      let s = some_of is_key key_itself one_key (λ j. refers_by (candidate_content stage keys j) k) (held stage keys) h in
+      (s.0, in_least (by_chains (held_start stage keys) (held_leads stage keys)) keys s.0 s.1, inl (on (stage s.0).candidate (mine_at (stage s.0).entry) k s.2))
+
+  -- what is named has such a one
+  pub namer : (k : Key) → named stage keys k ≡ true → Namer k
+  namer k h = by (or_cases (named_by_firm stage keys k) (named_by_wanted stage keys k || named_by_held stage keys k) h)
+    where
+      late : (named_by_wanted stage keys k ≡ true) ⊎ (named_by_held stage keys k ≡ true) → Namer k
+      late (inl e) = wanted_namer k e
+      late (inr e) = held_namer k e
+
+      by : (named_by_firm stage keys k ≡ true) ⊎ ((named_by_wanted stage keys k || named_by_held stage keys k) ≡ true) → Namer k
+      by (inl e) = firm_namer k e
+      by (inr e) = late (or_cases (named_by_wanted stage keys k) (named_by_held stage keys k) e)
 
   pub wanted_lost : (k : Key) → has is_key (wanted stage keys) k ≡ true → is_some (lost_content stage keys k) ≡ true
   wanted_lost = each_in is_key key_itself one_key (wanted_start stage keys) (wanted_leads stage keys) keys (λ k. is_some (lost_content stage keys k) ≡ true)
@@ -145,7 +192,7 @@ module _ (stage : Key → Staged) (keys : List Key) where
         x = (stage k).entry
 
         by : (a b d : Bool) → (stage k).candidate ≡ a → has is_key (held stage keys) k ≡ b → has is_key (wanted stage keys) k ≡ d
-            → mine_at (cond a (cond b (option_map (against Held (stage k).theirs) (stage k).entry) (Some (Known (stage k).theirs None None))) (cond d (option_map back (stage k).entry) (bared (named stage keys k) (stage k).entry))) ≡ Some c
+            → mine_at (settled a b d (named stage keys k) (stage k).theirs (stage k).entry) ≡ Some c
             → Named r
         by true true d e f g s = inr (inr (any_of is_key key_itself one_key (λ j. refers_by (candidate_content stage keys j) r) (held stage keys) k f
             (by_content (candidate_content stage keys k) c r (ap (λ (b : Bool). cond b (mine_at (stage k).entry) None) e ∙ sym (held_mine Held (stage k).theirs (stage k).entry) ∙ s) h)))
@@ -162,7 +209,7 @@ module _ (stage : Key → Staged) (keys : List Key) where
     stands r n = by (stage r).candidate (has is_key (held stage keys) r) (has is_key (wanted stage keys) r) refl refl refl
       where
         by : (a b d : Bool) → (stage r).candidate ≡ a → has is_key (held stage keys) r ≡ b → has is_key (wanted stage keys) r ≡ d
-            → IsThere (cond a (cond b (option_map (against Held (stage r).theirs) (stage r).entry) (Some (Known (stage r).theirs None None))) (cond d (option_map back (stage r).entry) (bared (named stage keys r) (stage r).entry)))
+            → IsThere (settled a b d (named stage keys r) (stage r).theirs (stage r).entry)
         by true true d e f g = there_if_mine _ (ap is_some (held_mine Held (stage r).theirs (stage r).entry) ∙ fits.alive r e)
         by true false d e f g = absurd (true≢false (sym (named_held r e n) ∙ f))
         by false b true e f g =
