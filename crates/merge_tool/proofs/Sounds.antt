@@ -1,221 +1,177 @@
--- A download that nothing keeps out leaves the table sound.
-use Rattle.std.proofs.Common.{◌≡◌, inl, inr, ◌&&◌, ℕ, Bool, true, false, cond, not, List, [], ◌∷◌, ◌++◌, Option, Some, None, refl, sym, ap, subst, ◌∙◌, IsTrue}
-use Rattle.std.specs.List.{fold, filter, flat_map, AllByRecursion}
-use Rattle.std.specs.Option.{is_none}
-use Rattle.std.proofs.lemmas.List.Folds.{list_any-append}
-use Rattle.std.specs.Ordering.{is_le}
-use Rattle.osm_base.specs.Rank.{rank_cmp, is_key}
-use Rattle.osm_base.specs.Content.{refs_of}
-use Rattle.osm_base.proofs.RisingKeys.{one_key, in_filter}
+-- The table with a download merged into it is sound.
+use Rattle.std.proofs.Common.{◌≡◌, ℕ, Bool, true, false, List, [], ◌∷◌, Option, Some, None, is_some, cond, refl, sym, ◌∙◌, ap, subst, inl, inr, ◌⊎◌}
+use Rattle.std.specs.List.{AllByRecursion, list_any}
+use Rattle.std.specs.Option.{option_map}
+use Rattle.std.specs.FinMap as fin
+use Rattle.std.proofs.lemmas.Bool.{true≢false, or_cases}
+use Rattle.osm_base.specs.Rank.{is_key}
+use Rattle.osm_base.specs.Content.{refers, refs_of}
+use Rattle.osm_base.proofs.RisingKeys.{one_key}
 use Rattle.osm_base.specs.declared.key.Key.{Key}
-use Rattle.osm_base.specs.declared.meta.Meta.{Meta}
 use Rattle.osm_base.specs.declared.content.Content.{Content}
-use Rattle.osm_table.specs.Same.{same_mine}
-use Rattle.osm_table.proofs.SameLaws.{same_mine_decides}
-use Rattle.osm_table.specs.Table.{TableValue, entry_of, uses, Each, IsThere, IsPositive}
-use Rattle.osm_table.specs.Told.{ToldValue, told_at, IsTold, IsToldMap}
-use Rattle.osm_table.specs.declared.entry.Base.TheVariants as base
+use Rattle.osm_table.specs.declared.entry.Base.{Base}
+use Rattle.osm_table.specs.declared.entry.Why.{Why}
+use Rattle.osm_table.specs.declared.entry.Why.TheVariants.{Changed}
 use Rattle.osm_table.specs.declared.entry.Entry.{Entry}
 use Rattle.osm_table.specs.declared.entry.Entry.TheVariants.{Incomplete, Known}
 use Rattle.osm_table.specs.declared.told.Told.{Told}
-use Rattle.osm_table.specs.declared.told.Told.TheVariants.{Mentioned, Live, Gone}
-use Rattle.dataset.specs.Sound.{IsSound, IsSoundEntry, IsNumber, LivesIn}
-use Rattle.dataset.proofs.Changes.{incomplete_entry}
-use Rattle.tool_api.specs.Tests.{is_named}
-use Rattle.tool_api.specs.Merged.{lesser, least, told_refs, references, is_deleted, unbuilt, taken, merged}
-use Rattle.tool_api.proofs.Looks.{entry_changed}
-use Rattle.tool_api.proofs.Sounds.{next_is}
-use Rattle.merge_tool.proofs.Ends.{taken_at, told_into, completed_at}
-use Rattle.tool_api.proofs.Bools.{or_right, or_left, either_is}
+use Rattle.osm_table.specs.declared.told.Told.TheVariants as told
+use Rattle.osm_table.specs.Table.{TableValue, entry_of, held_by, Each, IsThere, IsPositive}
+use Rattle.osm_table.specs.Told.{ToldEntries, IsTold, IsToldMap}
+use Rattle.dataset.specs.Exact.{mine_at}
+use Rattle.dataset.specs.Sound.{IsSound, IsSoundEntry, IsNumber, FromTheServer}
+use Rattle.tool_api.proofs.Looks.{next_changed}
+use Rattle.closure.specs.Closure.{has}
+use Rattle.merge_cases.specs.declared.verdict.Verdict.{Verdict}
+use Rattle.merge_cases.specs.declared.verdict.Verdict.TheVariants.{Stay, Mention, Take, Clash, Keep, Candidate, Settle, Join, Dispute}
+use Rattle.merge_cases.specs.Join.{joined}
+use Rattle.merge_cases.proofs.JoinedOf.{If, TakesOver, joined_takes}
+use Rattle.tool_api.specs.Staged.{verdict_at, theirs_at, staged, stage_of, with_theirs, against, all_joined, lost_of, refers_by}
+use Rattle.tool_api.specs.Merged.{both_keys, reached_keys, lost_content, wanted, held, named, final, merged}
+use Rattle.merge_tool.proofs.Rows.{theirs_by}
+use Rattle.merge_tool.proofs.Stand.{settled, wanted_lost, namer}
+use Rattle.merge_tool.proofs.Fitting.{there}
+use Rattle.merge_tool.proofs.Outcome.{merged_at, merged_closed}
+use Rattle.merge_tool.proofs.Places.{SoundAt, IfTold, staged_sound, candidate_sound, back_sound, bared_sound}
 
--- Nothing keeps it out.
+-- what holds of all references holds of one
+each_ref : (P : Key → Type 0) (rs : List Key) (q : Key) → AllByRecursion P rs → list_any (is_key q) rs ≡ true → P q
+each_ref P [] q all h = absurd (true≢false (sym h))
+each_ref P (r ∷ rs) q all h = by (or_cases (is_key q r) (list_any (is_key q) rs) h) (each_ref P rs q all.1)
+  where
+    by : (is_key q r ≡ true) ⊎ (list_any (is_key q) rs ≡ true) → (list_any (is_key q) rs ≡ true → P q) → P q
+    by (inl e) more = subst P (sym (one_key q r e)) all.0
+    by (inr e) more = more e
 
-either_some : (b : Bool) (j k : Key) (ks : List Key) → ((x : Key) → fold lesser (Some x) ks ≡ None → ⊥) → fold lesser (cond b (Some j) (Some k)) ks ≡ None → ⊥
-either_some true j k ks some e = some j e
-either_some false j k ks some e = some k e
+-- what servers told refers to positive ids
+server_positive : (o : Option Content) (q : Key) → FromTheServer o → refers_by o q ≡ true → IsPositive q.id
+server_positive None q s h = absurd (true≢false (sym h))
+server_positive (Some c) q s h = each_ref (λ r. IsPositive r.id) (refs_of c) q s h
 
-fold_some : (j : Key) (ks : List Key) → fold lesser (Some j) ks ≡ None → ⊥
-fold_some j [] e = let f : ◌≡◌ {A = Option Key} (Some j) None = e in cc
-fold_some j (k ∷ ks) e = either_some (is_le (rank_cmp j k)) j k ks (λ x. fold_some x ks) e
+told_positive : (k : Key) (s : Option Told) (q : Key) → IfTold k s → refers_by (held_by (theirs_by s)) q ≡ true → IsPositive q.id
+told_positive k None q t h = absurd (true≢false (sym h))
+told_positive k (Some told.Mentioned) q t h = absurd (true≢false (sym h))
+told_positive k (Some (told.Live v c meta)) q t h = server_positive (Some c) q t.2.1 h
+told_positive k (Some (told.Gone v meta)) q t h = absurd (true≢false (sym h))
 
-no_least : (ks : List Key) → least ks ≡ None → ks ≡ []
-no_least [] e = refl
-no_least (k ∷ ks) e = absurd (fold_some k ks e)
+-- a reference of what a case makes of an entry is one of the entry's, or to a positive id
+Ours : Option Entry → Key → Type 0
+Ours o q = (refers_by (mine_at o) q ≡ true) ⊎ IsPositive q.id
 
-second_none : (xs ys : List Key) → xs ++ ys ≡ [] → ys ≡ []
-second_none [] ys e = e
-second_none (x ∷ xs) ys e = cc
+joined_ours : (m c : Content) (o : Option Content) (q : Key) → If o (TakesOver m c) → refers_by o q ≡ true → (refers m q ≡ true) ⊎ (refers c q ≡ true)
+joined_ours m c None q t h = absurd (true≢false (sym h))
+joined_ours m c (Some d) q t h = t.refs q h
 
-passes_not : (p named b : Bool) → b ≡ (p && named) → b ≡ false → named ≡ true → p ≡ false
-passes_not true true b e f g = let h : true ≡ false = sym e ∙ f in cc
-passes_not false named b e f g = refl
-passes_not true false b e f g = cc
+all_ours : (b m t : Option Content) (q : Key) → refers_by (all_joined b m t) q ≡ true → (refers_by m q ≡ true) ⊎ (refers_by t q ≡ true)
+all_ours None m t q h = absurd (true≢false (sym h))
+all_ours (Some b) None t q h = absurd (true≢false (sym h))
+all_ours (Some b) (Some m) None q h = absurd (true≢false (sym h))
+all_ours (Some b) (Some m) (Some t) q h = joined_ours m t (joined b m t) q (joined_takes b m t) h
 
--- what is referred to isn't deleted
-none_deleted : (t : TableValue) (told : ToldValue) (r : Key) → least (unbuilt t told) ≡ None → is_named (references told) r ≡ true → is_deleted (entry_of t r) ≡ false
-none_deleted t told r none named =
-    let p : Key → Bool = λ r. is_deleted (entry_of t r) in
-    let empty : filter p (references told) ≡ [] = second_none _ _ (no_least (unbuilt t told) none) in
-    passes_not (p r) (is_named (references told) r) _ (in_filter p r (references told)) (ap (λ ks. is_named ks r) empty) named
+against_ours : (w : Why) (b : Base) (o : Option Entry) (q : Key) → refers_by (mine_at (option_map (against w b) o)) q ≡ true → Ours o q
+unfolding Ours
+against_ours w b None q h = absurd (true≢false (sym h))
+against_ours w b (Some Incomplete) q h = absurd (true≢false (sym h))
+against_ours w b (Some (Known a m f)) q h = inl h
 
--- What is referred to.
+join_ours : (k : Key) (o : Option Entry) (s : Option Told) (q : Key) → IfTold k s → refers_by (mine_at (option_map (with_theirs (theirs_by s)) o)) q ≡ true → Ours o q
+unfolding Ours
+join_ours k None s q t h = absurd (true≢false (sym h))
+join_ours k (Some Incomplete) s q t h = absurd (true≢false (sym h))
+join_ours k (Some (Known b m f)) s q t h = by (all_ours (held_by b) m (held_by (theirs_by s)) q h)
+  where
+    by : (refers_by m q ≡ true) ⊎ (refers_by (held_by (theirs_by s)) q ≡ true) → (refers_by m q ≡ true) ⊎ IsPositive q.id
+    by (inl e) = inl e
+    by (inr e) = inr (told_positive k s q t e)
 
-all_positive : (ks : List Key) (q : Key) → AllByRecursion (λ r. IsPositive r.id) ks → is_named ks q ≡ true → IsPositive q.id
-all_positive [] q all e = cc
-all_positive (k ∷ ks) q all e = elim (either_is (is_key q k) (is_named ks q) e) [
-  | inl here ↦ subst (λ (r : Key). IsPositive r.id) (sym (one_key q k here)) all.0
-  | inr there ↦ all_positive ks q all.1 there
-]
+staged_ours : (k : Key) (v : Verdict) (o : Option Entry) (s : Option Told) (q : Key) → IfTold k s → refers_by (mine_at (staged v o (theirs_by s))) q ≡ true → Ours o q
+unfolding Ours
+staged_ours k Stay o s q t h = inl h
+staged_ours k Mention o s q t h = absurd (true≢false (sym h))
+staged_ours k Take o s q t h = inr (told_positive k s q t h)
+staged_ours k Clash o s q t h = inl h
+staged_ours k Keep o s q t h = inr (told_positive k s q t h)
+staged_ours k Candidate o s q t h = inl h
+staged_ours k Settle o s q t h = inr (told_positive k s q t h)
+staged_ours k Join o s q t h = join_ours k o s q t h
+staged_ours k Dispute o s q t h = against_ours Changed (theirs_by s) o q h
 
-told_positive : (k q : Key) (o : Option Told) → ((news : Told) → o ≡ Some news → IsTold k news) → is_named (told_refs o) q ≡ true → IsPositive q.id
-told_positive k q None all e = cc
-told_positive k q (Some Mentioned) all e = cc
-told_positive k q (Some (Live v c m)) all e = all_positive (refs_of c) q (all (Live v c m) refl).2.1 e
-told_positive k q (Some (Gone v m)) all e = cc
+-- a lost object refers to positive ids
+lost_positive : (n : ℕ) (k : Key) (o : Option Entry) (q : Key) → SoundAt n k o → refers_by (lost_of o) q ≡ true → IsPositive q.id
+lost_positive n k None q s h = absurd (true≢false (sym h))
+lost_positive n k (Some Incomplete) q s h = absurd (true≢false (sym h))
+lost_positive n k (Some (Known b None None)) q s h = server_positive (held_by b) q s.server.0 h
+lost_positive n k (Some (Known b None (Some c))) q s h = server_positive (held_by c.theirs) q s.server.1 h
+lost_positive n k (Some (Known b (Some m) f)) q s h = absurd (true≢false (sym h))
 
-refs_positive : (told : ToldValue) (ks : List Key) (q : Key) → IsToldMap told.told → is_named (flat_map (λ k. told_refs (told_at told k)) ks) q ≡ true → IsPositive q.id
-refs_positive told [] q all e = cc
-refs_positive told (k ∷ ks) q all e =
-    let rest : List Key = flat_map (λ k. told_refs (told_at told k)) ks in
-    elim (either_is (is_named (told_refs (told_at told k)) q) (is_named rest q) (sym (list_any-append (is_key q) (told_refs (told_at told k)) rest) ∙ e)) [
-      | inl here ↦ told_positive k q (told_at told k) (λ news is. all k news is) here
-      | inr there ↦ refs_positive told ks q all there
-    ]
+-- no case takes an entry out
+stays_some : (v : Verdict) (o : Option Entry) (b : Base) → IsThere o → staged v o b ≡ None → ⊥
+stays_some v None b t e = t
+stays_some Stay (Some x) b t e = true≢false (ap is_some e)
+stays_some Mention (Some x) b t e = true≢false (ap is_some e)
+stays_some Take (Some x) b t e = true≢false (ap is_some e)
+stays_some Clash (Some x) b t e = true≢false (ap is_some e)
+stays_some Keep (Some x) b t e = true≢false (ap is_some e)
+stays_some Candidate (Some x) b t e = true≢false (ap is_some e)
+stays_some Settle (Some x) b t e = true≢false (ap is_some e)
+stays_some Join (Some x) b t e = true≢false (ap is_some e)
+stays_some Dispute (Some x) b t e = true≢false (ap is_some e)
 
--- what a told object refers to is among all that is referred to
-among : (told : ToldValue) (ks : List Key) (k r : Key) → is_named ks k ≡ true → is_named (told_refs (told_at told k)) r ≡ true → is_named (flat_map (λ k. told_refs (told_at told k)) ks) r ≡ true
-among told [] k r named e = cc
-among told (j ∷ ks) k r named e =
-    let rest : List Key = flat_map (λ k. told_refs (told_at told k)) ks in
-    list_any-append (is_key r) (told_refs (told_at told j)) rest ∙ (elim (either_is (is_key k j) (is_named ks k) named) [
-      | inl here ↦ or_left (is_named (told_refs (told_at told j)) r) (is_named rest r) (ap (λ k. is_named (told_refs (told_at told k)) r) (sym (one_key k j here)) ∙ e)
-      | inr there ↦ or_right (is_named (told_refs (told_at told j)) r) (is_named rest r) (among told ks k r there e)
-    ])
+if_told : (k : Key) (s : Option Told) → ((u : Told) → s ≡ Some u → IsTold k u) → IfTold k s
+if_told k None h = tt
+if_told k (Some u) h = h u refl
 
--- Entries by themselves.
+sound_at : (t : TableValue) (k : Key) (o : Option Entry) → IsSound t → entry_of t k ≡ o → SoundAt t.next k o
+sound_at t k None s e = tt
+sound_at t k (Some x) s e = s.entries k x e
 
-live_entry : (n v : ℕ) (k : Key) (c : Content) (m : Meta) → IsTold k (Live v c m) → IsSoundEntry n k (Known (base.Live v c m) (Some c) None)
-live_entry n v k c m h = record {
-  id = h.0;
-  kinds = (h.2.0, h.2.0, tt);
-  server = (h.2.1, tt);
-  versions = (h.1, tt);
-  limits = λ changed. let same : not (same_mine (Some c) (Some c)) ≡ false = ap not ((same_mine_decides (Some c) (Some c)).1 refl) in let f : true ≡ false = sym changed ∙ same in cc;
-  conflict = tt;
-}
+module _ (t : TableValue) (m : ToldEntries) (sound : IsSound t) (is_told : IsToldMap m) where
+  tells : (k : Key) → IfTold k (fin.get m k)
+  tells k = if_told k (fin.get m k) (is_told k)
 
--- the entry that is taken: the old one, one told live, or Incomplete
-taken_entry : (n : ℕ) (k : Key) (old : Option Entry) (o : Option Told) (e : Entry) → taken old o ≡ Some e → ((x : Entry) → old ≡ Some x → IsSoundEntry n k x) → ((news : Told) → o ≡ Some news → IsTold k news) → IsSoundEntry n k e
-taken_entry n k (Some (Known b mine conflict)) o e is before all = before e is
-taken_entry n k (Some Incomplete) None e is before all = before e is
-taken_entry n k (Some Incomplete) (Some Mentioned) e is before all = before e is
-taken_entry n k (Some Incomplete) (Some (Live v c m)) e is before all = subst (IsSoundEntry n k) (let same : Known (base.Live v c m) (Some c) None ≡ e = cc in same) (live_entry n v k c m (all (Live v c m) refl))
-taken_entry n k (Some Incomplete) (Some (Gone v m)) e is before all = before e is
-taken_entry n k None None e is before all = cc
-taken_entry n k None (Some Mentioned) e is before all = subst (IsSoundEntry n k) (let same : Incomplete ≡ e = cc in same) (incomplete_entry n k (all Mentioned refl))
-taken_entry n k None (Some (Live v c m)) e is before all = subst (IsSoundEntry n k) (let same : Known (base.Live v c m) (Some c) None ≡ e = cc in same) (live_entry n v k c m (all (Live v c m) refl))
-taken_entry n k None (Some (Gone v m)) e is before all = cc
+  -- what its case makes of each key is sound by itself
+  pub stage_sound : (k : Key) → SoundAt t.next k (stage_of t m k).entry
+  stage_sound k = staged_sound t.next k (entry_of t k) (fin.get m k) (tells k) (sound_at t k (entry_of t k) sound refl)
 
--- What is there.
+  absent_positive : (j q : Key) → (stage_of t m q).entry ≡ None → Ours (entry_of t j) q → IsPositive q.id
+  unfolding Ours
+  absent_positive j q none (inl e) = absurd (stays_some (verdict_at t m q) (entry_of t q) (theirs_at m q) (there t m sound j q (entry_of t j) refl e) none)
+  absent_positive j q none (inr p) = p
 
-abbrev entered : Bool → Option Entry → Option Entry
-entered b o = cond (is_none o && b) (Some Incomplete) o
+  -- what enters as Incomplete has a positive id
+  named_positive : (q : Key) → named (stage_of t m) (both_keys t m) q ≡ true → (stage_of t m q).entry ≡ None → IsPositive q.id
+  named_positive q h none = let n = namer (stage_of t m) (both_keys t m) q h in by n.0 n.2
+    where
+      by : (j : Key) → (refers_by (mine_at (stage_of t m j).entry) q ≡ true) ⊎ (refers_by (lost_of (stage_of t m j).entry) q ≡ true) → IsPositive q.id
+      by j (inl e) = absent_positive j q none (staged_ours j (verdict_at t m j) (entry_of t j) (fin.get m j) q (tells j) e)
+      by j (inr e) = lost_positive t.next j (stage_of t m j).entry q (stage_sound j) e
 
-taken_there : (old : Option Entry) (o : Option Told) (b : Bool) → IsThere old → IsThere (cond b (taken old o) old)
-taken_there old o false h = h
-taken_there None o true h = absurd h
-taken_there (Some (Known b mine conflict)) o true h = h
-taken_there (Some Incomplete) None true h = tt
-taken_there (Some Incomplete) (Some Mentioned) true h = tt
-taken_there (Some Incomplete) (Some (Live v c m)) true h = refl
-taken_there (Some Incomplete) (Some (Gone v m)) true h = tt
+  -- what each key has in the end is sound by itself
+  final_sound : (k : Key) → SoundAt t.next k (final (stage_of t m) (both_keys t m) k)
+  final_sound k = by (stage_of t m k).candidate (has is_key (wanted (stage_of t m) (both_keys t m)) k) refl refl
+    where
+      by : (a d : Bool) → (stage_of t m k).candidate ≡ a → has is_key (wanted (stage_of t m) (both_keys t m)) k ≡ d
+          → SoundAt t.next k (settled a (has is_key (held (stage_of t m) (both_keys t m)) k) d (named (stage_of t m) (both_keys t m) k) (stage_of t m k).theirs (stage_of t m k).entry)
+      by true d e f = candidate_sound t.next k (entry_of t k) (fin.get m k) e (tells k) (sound_at t k (entry_of t k) sound refl) (has is_key (held (stage_of t m) (both_keys t m)) k)
+      by false true e f = back_sound t.next k (stage_of t m k).entry (stage_sound k)
+          (let opened : lost_content (stage_of t m) (both_keys t m) k ≡ lost_of (stage_of t m k).entry = ap (λ (b : Bool). cond b None (lost_of (stage_of t m k).entry)) e in
+          sym (ap is_some opened) ∙ wanted_lost (stage_of t m) (both_keys t m) k f)
+      by false false e f = bared_sound t.next k (named (stage_of t m) (both_keys t m) k) (stage_of t m k).entry (stage_sound k) (named_positive k)
 
-entered_there : (b : Bool) (o : Option Entry) → IsThere o → IsThere (entered b o)
-entered_there b None h = absurd h
-entered_there b (Some e) h = h
+  found : (n : ℕ) (k : Key) (e : Entry) (o : Option Entry) → o ≡ Some e → SoundAt n k o → IsSoundEntry n k e
+  found n k e None i s = absurd (true≢false (sym (ap is_some i)))
+  found n k e (Some x) i s = subst (λ (y : Entry). IsSoundEntry n k y) (some_is x e i) s
+    where
+      some_is : (x y : Entry) → Some x ≡ Some y → x ≡ y
+      some_is x y e = cc
 
--- a reference that wasn't deleted is there
-named_there : (old : Option Entry) (o : Option Told) (b : Bool) → is_deleted old ≡ false → IsThere (entered true (cond b (taken old o) old))
-named_there (Some (Known base None conflict)) o b e = cc
-named_there (Some (Known base (Some c) conflict)) o true e = refl
-named_there (Some (Known base (Some c) conflict)) o false e = refl
-named_there (Some Incomplete) o b e = entered_there true _ (taken_there (Some Incomplete) o b tt)
-named_there None o false e = tt
-named_there None None true e = tt
-named_there None (Some Mentioned) true e = tt
-named_there None (Some (Live v c m)) true e = refl
-named_there None (Some (Gone v m)) true e = tt
-
--- the old entries' references, and those of what is told live
-taken_uses : (old : Option Entry) (o : Option Told) (e : Entry) (r : Key) (P : Type 0) → taken old o ≡ Some e → IsTrue (uses e r) → (old ≡ Some e → P) → (is_named (told_refs o) r ≡ true → P) → P
-taken_uses (Some (Known b mine conflict)) o e r P is used before new = before is
-taken_uses (Some Incomplete) None e r P is used before new = before is
-taken_uses (Some Incomplete) (Some Mentioned) e r P is used before new = before is
-taken_uses (Some Incomplete) (Some (Live v c m)) e r P is used before new = new (subst (λ (e : Entry). uses e r ≡ true) (let same : e ≡ Known (base.Live v c m) (Some c) None = cc in same) used)
-taken_uses (Some Incomplete) (Some (Gone v m)) e r P is used before new = before is
-taken_uses None None e r P is used before new = cc
-taken_uses None (Some Mentioned) e r P is used before new = let none : uses e r ≡ false = ap (λ (e : Entry). uses e r) (let same : e ≡ Incomplete = cc in same) in let f : true ≡ false = sym used ∙ none in cc
-taken_uses None (Some (Live v c m)) e r P is used before new = new (subst (λ (e : Entry). uses e r ≡ true) (let same : e ≡ Known (base.Live v c m) (Some c) None = cc in same) used)
-taken_uses None (Some (Gone v m)) e r P is used before new = cc
-
--- Tables.
-
--- an entry of the told table is taken in, or was there before
-told_cases : (P : Type 0) (b : Bool) (new old : Option Entry) (e : Entry) → cond b new old ≡ Some e → (b ≡ true → new ≡ Some e → P) → (old ≡ Some e → P) → P
-told_cases P true new old e is taken before = taken refl is
-told_cases P false new old e is taken before = before is
-
--- an entry of the completed table is Incomplete and referred to, or was there before
-entered_cases : (P : Type 0) (b : Bool) (o : Option Entry) (e : Entry) → entered b o ≡ Some e → (b ≡ true → e ≡ Incomplete → P) → (o ≡ Some e → P) → P
-entered_cases P true None e is new before = new refl (let same : e ≡ Incomplete = cc in same)
-entered_cases P false None e is new before = before is
-entered_cases P b (Some x) e is new before = before is
-
-module _ (t : TableValue) (told : ToldValue) (sound : IsSound t) (all : IsToldMap told.told) where
-  abbrev told_table : TableValue
-  told_table = told_into t told
-
-  told_entry_is : (k : Key) → entry_of told_table k ≡ cond (is_named told.order k) (taken_at t told k) (entry_of t k)
-  told_entry_is k = entry_changed t (taken_at t told) told.order k
-
-  told_entry : (k : Key) (e : Entry) → entry_of told_table k ≡ Some e → IsSoundEntry t.next k e
-  told_entry k e has = told_cases (IsSoundEntry t.next k e) (is_named told.order k) (taken_at t told k) (entry_of t k) e (sym (told_entry_is k) ∙ has)
-      (λ named is. taken_entry t.next k (entry_of t k) (told_at told k) e is (λ x old. sound.entries k x old) (λ news at. all k news at))
-      (sound.entries k e)
-
-  abbrev missing : List Key
-  missing = filter (λ r. is_none (entry_of told_table r)) (references told)
-
-  merged_is : (k : Key) → entry_of (merged t told) k ≡ entered (is_named (references told) k) (entry_of told_table k)
-  merged_is k = completed_at told_table (references told) k
-
-  merged_entry : (k : Key) (e : Entry) → entry_of (merged t told) k ≡ Some e → IsSoundEntry t.next k e
-  merged_entry k e has = entered_cases (IsSoundEntry t.next k e) (is_named (references told) k) (entry_of told_table k) e (sym (merged_is k) ∙ has)
-      (λ named is. subst (IsSoundEntry t.next k) (sym is) (incomplete_entry t.next k (refs_positive told told.order k all named)))
-      (told_entry k e)
-
-  -- what was there is there
-  still_there : (r : Key) → IsThere (entry_of t r) → IsThere (entry_of (merged t told) r)
-  still_there r h = subst IsThere (sym (merged_is r)) (entered_there (is_named (references told) r) _ (subst IsThere (sym (told_entry_is r)) (taken_there (entry_of t r) (told_at told r) (is_named told.order r) h)))
-
-  -- and so is what is referred to
-  referred_there : least (unbuilt t told) ≡ None → (r : Key) → is_named (references told) r ≡ true → IsThere (entry_of (merged t told) r)
-  referred_there none r named =
-      subst IsThere (sym (merged_is r ∙ ap (λ b. entered b (entry_of told_table r)) named ∙ ap (entered true) (told_entry_is r)))
-      (named_there (entry_of t r) (told_at told r) (is_named told.order r) (none_deleted t told r none named))
-
-  merged_closed : least (unbuilt t told) ≡ None → (k : Key) (e : Entry) → entry_of (merged t told) k ≡ Some e → LivesIn (merged t told) e
-  merged_closed none k e has r used = entered_cases (IsThere (entry_of (merged t told) r)) (is_named (references told) k) (entry_of told_table k) e (sym (merged_is k) ∙ has)
-      (λ named is. let f : true ≡ false = sym used ∙ ap (λ (e : Entry). uses e r) is in cc)
-      (λ there. told_cases (IsThere (entry_of (merged t told) r)) (is_named told.order k) (taken_at t told k) (entry_of t k) e (sym (told_entry_is k) ∙ there)
-      (λ named is. taken_uses (entry_of t k) (told_at told k) e r _ is used
-      (λ old. still_there r (sound.closed k e old r used))
-      (λ refs. referred_there none r (among told told.order k r named refs)))
-      (λ old. still_there r (sound.closed k e old r used)))
-
-  pub merged_sound : least (unbuilt t told) ≡ None → IsSound (merged t told)
-  merged_sound none = record {
-    entries = next_is (λ n. Each (merged t told) (IsSoundEntry n)) told_table (λ _. Some Incomplete) missing (next_is (λ n. Each (merged t told) (IsSoundEntry n)) t (taken_at t told) told.order merged_entry);
-    closed = merged_closed none;
-    number = next_is IsNumber told_table (λ _. Some Incomplete) missing (next_is IsNumber t (taken_at t told) told.order sound.number);
+  -- the merged table is sound
+  pub merged_sound : IsSound (merged t m)
+  merged_sound = record {
+    entries = subst (λ (n : ℕ). Each (merged t m) (IsSoundEntry n)) (sym next) (λ k e has. found t.next k e (entry_of (merged t m) k) has (subst (SoundAt t.next k) (sym (merged_at t m k)) (final_sound k)));
+    closed = merged_closed t m sound;
+    number = subst IsNumber (sym next) sound.number;
   }
+    where
+      next : (merged t m).next ≡ t.next
+      next = next_changed t (final (stage_of t m) (both_keys t m)) (reached_keys t m)

@@ -3,6 +3,7 @@ pub mod Bridge
 pub mod Distincts
 pub mod Ends
 pub mod Examples
+mod MergeExamples
 mod ConflictExamples
 mod PieceExamples
 pub mod Lasts
