@@ -11,12 +11,14 @@
 mod cases;
 mod join_tests;
 mod joining;
+mod law;
 mod pick;
 mod verdict;
 
 pub use cases::decide;
 pub use join_tests::joins;
 pub use joining::joined;
+pub use law::each_tag_is_picked;
 pub use verdict::Verdict;
 
 #[cfg(test)]
