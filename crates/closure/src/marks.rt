@@ -83,14 +83,13 @@ mod tests {
 
         fn append(&self, key: Key, out: &mut Vec<Key>) -> Result<(), AllocError> {
             if same_key(key, self.first) {
-                out.push(self.second)
+                out.push(self.second)?;
             } else if same_key(key, self.second) {
-                out.push(self.third)
+                out.push(self.third)?;
             } else if same_key(key, self.third) {
-                out.push(self.first)
-            } else {
-                Ok(())
+                out.push(self.first)?;
             }
+            Ok(())
         }
     }
 

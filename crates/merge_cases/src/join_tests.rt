@@ -6,9 +6,9 @@ ghost use Rattle.std.specs.Prelude.{◌≡◌, T};
 ghost use Rattle.osm_base.specs.Content.{tag_fits, tags_of};
 ghost use Rattle.osm_base.specs.Tags.{are_tags};
 ghost use Rattle.merge_cases.specs.Join.{joins};
-ghost use Rattle.merge_cases.specs.JoinTests.{clashing, fitting, as_theirs, join_test, picked_fits, body_as_theirs, same_body};
+ghost use Rattle.merge_cases.specs.JoinTests.{clashing, fitting, as_theirs, join_test, picked_fits, body_as_theirs};
 
-use crate::pick::{Pick, body_pick, same_value, tag_pick};
+use crate::pick::{Pick, body_pick, same_body, same_value, tag_pick};
 use osm_base::{Content, Tags, Text, body_fits, text_fits};
 
 /// Whether one content comes of the base's, mine and theirs, and the API takes it or has it already.
@@ -87,21 +87,4 @@ fn body_as_theirs(body: Pick, mine: &Content, theirs: &Content) -> bool
     ensures { result ≡ body_as_theirs body mine.now theirs.now }
 {
     body == Pick::Theirs || same_body(mine, theirs)
-}
-
-fn same_body(a: &Content, b: &Content) -> bool
-    ensures { result ≡ same_body a.now b.now }
-{
-    match (a, b) {
-        (Content::Node { at, .. }, Content::Node { at: there, .. }) => at == there,
-        (Content::Way { refs, .. }, Content::Way { refs: theirs, .. }) => refs.same(theirs),
-        (
-            Content::Relation { members, .. },
-            Content::Relation {
-                members: theirs,
-                ..
-            },
-        ) => members.same(theirs),
-        _ => false,
-    }
 }

@@ -11,12 +11,14 @@
 mod cases;
 mod join_tests;
 mod joining;
+mod law;
 mod pick;
 mod verdict;
 
 pub use cases::decide;
 pub use join_tests::joins;
 pub use joining::joined;
+pub use law::each_tag_is_picked;
 pub use verdict::Verdict;
 
 #[cfg(test)]
@@ -31,8 +33,9 @@ mod tests {
     fn way(alloc: Global, name: &str, node: i64) -> Result<Content, Fail> {
         let mut tags = Tags::new(alloc);
         let key = Text::from_bytes(alloc, b"name")?;
+        let value = Text::from_bytes(alloc, name.as_bytes())?;
         if !key.as_bytes().is_empty() {
-            tags.put(key, Text::from_bytes(alloc, name.as_bytes())?)?;
+            tags.put(key, value)?;
         }
         let mut refs = Refs::new(alloc);
         refs.push(node)?;

@@ -1,7 +1,7 @@
 //! Whose part of an object stands, of three.
 ghost use Rattle.std.specs.Prelude.{◌≡◌, Some};
 ghost use Rattle.std.specs.Option.{option_copied};
-ghost use Rattle.merge_cases.specs.Join.{stands, same_value, tag_pick, body_pick};
+ghost use Rattle.merge_cases.specs.Join.{stands, same_value, tag_pick, body_pick, same_body, same_kind};
 
 use osm_base::{Content, Tags};
 
@@ -30,30 +30,50 @@ pub fn tag_pick(base: &Tags, mine: &Tags, theirs: &Tags, key: &[u8]) -> Pick
     )
 }
 
-/// Whose place, references or members stand, each taken whole: nobody's, where the kinds differ.
+/// Whose place, references or members stand, each taken whole: nobody's, where the kinds differ. Up
+/// to three comparisons of them.
 pub fn body_pick(base: &Content, mine: &Content, theirs: &Content) -> Pick
     ensures { result ≡ body_pick base.now mine.now theirs.now }
 {
-    match (base, mine, theirs) {
+    if !same_kind(base, theirs) || !same_kind(mine, theirs) {
+        Pick::Clash
+    } else if same_body(mine, theirs) {
+        Pick::Mine
+    } else if same_body(mine, base) {
+        Pick::Theirs
+    } else if same_body(theirs, base) {
+        Pick::Mine
+    } else {
+        Pick::Clash
+    }
+}
+
+fn same_kind(a: &Content, b: &Content) -> bool
+    ensures { result ≡ same_kind a.now b.now }
+{
+    match (a, b) {
+        (Content::Node { .. }, Content::Node { .. }) => true,
+        (Content::Way { .. }, Content::Way { .. }) => true,
+        (Content::Relation { .. }, Content::Relation { .. }) => true,
+        _ => false,
+    }
+}
+
+/// Whether the places, the references or the members are equal.
+pub fn same_body(a: &Content, b: &Content) -> bool
+    ensures { result ≡ same_body a.now b.now }
+{
+    match (a, b) {
+        (Content::Node { at, .. }, Content::Node { at: there, .. }) => at == there,
+        (Content::Way { refs, .. }, Content::Way { refs: theirs, .. }) => refs.same(theirs),
         (
-            Content::Node { at: base, .. },
-            Content::Node { at: mine, .. },
-            Content::Node { at: theirs, .. },
-        ) => stands(mine == theirs, mine == base, theirs == base),
-        (
-            Content::Way { refs: base, .. },
-            Content::Way { refs: mine, .. },
-            Content::Way { refs: theirs, .. },
-        ) => stands(mine.same(theirs), mine.same(base), theirs.same(base)),
-        (
-            Content::Relation { members: base, .. },
-            Content::Relation { members: mine, .. },
+            Content::Relation { members, .. },
             Content::Relation {
                 members: theirs,
                 ..
             },
-        ) => stands(mine.same(theirs), mine.same(base), theirs.same(base)),
-        _ => Pick::Clash,
+        ) => members.same(theirs),
+        _ => false,
     }
 }
 
