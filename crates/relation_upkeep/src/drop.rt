@@ -1,6 +1,6 @@
 //! Members without those that go.
 ghost use Rattle.std.specs.Prelude.{◌≡◌, IfOk};
-ghost use Rattle.tool_api.specs.Tests.{is_named};
+ghost use Rattle.tool_api.specs.Checks.{is_named};
 ghost use Rattle.tool_api.specs.Gone.{members_without};
 
 use osm_base::{Member, Members};

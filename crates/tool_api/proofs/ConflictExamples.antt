@@ -21,9 +21,9 @@ use Rattle.osm_table.specs.Table.{TableValue, mine_of}
 use Rattle.tool_api.specs.declared.kinds.Kinds.TheVariants.{Any, Nodes, Ways}
 use Rattle.tool_api.specs.declared.refusal.Refusal.{Refusal}
 use Rattle.tool_api.specs.declared.refusal.Refusal.TheVariants.{DeletedObject, InConflict, WrongKind, Unfit, OutOfRange, TableFull}
-use Rattle.tool_api.specs.Tests.{entry_test, ref_entry_test, purge_entry_test}
+use Rattle.tool_api.specs.Checks.{entry_test, ref_entry_test, purge_entry_test}
 use Rattle.tool_api.specs.Changes.{Outcome}
-use Rattle.tool_api.specs.Closing.{disturbs, closing_tests}
+use Rattle.tool_api.specs.Closing.{changes_conflict, closing_tests}
 use Rattle.tool_api.specs.Basic.{move_entry_test, set_tags, shift}
 use Rattle.tool_api.specs.Gone.{is_bare, delete_all, erase, purge}
 
@@ -119,20 +119,20 @@ not_bare = refl
 not_bare_tagged : is_bare (Some (live (content.Node ((codes "a", codes "1") ∷ []) (at 0 refl)))) ≡ false
 not_bare_tagged = refl
 
--- A job disturbs a conflict where it changes or takes out the object and doesn't name it.
-changes_mine : disturbs (n 1 ∷ []) (w 5) (Some (held (line (1 ∷ 2 ∷ [])))) (Some (Known (Live 1 (line (1 ∷ 2 ∷ [])) server) (Some (line (2 ∷ []))) (Some (record { why = Held; theirs = Gone 2 server })))) ≡ true
+-- A job changes a conflict where it changes or takes out the object and doesn't name it.
+changes_mine : changes_conflict (n 1 ∷ []) (w 5) (Some (held (line (1 ∷ 2 ∷ [])))) (Some (Known (Live 1 (line (1 ∷ 2 ∷ [])) server) (Some (line (2 ∷ []))) (Some (record { why = Held; theirs = Gone 2 server })))) ≡ true
 changes_mine = refl
 
-takes_out : disturbs (n 1 ∷ []) (w 5) (Some (held (line (1 ∷ [])))) None ≡ true
+takes_out : changes_conflict (n 1 ∷ []) (w 5) (Some (held (line (1 ∷ [])))) None ≡ true
 takes_out = refl
 
-named_is_none : disturbs (w 5 ∷ []) (w 5) (Some (held (line (1 ∷ [])))) None ≡ false
+named_is_none : changes_conflict (w 5 ∷ []) (w 5) (Some (held (line (1 ∷ [])))) None ≡ false
 named_is_none = refl
 
-left_is_none : disturbs [] (w 5) (Some (held (line (1 ∷ [])))) (Some (held (line (1 ∷ [])))) ≡ false
+left_is_none : changes_conflict [] (w 5) (Some (held (line (1 ∷ [])))) (Some (held (line (1 ∷ [])))) ≡ false
 left_is_none = refl
 
-without_is_none : disturbs [] (w 5) (Some (live (line (1 ∷ [])))) None ≡ false
+without_is_none : changes_conflict [] (w 5) (Some (live (line (1 ∷ [])))) None ≡ false
 without_is_none = refl
 
 -- Closing tests: a way in conflict with the node n1, before and after

@@ -7,7 +7,7 @@ use Rattle.osm_base.specs.Rank.{is_key}
 use Rattle.osm_base.specs.KeyEq.{eq}
 use Rattle.osm_base.proofs.RisingKeys.{one_key}
 use Rattle.osm_base.specs.declared.key.Key.{Key}
-use Rattle.tool_api.specs.Tests.{is_named}
+use Rattle.tool_api.specs.Checks.{is_named}
 use Rattle.tool_api.specs.Distinct.{with_new, distinct}
 use Rattle.tool_api.proofs.Seen.{found_named}
 

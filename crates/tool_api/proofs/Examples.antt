@@ -19,7 +19,7 @@ use Rattle.osm_table.specs.declared.entry.Entry.TheVariants.{Known}
 use Rattle.osm_table.specs.Table.{TableValue, mine_of}
 use Rattle.tool_api.specs.declared.kinds.Kinds.TheVariants.{Any}
 use Rattle.tool_api.specs.declared.refusal.Refusal.TheVariants.{Absent, NamedTwice, InUse, WrongKind, NotInWay, NothingToSplit, TagClash, TableFull}
-use Rattle.tool_api.specs.Tests.{is_named, twice_test, list_tests}
+use Rattle.tool_api.specs.Checks.{is_named, twice_test, list_tests}
 use Rattle.tool_api.specs.Basic.{add, reversed, moved_nodes}
 use Rattle.tool_api.specs.Combine.{combine, united, clash_test}
 use Rattle.tool_api.specs.Split.{all_pieces, keyed, kept_number, split}

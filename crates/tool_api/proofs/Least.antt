@@ -15,9 +15,9 @@ use Rattle.dataset.specs.Draft.{DraftValue, drafted}
 use Rattle.dataset.proofs.Drafted.{get_drafted, none_at, by_bool}
 use Rattle.dataset.proofs.Differs.{same_at_decides}
 use Rattle.tool_api.specs.declared.refusal.Refusal.TheVariants.{InConflict, Unfit}
-use Rattle.tool_api.specs.Tests.{is_named}
+use Rattle.tool_api.specs.Checks.{is_named}
 use Rattle.tool_api.specs.Changes.{content_of}
-use Rattle.tool_api.specs.Closing.{disturbs, in_conflict, disturb_test, spoils, fit_test}
+use Rattle.tool_api.specs.Closing.{changes_conflict, in_conflict, conflict_change_test, makes_unfit, fit_test}
 
 -- an entry that the draft doesn't name stays
 pub left_alone : (d : DraftValue) (t : TableValue) (k : Key) → is_in k (fin.keys d.puts) ≡ false → entry_of (drafted d t) k ≡ entry_of t k
@@ -47,21 +47,21 @@ pub conflict_some : (o : Option Entry) → in_conflict o ≡ true → is_some o 
 conflict_some None e = cc
 conflict_some (Some e) h = refl
 
-abbrev pub disturbs_at : TableValue → List Key → TableValue → Key → Bool
-disturbs_at t named u k = disturbs named k (entry_of t k) (entry_of u k)
+abbrev pub changes_conflict_at : TableValue → List Key → TableValue → Key → Bool
+changes_conflict_at t named u k = changes_conflict named k (entry_of t k) (entry_of u k)
 
-unchanged_calm : (t u : TableValue) (named : List Key) (k : Key) → entry_of u k ≡ entry_of t k → disturbs_at t named u k ≡ false
+unchanged_calm : (t u : TableValue) (named : List Key) (k : Key) → entry_of u k ≡ entry_of t k → changes_conflict_at t named u k ≡ false
 unchanged_calm t u named k e = not_third (in_conflict (entry_of t k)) (not (is_named named k)) _ ((same_at_decides (entry_of t k) (entry_of u k)).1 (sym e))
 
-pub disturbs_of : (t : TableValue) (d : DraftValue) (named ks : List Key) (o : Option Key) → o ≡ find (disturbs_at t named (drafted d t)) ks → ks ≡ fin.keys d.puts → option_map InConflict o ≡ disturb_test t named (drafted d t)
-disturbs_of t d named ks o found keys =
-    ap (option_map InConflict) (found ∙ ap (find (disturbs_at t named (drafted d t))) keys
-    ∙ sym (same_least (disturbs_at t named (drafted d t)) t.entries d.puts (λ k passes.
+pub changes_conflict_of : (t : TableValue) (d : DraftValue) (named ks : List Key) (o : Option Key) → o ≡ find (changes_conflict_at t named (drafted d t)) ks → ks ≡ fin.keys d.puts → option_map InConflict o ≡ conflict_change_test t named (drafted d t)
+changes_conflict_of t d named ks o found keys =
+    ap (option_map InConflict) (found ∙ ap (find (changes_conflict_at t named (drafted d t))) keys
+    ∙ sym (same_least (changes_conflict_at t named (drafted d t)) t.entries d.puts (λ k passes.
     has_key t k (conflict_some (entry_of t k) (first_of_three (in_conflict (entry_of t k)) _ _ passes)) ∙ sym (in_draft d t k _ (unchanged_calm t (drafted d t) named k) passes))))
 
 -- Unfit
 
-after_some : (before : Option Content) (o : Option Entry) → spoils before (option_and_then mine_of o) ≡ true → is_some o ≡ true
+after_some : (before : Option Content) (o : Option Entry) → makes_unfit before (option_and_then mine_of o) ≡ true → is_some o ≡ true
 after_some before None e = cc
 after_some before (Some x) e = refl
 
@@ -70,18 +70,18 @@ not_second true true e = refl
 not_second false true e = refl
 not_second a false e = cc
 
-unchanged_fits : (o : Option Content) → spoils o o ≡ false
+unchanged_fits : (o : Option Content) → makes_unfit o o ≡ false
 unchanged_fits None = refl
 unchanged_fits (Some c) = not_second (not (fits c)) _ ((same_mine_decides (Some c) (Some c)).1 refl)
 
-abbrev pub spoils_at : TableValue → TableValue → Key → Bool
-spoils_at t u k = spoils (content_of t k) (content_of u k)
+abbrev pub makes_unfit_at : TableValue → TableValue → Key → Bool
+makes_unfit_at t u k = makes_unfit (content_of t k) (content_of u k)
 
-unchanged_spoils : (t u : TableValue) (k : Key) → entry_of u k ≡ entry_of t k → spoils_at t u k ≡ false
-unchanged_spoils t u k e = ap (λ (o : Option Entry). spoils (content_of t k) (option_and_then mine_of o)) e ∙ unchanged_fits (content_of t k)
+unchanged_keeps_fit : (t u : TableValue) (k : Key) → entry_of u k ≡ entry_of t k → makes_unfit_at t u k ≡ false
+unchanged_keeps_fit t u k e = ap (λ (o : Option Entry). makes_unfit (content_of t k) (option_and_then mine_of o)) e ∙ unchanged_fits (content_of t k)
 
-pub spoils_of : (t : TableValue) (d : DraftValue) (ks : List Key) (o : Option Key) → o ≡ find (spoils_at t (drafted d t)) ks → ks ≡ fin.keys d.puts → option_map Unfit o ≡ fit_test t (drafted d t)
-spoils_of t d ks o found keys =
-    ap (option_map Unfit) (found ∙ ap (find (spoils_at t (drafted d t))) keys
-    ∙ sym (same_least (spoils_at t (drafted d t)) (drafted d t).entries d.puts (λ k passes.
-    has_key (drafted d t) k (after_some (content_of t k) (entry_of (drafted d t) k) passes) ∙ sym (in_draft d t k _ (unchanged_spoils t (drafted d t) k) passes))))
+pub makes_unfit_of : (t : TableValue) (d : DraftValue) (ks : List Key) (o : Option Key) → o ≡ find (makes_unfit_at t (drafted d t)) ks → ks ≡ fin.keys d.puts → option_map Unfit o ≡ fit_test t (drafted d t)
+makes_unfit_of t d ks o found keys =
+    ap (option_map Unfit) (found ∙ ap (find (makes_unfit_at t (drafted d t))) keys
+    ∙ sym (same_least (makes_unfit_at t (drafted d t)) (drafted d t).entries d.puts (λ k passes.
+    has_key (drafted d t) k (after_some (content_of t k) (entry_of (drafted d t) k) passes) ∙ sym (in_draft d t k _ (unchanged_keeps_fit t (drafted d t) k) passes))))

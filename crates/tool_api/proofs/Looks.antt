@@ -10,7 +10,7 @@ use Rattle.osm_table.proofs.Each.{get_with, get_without}
 use Rattle.dataset.specs.Draft.{DraftValue, drafted}
 use Rattle.dataset.specs.Patch as patch
 use Rattle.dataset.proofs.Changes.{drafted_none, drafted_put}
-use Rattle.tool_api.specs.Tests.{is_named}
+use Rattle.tool_api.specs.Checks.{is_named}
 use Rattle.tool_api.specs.Changes.{placed, changed}
 
 -- a table with one entry put in or taken out

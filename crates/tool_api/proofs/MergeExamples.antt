@@ -27,7 +27,7 @@ use Rattle.merge_cases.specs.declared.verdict.Verdict.TheVariants.{Stay}
 use Rattle.merge_cases.specs.Case.{verdict_of}
 use Rattle.tool_api.specs.declared.refusal.Refusal.{Refusal}
 use Rattle.tool_api.specs.declared.refusal.Refusal.TheVariants.{VersionClash}
-use Rattle.tool_api.specs.Tests.{◌>>◌}
+use Rattle.tool_api.specs.Checks.{◌>>◌}
 use Rattle.tool_api.specs.Changes.{done}
 use Rattle.tool_api.specs.Closing.{room_test}
 use Rattle.tool_api.specs.Staged.{Staged, stage_of, staged, is_candidate, is_clash, theirs_told}

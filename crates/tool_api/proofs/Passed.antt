@@ -18,10 +18,10 @@ use Rattle.osm_table.specs.Table.{TableValue, entry_of, IsThere}
 use Rattle.tool_api.specs.declared.kinds.Kinds.{Kinds}
 use Rattle.tool_api.specs.declared.refusal.Refusal.{Refusal}
 use Rattle.tool_api.specs.declared.refusal.Refusal.TheVariants.{TableFull}
-use Rattle.tool_api.specs.Tests.{is_named, first_of, takes, conflict_test, entry_test, target_test, ref_entry_test, ref_tests, when}
+use Rattle.tool_api.specs.Checks.{is_named, first_of, takes, conflict_test, entry_test, target_test, ref_entry_test, ref_tests, when}
 use Rattle.tool_api.specs.Changes.{content_of}
-use Rattle.tool_api.specs.Closing.{closing_tests, disturb_test, fit_test, room_test, spoils, is_full}
-use Rattle.tool_api.proofs.Least.{has_key, spoils_at}
+use Rattle.tool_api.specs.Closing.{closing_tests, conflict_change_test, fit_test, room_test, makes_unfit, is_full}
+use Rattle.tool_api.proofs.Least.{has_key, makes_unfit_at}
 
 -- two tests in turn
 pub both_none : (o p : Option Refusal) → option_or o p ≡ None → (o ≡ None) × (p ≡ None)
@@ -87,7 +87,7 @@ none_in (Some x) f e = cc
 
 -- the closing tests one by one
 pub record PassedTests (t u : TableValue) (limit : ℕ) (named : List Key) : Type 0 where
-  pub undisturbed : disturb_test t named u ≡ None
+  pub leaves_conflict : conflict_change_test t named u ≡ None
   pub fits : fit_test t u ≡ None
   pub room : is_full limit u ≡ false
 
@@ -97,20 +97,20 @@ some_when false r e = refl
 
 pub passed_tests : (t u : TableValue) (limit : ℕ) (named : List Key) → closing_tests t limit named u ≡ None → PassedTests t u limit named
 passed_tests t u limit named passed =
-    let p = both_none (disturb_test t named u) (option_or (fit_test t u) (room_test limit u)) passed in
+    let p = both_none (conflict_change_test t named u) (option_or (fit_test t u) (room_test limit u)) passed in
     let q = both_none (fit_test t u) (room_test limit u) p.1 in
-    record { undisturbed = p.0; fits = q.0; room = some_when (is_full limit u) TableFull q.1 }
+    record { leaves_conflict = p.0; fits = q.0; room = some_when (is_full limit u) TableFull q.1 }
 
--- no entry of the new table is one that the job spoils
-pub unspoiled : (t u : TableValue) (limit : ℕ) (named : List Key) (k : Key) (e : Entry) → closing_tests t limit named u ≡ None → entry_of u k ≡ Some e → spoils (content_of t k) (content_of u k) ≡ false
-unspoiled t u limit named k e passed has =
-    none_passes (spoils_at t u) _ k (none_in (find (spoils_at t u) _) _ (passed_tests t u limit named passed).fits) (has_key u k (ap is_some has))
+-- no entry of the new table is one that the job makes unfit
+pub keeps_fit : (t u : TableValue) (limit : ℕ) (named : List Key) (k : Key) (e : Entry) → closing_tests t limit named u ≡ None → entry_of u k ≡ Some e → makes_unfit (content_of t k) (content_of u k) ≡ false
+keeps_fit t u limit named k e passed has =
+    none_passes (makes_unfit_at t u) _ k (none_in (find (makes_unfit_at t u) _) _ (passed_tests t u limit named passed).fits) (has_key u k (ap is_some has))
 
--- what isn't spoiled fits, or is as it was
+-- what isn't made unfit fits, or is as it was
 fits_case : (fit : Bool) (before : Option Content) (c : Content) (b : Bool) → same_mine before (Some c) ≡ b → (not fit && not b) ≡ false → (fit ≡ true) ⊎ (before ≡ Some c)
 fits_case true before c b is e = inl refl
 fits_case false before c true is e = inr ((same_mine_decides before (Some c)).0 is)
 fits_case false before c false is e = cc
 
-pub fits_or_stays : (before : Option Content) (c : Content) → spoils before (Some c) ≡ false → (fits c ≡ true) ⊎ (before ≡ Some c)
+pub fits_or_stays : (before : Option Content) (c : Content) → makes_unfit before (Some c) ≡ false → (fits c ≡ true) ⊎ (before ≡ Some c)
 fits_or_stays before c e = fits_case (fits c) before c _ refl e

@@ -8,7 +8,7 @@ use Rattle.osm_base.specs.declared.key.Key.{Key}
 use Rattle.indexmap.specs.IndexSet.{insert_key}
 use Rattle.tool_api.specs.declared.refusal.Refusal.{Refusal}
 use Rattle.tool_api.specs.declared.refusal.Refusal.TheVariants.{NamedTwice}
-use Rattle.tool_api.specs.Tests.{is_named, twice_test}
+use Rattle.tool_api.specs.Checks.{is_named, twice_test}
 
 -- what `==` finds among keys is named
 pub found_named : (seen : List Key) (k : Key) → list_any (eq k) seen ≡ is_named seen k

@@ -16,11 +16,11 @@ use Rattle.osm_table.specs.Table.{TableValue, entry_of, mine_of, Each, IsThere}
 use Rattle.osm_table.proofs.Each.{get_with_same}
 use Rattle.dataset.specs.Sound.{IsSound, IsSoundEntry, IsNumber, LivesIn, IdFits}
 use Rattle.dataset.proofs.Changes.{mine_entry, new_sound, number_sound}
-use Rattle.tool_api.specs.Tests.{is_named, ref_tests}
+use Rattle.tool_api.specs.Checks.{is_named, ref_tests}
 use Rattle.tool_api.specs.Changes.{changed, edit, with_mine, new_key, added}
-use Rattle.tool_api.specs.Closing.{closing_tests, spoils}
+use Rattle.tool_api.specs.Closing.{closing_tests, makes_unfit}
 use Rattle.tool_api.proofs.Looks.{entry_changed, next_changed}
-use Rattle.tool_api.proofs.Passed.{Lives, lives, refs_there, passed_tests, unspoiled, fits_or_stays}
+use Rattle.tool_api.proofs.Passed.{Lives, lives, refs_there, passed_tests, keeps_fit, fits_or_stays}
 
 -- Changes.
 
@@ -59,8 +59,8 @@ entry_edited : (t : TableValue) (f : Content → Content) (ks : List Key) (limit
 entry_edited t f ks limit named kind passed k e is has (lives base c) s =
     let there : entry_of (changed t (edit t f) ks) k ≡ Some (with_mine f (Known base (Some c) None)) =
     entry_changed t (edit t f) ks k ∙ (λ i. cond (is i) (option_map (with_mine f) (has i)) (entry_of t k)) in
-    let fine : spoils (Some c) (Some (f c)) ≡ false =
-    (let a = sym has in let b = sym there in λ i. spoils (option_and_then mine_of (a i)) (option_and_then mine_of (b i))) ∙ unspoiled t (changed t (edit t f) ks) limit named k _ passed there in
+    let fine : makes_unfit (Some c) (Some (f c)) ≡ false =
+    (let a = sym has in let b = sym there in λ i. makes_unfit (option_and_then mine_of (a i)) (option_and_then mine_of (b i))) ∙ keeps_fit t (changed t (edit t f) ks) limit named k _ passed there in
     content_edited t.next f k base c (kind c) (fits_or_stays (Some c) (f c) fine) s
 
 -- what is there stays there
@@ -135,8 +135,8 @@ pub add_sound : (t : TableValue) (limit : ℕ) (named : List Key) (c : Content) 
 add_sound t limit named c s refs passed =
     let k = new_key (kind_of_content c) t.next in
     let there : entry_of (added t c) k ≡ Some (Known New (Some c) None) = get_with_same t k (Known New (Some c) None) in
-    let fine : spoils None (Some c) ≡ false =
-    (let a = sym (new_absent t (kind_of_content c) s) in let b = sym there in λ i. spoils (option_and_then mine_of (a i)) (option_and_then mine_of (b i))) ∙ unspoiled t (added t c) limit named k _ passed there in
+    let fine : makes_unfit None (Some c) ≡ false =
+    (let a = sym (new_absent t (kind_of_content c) s) in let b = sym there in λ i. makes_unfit (option_and_then mine_of (a i)) (option_and_then mine_of (b i))) ∙ keeps_fit t (added t c) limit named k _ passed there in
     let room : nat_lt 1000000000000000000 (t.next + 1) ≡ false = second_false (nat_lt limit (fin.len (added t c).entries)) _ (passed_tests t (added t c) limit named passed).room in
     let number : IsSound (record { entries = t.entries; next = t.next + 1 }) = number_sound t (t.next + 1) s (omega arith) (omega arith, at_most _ _ room) in
     new_sound (record { entries = t.entries; next = t.next + 1 }) k c number (let one = s.number.0 in omega (arith, one)) refl (only_fits c (fits_or_stays None c fine)) (λ r used. refs_there t (refs_of c) r refs used)

@@ -19,7 +19,7 @@ use Rattle.osm_table.specs.Table.{TableValue, entry_of, keys_by_rank}
 use Rattle.tool_api.specs.declared.kinds.Kinds.TheVariants.{Any, Nodes, Ways, Relations, NodesAndWays}
 use Rattle.tool_api.specs.declared.refusal.Refusal.{Refusal}
 use Rattle.tool_api.specs.declared.refusal.Refusal.TheVariants.{IncompleteObject, OutOfRange}
-use Rattle.tool_api.specs.Tests.{◌>>◌, first_of, when, is_named, takes, conflict_test, target_test, list_tests, ref_tests}
+use Rattle.tool_api.specs.Checks.{◌>>◌, first_of, when, is_named, takes, conflict_test, target_test, list_tests, ref_tests}
 use Rattle.tool_api.specs.Changes.{Outcome, done, changed, edit, added, new_key, content_of}
 use Rattle.tool_api.specs.Closing.{closing}
 

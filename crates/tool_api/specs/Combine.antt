@@ -17,7 +17,7 @@ use Rattle.tool_api.specs.declared.kinds.Kinds.TheVariants.{Ways}
 use Rattle.tool_api.specs.declared.refusal.Refusal.{Refusal}
 use Rattle.tool_api.specs.declared.refusal.Refusal.TheVariants.{NotJoined, TagClash, MemberClash}
 use Rattle.osm_base.specs.Same.{same_text}
-use Rattle.tool_api.specs.Tests.{◌>>◌, ◌>>=◌, first_of, when, is_named, list_tests}
+use Rattle.tool_api.specs.Checks.{◌>>◌, ◌>>=◌, first_of, when, is_named, list_tests}
 use Rattle.tool_api.specs.Changes.{Outcome, done, changed, edit, delete, content_of}
 use Rattle.tool_api.specs.Closing.{closing}
 use Rattle.osm_table.specs.Table.{users}

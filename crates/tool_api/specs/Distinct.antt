@@ -3,7 +3,7 @@
 -- For example of n1, n2, n1 the distinct keys are n1 and n2.
 use Rattle.std.specs.Prelude.{if◌then◌else◌, List, [], ◌∷◌, ◌++◌}
 use Rattle.osm_base.specs.declared.key.Key.{Key}
-use Rattle.tool_api.specs.Tests.{is_named}
+use Rattle.tool_api.specs.Checks.{is_named}
 
 -- those that were seen, and after them each of the others that wasn't
 abbrev pub with_new : List Key → List Key → List Key

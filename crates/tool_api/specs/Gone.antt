@@ -18,7 +18,7 @@ use Rattle.osm_table.specs.Table.{TableValue, entry_of, keys_by_rank}
 use Rattle.osm_table.specs.Table.{users}
 use Rattle.tool_api.specs.declared.kinds.Kinds.TheVariants.{Any}
 use Rattle.tool_api.specs.declared.refusal.Refusal.{Refusal}
-use Rattle.tool_api.specs.Tests.{◌>>◌, first_of, is_named, list_tests, twice_test, use_test, purge_entry_test, is_new}
+use Rattle.tool_api.specs.Checks.{◌>>◌, first_of, is_named, list_tests, twice_test, use_test, purge_entry_test, is_new}
 use Rattle.tool_api.specs.Changes.{Outcome, done, changed, edit, delete, content_of}
 use Rattle.tool_api.specs.Closing.{closing}
 use Rattle.tool_api.specs.Basic.{with_refs, with_members}

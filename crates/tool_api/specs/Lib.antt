@@ -1,7 +1,7 @@
 pub mod Verbs
 pub mod Refusals
 pub mod Patches
-pub mod Tests
+pub mod Checks
 pub mod Distinct
 pub mod Changes
 pub mod Closing

@@ -19,7 +19,7 @@ use Rattle.osm_table.specs.Told.{ToldEntries, ToldValue}
 use Rattle.dataset.specs.Exact.{mine_at}
 use Rattle.tool_api.specs.declared.refusal.Refusal.{Refusal}
 use Rattle.tool_api.specs.declared.refusal.Refusal.TheVariants.{VersionClash}
-use Rattle.tool_api.specs.Tests.{◌>>◌}
+use Rattle.tool_api.specs.Checks.{◌>>◌}
 use Rattle.tool_api.specs.Changes.{Outcome, done, changed}
 use Rattle.tool_api.specs.Closing.{room_test}
 use Rattle.closure.specs.Closure.{has, least, by_chains}

@@ -20,7 +20,7 @@ use Rattle.osm_table.specs.Table.{users}
 use Rattle.tool_api.specs.declared.kinds.Kinds.TheVariants.{Nodes, Ways}
 use Rattle.tool_api.specs.declared.refusal.Refusal.{Refusal}
 use Rattle.tool_api.specs.declared.refusal.Refusal.TheVariants.{NamedTwice, WrongKind, NotInWay, IncompleteObject, NothingToSplit}
-use Rattle.tool_api.specs.Tests.{◌>>◌, when, is_named, takes, target_test}
+use Rattle.tool_api.specs.Checks.{◌>>◌, when, is_named, takes, target_test}
 use Rattle.tool_api.specs.Changes.{Outcome, changed, edit, content_of, all_added, new_key}
 use Rattle.tool_api.specs.Closing.{closing}
 use Rattle.tool_api.specs.Basic.{with_refs}

@@ -18,7 +18,7 @@ use Rattle.osm_base.specs.Tags.{Pair, value_of}
 use Rattle.osm_table.specs.Table.{TableValue}
 use Rattle.std.specs.Cmp.Lexicographic.{pointwise}
 use Rattle.osm_base.specs.Same.{same_text}
-use Rattle.tool_api.specs.Tests.{is_named}
+use Rattle.tool_api.specs.Checks.{is_named}
 use Rattle.tool_api.specs.Changes.{content_of}
 
 -- a piece of a way: its key, its first and last node, and whether it stays in the way

@@ -12,13 +12,13 @@ ghost use Rattle.dataset.specs.Diff.{same_at};
 ghost use Rattle.dataset.specs.Draft.{drafted};
 ghost use Rattle.dataset.specs.Sound.{IsSound};
 ghost use Rattle.tool_api.specs.Changes.{content_of};
-ghost use Rattle.tool_api.specs.Closing.{closing, closing_tests, disturb_test, fit_test, room_test, disturbs, spoils, in_conflict, is_full};
+ghost use Rattle.tool_api.specs.Closing.{closing, closing_tests, conflict_change_test, fit_test, room_test, changes_conflict, makes_unfit, in_conflict, is_full};
 ghost use Rattle.tool_api.specs.Planned.{Plans};
 
 use crate::contents::content;
 use crate::plan::Plan;
 use crate::refusal::Refusal;
-use crate::tests::is_named;
+use crate::checks::is_named;
 use dataset::{DataSet, Draft};
 use osm_base::{Content, Key, Keys, fits, same};
 use osm_table::{EntryParts, SharedEntry};
@@ -49,34 +49,34 @@ fn same_entries(a: Option<&SharedEntry>, b: Option<&SharedEntry>) -> bool
     }
 }
 
-fn disturbs(
+fn changes_conflict(
     named: &[Key],
     key: Key,
     before: Option<&SharedEntry>,
     after: Option<&SharedEntry>,
 ) -> bool
-    ensures { result ≡ disturbs named.now key (option_copied before.entry) (option_copied after.entry) }
+    ensures { result ≡ changes_conflict named.now key (option_copied before.entry) (option_copied after.entry) }
 {
     in_conflict(before) && !is_named(named, key) && !same_entries(before, after)
 }
 
 /// The first of the keys whose entry is in conflict, changes, and isn't named.
-fn disturbed(ds: &DataSet, draft: &Draft, named: &[Key], keys: &[Key]) -> Option<Key>
-    ensures { result ≡ find (λ k. disturbs named.now k (entry_of ds.now k) (entry_of (drafted draft.now ds.now) k)) keys.now }
+fn conflict_changed(ds: &DataSet, draft: &Draft, named: &[Key], keys: &[Key]) -> Option<Key>
+    ensures { result ≡ find (λ k. changes_conflict named.now k (entry_of ds.now k) (entry_of (drafted draft.now ds.now) k)) keys.now }
 {
     for key in keys {
-        if disturbs(named, *key, ds.entry(*key), draft.entry(ds, *key)) {
+        if changes_conflict(named, *key, ds.entry(*key), draft.entry(ds, *key)) {
             return Some(*key);
         }
     }
     None
 }
 
-fn disturb_test(ds: &DataSet, draft: &Draft, named: &[Key], keys: &[Key]) -> Option<Refusal>
+fn conflict_change_test(ds: &DataSet, draft: &Draft, named: &[Key], keys: &[Key]) -> Option<Refusal>
     requires keys { keys.now ≡ map.keys draft.now.puts }
-    ensures { result ≡ disturb_test ds.now named.now (drafted draft.now ds.now) }
+    ensures { result ≡ conflict_change_test ds.now named.now (drafted draft.now ds.now) }
 {
-    match disturbed(ds, draft, named, keys) {
+    match conflict_changed(ds, draft, named, keys) {
         None => None,
         Some(key) => Some(Refusal::InConflict(key)),
     }
@@ -91,8 +91,8 @@ fn is_content(before: Option<&Content>, after: &Content) -> bool
     }
 }
 
-fn spoils(before: Option<&Content>, after: Option<&Content>) -> bool
-    ensures { result ≡ spoils (option_copied before.entry) (option_copied after.entry) }
+fn makes_unfit(before: Option<&Content>, after: Option<&Content>) -> bool
+    ensures { result ≡ makes_unfit (option_copied before.entry) (option_copied after.entry) }
 {
     match after {
         None => false,
@@ -101,11 +101,11 @@ fn spoils(before: Option<&Content>, after: Option<&Content>) -> bool
 }
 
 /// The first of the keys whose content changes to one that doesn't fit.
-fn spoiled(ds: &DataSet, draft: &Draft, keys: &[Key]) -> Option<Key>
-    ensures { result ≡ find (λ k. spoils (content_of ds.now k) (content_of (drafted draft.now ds.now) k)) keys.now }
+fn made_unfit(ds: &DataSet, draft: &Draft, keys: &[Key]) -> Option<Key>
+    ensures { result ≡ find (λ k. makes_unfit (content_of ds.now k) (content_of (drafted draft.now ds.now) k)) keys.now }
 {
     for key in keys {
-        if spoils(content(ds.entry(*key)), content(draft.entry(ds, *key))) {
+        if makes_unfit(content(ds.entry(*key)), content(draft.entry(ds, *key))) {
             return Some(*key);
         }
     }
@@ -116,7 +116,7 @@ fn fit_test(ds: &DataSet, draft: &Draft, keys: &[Key]) -> Option<Refusal>
     requires keys { keys.now ≡ map.keys draft.now.puts }
     ensures { result ≡ fit_test ds.now (drafted draft.now ds.now) }
 {
-    match spoiled(ds, draft, keys) {
+    match made_unfit(ds, draft, keys) {
         None => None,
         Some(key) => Some(Refusal::Unfit(key)),
     }
@@ -184,7 +184,7 @@ fn closing_tests(
     ensures { IfOk result (λ r. r ≡ closing_tests ds.now limit named.now (drafted draft.now ds.now)) }
 {
     let keys = draft.ordered()?;
-    if let Some(refusal) = disturb_test(ds, draft, named, &keys) {
+    if let Some(refusal) = conflict_change_test(ds, draft, named, &keys) {
         return Ok(Some(refusal));
     }
     if let Some(refusal) = fit_test(ds, draft, &keys) {

@@ -1,6 +1,6 @@
 //! Lists of keys in which a key is found without a walk.
 ghost use Rattle.std.specs.Prelude.{◌≡◌, ◌++◌, ◌∷◌, [], if◌then◌else◌, IfOk, OnOk, OnErr};
-ghost use Rattle.tool_api.specs.Tests.{is_named};
+ghost use Rattle.tool_api.specs.Checks.{is_named};
 ghost use Rattle.tool_api.specs.Distinct.{distinct};
 
 use indexmap::IndexSet;
@@ -22,7 +22,7 @@ impl Model for KeySet {
     ghost use Rattle.indexmap.specs.IndexSet.{contains};
     ghost use Rattle.osm_base.specs.KeyEq.{eq};
     ghost use Rattle.osm_base.specs.declared.key.Key.{Key};
-    ghost use Rattle.tool_api.specs.Tests.{is_named};
+    ghost use Rattle.tool_api.specs.Checks.{is_named};
 
     ghost Value = { List Key };
 

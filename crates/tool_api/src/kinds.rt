@@ -1,6 +1,6 @@
 //! The kinds of objects that a job takes.
 ghost use Rattle.std.specs.Prelude.{◌≡◌};
-ghost use Rattle.tool_api.specs.Tests.{takes};
+ghost use Rattle.tool_api.specs.Checks.{takes};
 
 use osm_base::Kind;
 

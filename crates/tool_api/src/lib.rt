@@ -6,7 +6,7 @@
 //! its reply and the new table, is one small definition in `specs/`: `plain`. A command is proved to plan just that.
 //!
 //! To add a command: add its variant to `Job` (and to `Refusal`, with the next number, where it refuses in a new
-//! way); write its definition in a file of `specs/` from the words of `specs/Tests`, `Changes` and `Closing`, with
+//! way); write its definition in a file of `specs/` from the words of `specs/Checks`, `Changes` and `Closing`, with
 //! a worked example in `proofs/Examples`; add its line to `outcome` in `specs/Plain`; then write its `Command` over the
 //! calls of this crate: the tests, a draft of the change, and `closed`.
 #![tactic(auto)]
@@ -24,7 +24,7 @@ mod plan;
 mod refusal;
 mod reply;
 mod steps;
-mod tests;
+mod checks;
 mod tool;
 mod undoable;
 mod uses;
@@ -43,7 +43,7 @@ pub use plan::Plan;
 pub use refusal::Refusal;
 pub use reply::Reply;
 pub use steps::Steps;
-pub use tests::{
+pub use checks::{
     complete_test, is_named, list_tests, reference_tests, target_test, target_tests, twice_test,
 };
 pub use tool::Tool;

@@ -2,7 +2,7 @@
 ghost use Rattle.std.specs.Prelude.{◌≡◌, not, IfOk};
 ghost use Rattle.std.specs.List.{find, flat_map};
 ghost use Rattle.osm_table.specs.Table.{users};
-ghost use Rattle.tool_api.specs.Tests.{is_named, use_test, first_of};
+ghost use Rattle.tool_api.specs.Checks.{is_named, use_test, first_of};
 
 use crate::key_set::KeySet;
 use crate::refusal::Refusal;

@@ -10,7 +10,7 @@ use Rattle.osm_table.specs.declared.entry.Entry.TheVariants.{Known}
 use Rattle.osm_table.specs.Table.{TableValue}
 use Rattle.dataset.specs.Draft.{DraftValue, drafted}
 use Rattle.dataset.proofs.Changes.{drafted_none, drafted_put}
-use Rattle.tool_api.specs.Tests.{ref_tests}
+use Rattle.tool_api.specs.Checks.{ref_tests}
 use Rattle.tool_api.specs.Changes.{new_key, added}
 use Rattle.tool_api.specs.Closing.{closing}
 use Rattle.tool_api.specs.Basic.{add}

@@ -19,7 +19,7 @@ use Rattle.tool_api.specs.declared.kinds.Kinds.TheVariants.{Nodes, NodesAndWays}
 use Rattle.tool_api.specs.declared.refusal.Refusal.{Refusal}
 use Rattle.tool_api.specs.Basic.{has_node, is_moved, moved_nodes}
 use Rattle.osm_base.specs.Order.{ranked}
-use Rattle.tool_api.specs.Tests.{first_of, is_named, takes, entry_test, target_test, list_tests, twice_test}
+use Rattle.tool_api.specs.Checks.{first_of, is_named, takes, entry_test, target_test, list_tests, twice_test}
 use Rattle.osm_base.proofs.RankedKeys.{named_ranked}
 use Rattle.tool_api.proofs.Bridge.{ranked_filter}
 use Rattle.tool_api.proofs.Passed.{both_none}

@@ -14,7 +14,7 @@ use Rattle.dataset.specs.Sound.{IsSound}
 use Rattle.tool_api.specs.declared.kinds.Kinds.{Kinds}
 use Rattle.tool_api.specs.declared.kinds.Kinds.TheVariants.{Nodes, Ways, Relations}
 use Rattle.tool_api.specs.declared.refusal.Refusal.{Refusal}
-use Rattle.tool_api.specs.Tests.{is_named, target_test, ref_tests}
+use Rattle.tool_api.specs.Checks.{is_named, target_test, ref_tests}
 use Rattle.tool_api.specs.Changes.{changed, edit}
 use Rattle.tool_api.specs.Closing.{closing_tests}
 use Rattle.tool_api.specs.Basic.{with_place, with_refs, with_members}

@@ -11,7 +11,7 @@ use Rattle.osm_base.specs.declared.content.Content.TheVariants as content
 use Rattle.osm_table.specs.Table.{TableValue}
 use Rattle.dataset.specs.Sound.{IsSound}
 use Rattle.tool_api.specs.declared.kinds.Kinds.TheVariants.{Any}
-use Rattle.tool_api.specs.Tests.{list_tests}
+use Rattle.tool_api.specs.Checks.{list_tests}
 use Rattle.tool_api.specs.Changes.{changed, edit}
 use Rattle.tool_api.specs.Closing.{closing_tests}
 use Rattle.tool_api.specs.Basic.{retagged, with_tags}

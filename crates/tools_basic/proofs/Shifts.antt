@@ -14,7 +14,7 @@ use Rattle.tool_api.specs.declared.kinds.Kinds.TheVariants.{NodesAndWays}
 use Rattle.tool_api.specs.Basic.{shift, moved, moved_nodes, move_entry_test, with_place}
 use Rattle.tool_api.specs.Changes.{changed, edit, done}
 use Rattle.tool_api.specs.Closing.{closing, closing_tests}
-use Rattle.tool_api.specs.Tests.{first_of, is_named, list_tests}
+use Rattle.tool_api.specs.Checks.{first_of, is_named, list_tests}
 use Rattle.tool_api.proofs.Passed.{Lives, lives, passes}
 use Rattle.tool_api.proofs.Sounds.{edit_sound}
 use Rattle.tools_basic.proofs.Moved.{moved_there}

@@ -7,7 +7,7 @@ ghost use Rattle.tool_api.specs.declared.kinds.Kinds.TheVariants.{NodesAndWays};
 ghost use Rattle.tool_api.specs.Basic.{shift, moved, moved_nodes, move_entry_test};
 ghost use Rattle.tool_api.specs.Changes.{content_of};
 ghost use Rattle.tool_api.specs.Planned.{Plans};
-ghost use Rattle.tool_api.specs.Tests.{first_of, list_tests};
+ghost use Rattle.tool_api.specs.Checks.{first_of, list_tests};
 ghost use Rattle.tools_basic.specs.Moves.{moved_with, all_moved_with};
 
 use dataset::DataSet;

@@ -14,7 +14,7 @@ use Rattle.dataset.proofs.Changes.{deleted_entry}
 use Rattle.dataset.proofs.Listed.{user_uses}
 use Rattle.tool_api.specs.declared.kinds.Kinds.TheVariants.{Any}
 use Rattle.tool_api.specs.declared.refusal.Refusal.TheVariants.{InUse}
-use Rattle.tool_api.specs.Tests.{is_named, first_of, list_tests, target_test, twice_test, use_test}
+use Rattle.tool_api.specs.Checks.{is_named, first_of, list_tests, target_test, twice_test, use_test}
 use Rattle.tool_api.specs.Changes.{changed, delete, deleted}
 use Rattle.tool_api.specs.Gone.{delete_all}
 use Rattle.tool_api.specs.declared.plan.Plan.TheVariants.{Change}

@@ -16,7 +16,7 @@ use Rattle.osm_table.specs.declared.entry.Entry.{Entry}
 use Rattle.osm_table.specs.declared.entry.Entry.TheVariants.{Incomplete, Known}
 use Rattle.osm_table.specs.Table.{TableValue, entry_of, mine_of, users, keys_by_rank}
 use Rattle.osm_table.proofs.Each.{same_table}
-use Rattle.tool_api.specs.Tests.{is_named}
+use Rattle.tool_api.specs.Checks.{is_named}
 use Rattle.tool_api.specs.Changes.{changed, content_of, delete, deleted, edit, with_mine}
 use Rattle.tool_api.specs.Basic.{with_members, with_refs}
 use Rattle.tool_api.specs.Gone.{erased, falls, goes, gone_keys, is_bare, is_mended, is_mended_content, is_relation, members_without, mended, mended_ways, relations_left}

@@ -23,13 +23,13 @@ use Rattle.dataset.specs.Sound.{IsSound, IsSoundEntry, IsNumber, LivesIn}
 use Rattle.dataset.proofs.Differs.{same_at_decides}
 use Rattle.tool_api.specs.declared.kinds.Kinds.TheVariants.{Any}
 use Rattle.tool_api.specs.declared.refusal.Refusal.TheVariants.{InConflict}
-use Rattle.tool_api.specs.Tests.{is_named, first_of, list_tests, target_test, twice_test}
+use Rattle.tool_api.specs.Checks.{is_named, first_of, list_tests, target_test, twice_test}
 use Rattle.tool_api.specs.Changes.{content_of, with_mine}
 use Rattle.tool_api.specs.Basic.{with_members, with_refs}
-use Rattle.tool_api.specs.Closing.{closing, closing_tests, in_conflict, spoils}
+use Rattle.tool_api.specs.Closing.{closing, closing_tests, in_conflict, makes_unfit}
 use Rattle.tool_api.specs.Gone.{erase, erased, falls, goes, is_bare, is_left, is_mended, is_mended_content, is_relation, is_short, members_without, mended}
-use Rattle.tool_api.proofs.Least.{disturbs_at, has_key}
-use Rattle.tool_api.proofs.Passed.{Lives, lives, named_lives, both_none, passed_tests, unspoiled, fits_or_stays, none_passes, none_in}
+use Rattle.tool_api.proofs.Least.{changes_conflict_at, has_key}
+use Rattle.tool_api.proofs.Passed.{Lives, lives, named_lives, both_none, passed_tests, keeps_fit, fits_or_stays, none_passes, none_in}
 use Rattle.tool_api.proofs.Sounds.{content_edited, edited_there}
 use Rattle.tools_delete.specs.Touched.{lives_as_relation, lives_as_way}
 use Rattle.tools_delete.proofs.Anys.{any_dedup, any_filter, any_gives, any_weaker, not_all}
@@ -46,10 +46,10 @@ calm true false false e h = cc
 calm false b c e h = inl refl
 
 -- an entry that isn't named has no conflict, or stays as it is
-undisturbed : (t u : TableValue) (limit : ℕ) (named : List Key) (k : Key) (e : Entry) → closing_tests t limit named u ≡ None → is_named named k ≡ false → entry_of t k ≡ Some e → (in_conflict (entry_of t k) ≡ false) ⊎ (entry_of t k ≡ entry_of u k)
-undisturbed t u limit named k e passed unnamed has =
+leaves_conflict : (t u : TableValue) (limit : ℕ) (named : List Key) (k : Key) (e : Entry) → closing_tests t limit named u ≡ None → is_named named k ≡ false → entry_of t k ≡ Some e → (in_conflict (entry_of t k) ≡ false) ⊎ (entry_of t k ≡ entry_of u k)
+leaves_conflict t u limit named k e passed unnamed has =
     elim (calm (in_conflict (entry_of t k)) (is_named named k) (same_at (entry_of t k) (entry_of u k)) unnamed
-    (none_passes (disturbs_at t named u) (keys_by_rank t) k (none_in (find (disturbs_at t named u) (keys_by_rank t)) InConflict (passed_tests t u limit named passed).undisturbed) (has_key t k (ap is_some has)))) [
+    (none_passes (changes_conflict_at t named u) (keys_by_rank t) k (none_in (find (changes_conflict_at t named u) (keys_by_rank t)) InConflict (passed_tests t u limit named passed).leaves_conflict) (has_key t k (ap is_some has)))) [
       | inl calm ↦ inl calm
       | inr same ↦ inr ((same_at_decides (entry_of t k) (entry_of u k)).0 same)
     ]
@@ -187,7 +187,7 @@ closed_erased t named s k e has r used = after_there t named s k r e (after t na
 
 -- Entries by themselves.
 
-edited_sound : (n : ℕ) (f : Content → Content) (k : Key) (x : Entry) → ((c : Content) → kind_of_content (f c) ≡ kind_of_content c) → in_conflict (Some x) ≡ false → spoils (mine_of x) (mine_of (with_mine f x)) ≡ false → IsSoundEntry n k x → IsSoundEntry n k (with_mine f x)
+edited_sound : (n : ℕ) (f : Content → Content) (k : Key) (x : Entry) → ((c : Content) → kind_of_content (f c) ≡ kind_of_content c) → in_conflict (Some x) ≡ false → makes_unfit (mine_of x) (mine_of (with_mine f x)) ≡ false → IsSoundEntry n k x → IsSoundEntry n k (with_mine f x)
 edited_sound n f k Incomplete kind calm fine s = s
 edited_sound n f k (Known base None conflict) kind calm fine s = s
 edited_sound n f k (Known base (Some c) None) kind calm fine s = content_edited n f k base c (kind c) (fits_or_stays (Some c) (f c) fine) s
@@ -235,7 +235,7 @@ module _ (t : TableValue) (named : List Key) (limit : ℕ) (s : IsSound t) (list
   -- an entry that isn't named stays as it is, or had no conflict
   by_calm : (x : Entry) → entry_of t k ≡ Some x → is_named named k ≡ false → (in_conflict (Some x) ≡ false → IsSoundEntry t.next k e) → IsSoundEntry t.next k e
   by_calm x old unnamed sound =
-      elim (undisturbed t (erased t named) limit named k x passed unnamed old) [
+      elim (leaves_conflict t (erased t named) limit named k x passed unnamed old) [
         | inl calm ↦ sound (ap in_conflict (sym old) ∙ calm)
         | inr stays ↦ s.entries k e (stays ∙ has)
       ]
@@ -243,7 +243,7 @@ module _ (t : TableValue) (named : List Key) (limit : ℕ) (s : IsSound t) (list
   edit_sound : (f : Content → Content) → ((c : Content) → kind_of_content (f c) ≡ kind_of_content c) → (x : Entry) → entry_of t k ≡ Some x → with_mine f x ≡ e → is_named named k ≡ false → IsSoundEntry t.next k e
   edit_sound f kind x old same unnamed =
       by_calm x old unnamed (λ calm. subst (IsSoundEntry t.next k) same (edited_sound t.next f k x kind calm
-      ((let a = sym old in let b = sym (has ∙ ap Some (sym same)) in λ i. spoils (option_and_then mine_of (a i)) (option_and_then mine_of (b i))) ∙ unspoiled t (erased t named) limit named k e passed has)
+      ((let a = sym old in let b = sym (has ∙ ap Some (sym same)) in λ i. makes_unfit (option_and_then mine_of (a i)) (option_and_then mine_of (b i))) ∙ keeps_fit t (erased t named) limit named k e passed has)
       (s.entries k x old)))
 
   after_sound : After t named k e → IsSoundEntry t.next k e

@@ -12,7 +12,7 @@ use Rattle.dataset.specs.Sound.{IsSound, IsSoundEntry, IsNumber, LivesIn, IdFits
 use Rattle.dataset.proofs.Changes.{incomplete_entry}
 use Rattle.tool_api.specs.declared.refusal.Refusal.TheVariants.{InUse}
 use Rattle.tool_api.specs.declared.plan.Plan.TheVariants.{Change}
-use Rattle.tool_api.specs.Tests.{is_named, first_of, twice_test, use_test, purge_entry_test, is_new}
+use Rattle.tool_api.specs.Checks.{is_named, first_of, twice_test, use_test, purge_entry_test, is_new}
 use Rattle.tool_api.specs.Changes.{changed}
 use Rattle.tool_api.specs.Gone.{is_used, purge}
 use Rattle.tool_api.specs.Planned.{Plans}

@@ -15,7 +15,7 @@ use Rattle.osm_base.specs.declared.content.Content.TheVariants as content
 use Rattle.osm_table.specs.declared.entry.Entry.{Entry}
 use Rattle.osm_table.specs.Table.{TableValue, entry_of, mine_of, uses, users}
 use Rattle.dataset.proofs.Listed.{user_uses}
-use Rattle.tool_api.specs.Tests.{is_named}
+use Rattle.tool_api.specs.Checks.{is_named}
 use Rattle.tool_api.specs.Distinct.{distinct}
 use Rattle.tool_api.specs.Changes.{content_of}
 use Rattle.tool_api.specs.Gone.{is_bare, is_mended, is_mended_content, is_relation, is_way}

@@ -5,7 +5,7 @@ use Rattle.osm_table.specs.declared.entry.Entry.{Entry}
 use Rattle.osm_table.specs.declared.entry.Entry.TheVariants.{Incomplete}
 use Rattle.osm_table.specs.Table.{TableValue, entry_of}
 use Rattle.tool_api.specs.declared.refusal.Refusal.{Refusal}
-use Rattle.tool_api.specs.Tests.{is_new, use_test}
+use Rattle.tool_api.specs.Checks.{is_new, use_test}
 use Rattle.tool_api.specs.Gone.{is_used}
 
 -- InUse, of a new object alone

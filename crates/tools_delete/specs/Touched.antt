@@ -7,7 +7,7 @@ use Rattle.osm_base.specs.declared.key.Key.{Key}
 use Rattle.osm_base.specs.declared.content.Content.{Content}
 use Rattle.osm_base.specs.declared.content.Content.TheVariants as content
 use Rattle.osm_table.specs.Table.{TableValue, entry_of, users}
-use Rattle.tool_api.specs.Tests.{is_named}
+use Rattle.tool_api.specs.Checks.{is_named}
 use Rattle.tool_api.specs.Basic.{with_members, with_refs}
 use Rattle.tool_api.specs.Changes.{changed, content_of, delete, edit}
 use Rattle.tool_api.specs.Gone.{is_bare, is_relation, is_short, is_way, members_without, mended}

@@ -5,7 +5,7 @@ ghost use Rattle.dataset.specs.Draft.{drafted};
 ghost use Rattle.dataset.specs.Sound.{IsSound};
 ghost use Rattle.tool_api.specs.Gone.{erase, erased};
 ghost use Rattle.tool_api.specs.Planned.{Plans};
-ghost use Rattle.tool_api.specs.Tests.{is_named};
+ghost use Rattle.tool_api.specs.Checks.{is_named};
 ghost use Rattle.tools_delete.specs.Touched.{erased_with};
 
 use crate::delete::deleted_draft;

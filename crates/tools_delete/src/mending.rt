@@ -4,7 +4,7 @@ ghost use Rattle.std.specs.List.{filter};
 ghost use Rattle.osm_base.specs.Content.{node};
 ghost use Rattle.tool_api.specs.Basic.{with_refs, with_members};
 ghost use Rattle.tool_api.specs.Gone.{mended, members_without};
-ghost use Rattle.tool_api.specs.Tests.{is_named};
+ghost use Rattle.tool_api.specs.Checks.{is_named};
 
 use osm_base::{Content, Refs, node_key};
 use relation_upkeep::drop_members;

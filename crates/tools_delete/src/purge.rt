@@ -7,7 +7,7 @@ ghost use Rattle.osm_table.specs.Table.{entry_of};
 ghost use Rattle.tool_api.specs.Changes.{changed};
 ghost use Rattle.tool_api.specs.Gone.{is_used, purge};
 ghost use Rattle.tool_api.specs.Planned.{Plans};
-ghost use Rattle.tool_api.specs.Tests.{first_of, is_new, purge_entry_test};
+ghost use Rattle.tool_api.specs.Checks.{first_of, is_new, purge_entry_test};
 ghost use Rattle.tools_delete.specs.Purged.{new_use_test, purged};
 
 use dataset::{DataSet, Draft};

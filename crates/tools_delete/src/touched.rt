@@ -6,7 +6,7 @@ ghost use Rattle.osm_base.specs.declared.key.Key.{Key};
 ghost use Rattle.tool_api.specs.Changes.{content_of};
 ghost use Rattle.tool_api.specs.Distinct.{distinct};
 ghost use Rattle.tool_api.specs.Gone.{is_bare, is_mended};
-ghost use Rattle.tool_api.specs.Tests.{is_named};
+ghost use Rattle.tool_api.specs.Checks.{is_named};
 ghost use Rattle.tools_delete.specs.Touched.{falls_short, is_free, is_left_by, is_untagged_node, lives_as_relation, lives_as_way, loses_members, way_nodes};
 
 use crate::mending::mended_ids;

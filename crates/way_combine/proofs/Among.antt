@@ -21,7 +21,7 @@ use Rattle.dataset.proofs.Listed.{user_uses}
 use Rattle.tool_api.specs.declared.kinds.Kinds.TheVariants.{Ways}
 use Rattle.tool_api.specs.declared.refusal.Refusal.{Refusal}
 use Rattle.tool_api.specs.declared.refusal.Refusal.TheVariants.{MemberClash, WrongKind}
-use Rattle.tool_api.specs.Tests.{is_named, first_of, target_test, entry_test, conflict_test, takes}
+use Rattle.tool_api.specs.Checks.{is_named, first_of, target_test, entry_test, conflict_test, takes}
 use Rattle.tool_api.specs.Changes.{content_of}
 use Rattle.tool_api.specs.Gone.{is_relation}
 use Rattle.tool_api.specs.Combine.{relations_among, member_test, clashes}

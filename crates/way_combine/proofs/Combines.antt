@@ -5,7 +5,7 @@ use Rattle.osm_base.specs.declared.key.Key.{Key}
 use Rattle.osm_table.specs.Table.{TableValue}
 use Rattle.tool_api.specs.declared.kinds.Kinds.TheVariants.{Ways}
 use Rattle.tool_api.specs.declared.refusal.Refusal.{Refusal}
-use Rattle.tool_api.specs.Tests.{◌>>◌, ◌>>=◌, first_of, list_tests}
+use Rattle.tool_api.specs.Checks.{◌>>◌, ◌>>=◌, first_of, list_tests}
 use Rattle.tool_api.specs.Changes.{Outcome, done}
 use Rattle.tool_api.specs.Closing.{closing}
 use Rattle.tool_api.specs.Combine.{way_test, joined, all_tags, clash_test, member_test, kept_way, combined, combined_table, united, combine}

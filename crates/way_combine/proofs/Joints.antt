@@ -9,7 +9,7 @@ use Rattle.osm_base.specs.declared.key.Key.{Key}
 use Rattle.osm_table.specs.Table.{TableValue}
 use Rattle.tool_api.specs.declared.refusal.Refusal.{Refusal}
 use Rattle.tool_api.specs.declared.refusal.Refusal.TheVariants.{NotJoined}
-use Rattle.tool_api.specs.Tests.{◌>>=◌, is_named}
+use Rattle.tool_api.specs.Checks.{◌>>=◌, is_named}
 use Rattle.tool_api.specs.Upkeep.{is_among, first_in}
 use Rattle.tool_api.specs.Combine.{refs_at, is_end, same_end, last_in, first_way, next_way, joined_on, joined}
 use Rattle.tool_api.proofs.Bools.{by_either, or_true}

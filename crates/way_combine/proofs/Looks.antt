@@ -3,7 +3,7 @@ use Rattle.std.proofs.Common.{◌≡◌, Bool, true, false, cond, List, Option, 
 use Rattle.osm_base.specs.declared.key.Key.{Key}
 use Rattle.osm_table.specs.declared.entry.Entry.{Entry}
 use Rattle.osm_table.specs.Table.{TableValue, entry_of}
-use Rattle.tool_api.specs.Tests.{is_named}
+use Rattle.tool_api.specs.Checks.{is_named}
 use Rattle.tool_api.specs.Changes.{changed}
 use Rattle.tool_api.proofs.Looks.{entry_changed, next_changed}
 

@@ -27,15 +27,15 @@ use Rattle.dataset.proofs.Differs.{same_at_decides}
 use Rattle.dataset.proofs.Listed.{user_uses}
 use Rattle.tool_api.specs.declared.kinds.Kinds.TheVariants.{Ways}
 use Rattle.tool_api.specs.declared.refusal.Refusal.TheVariants.{InConflict, MemberClash}
-use Rattle.tool_api.specs.Tests.{is_named, first_of, target_test, entry_test, twice_test, list_tests}
+use Rattle.tool_api.specs.Checks.{is_named, first_of, target_test, entry_test, twice_test, list_tests}
 use Rattle.tool_api.specs.Changes.{edit, delete, deleted, with_mine, content_of}
-use Rattle.tool_api.specs.Closing.{closing_tests, disturbs, disturb_test, in_conflict, spoils}
+use Rattle.tool_api.specs.Closing.{closing_tests, changes_conflict, conflict_change_test, in_conflict, makes_unfit}
 use Rattle.tool_api.specs.Gone.{is_relation}
 use Rattle.tool_api.specs.Upkeep.{first_in, is_among, folded}
 use Rattle.tool_api.specs.Split.{way_refs}
 use Rattle.tool_api.specs.Combine.{joined, united, all_tags, clashes, member_test, is_positive, kept_way, as_way, fold_runs, relations_among, combined}
 use Rattle.tool_api.proofs.Least.{has_key, conflict_some}
-use Rattle.tool_api.proofs.Passed.{Lives, lives, named_lives, passes, both_none, none_passes, passed_tests, unspoiled, fits_or_stays, none_in}
+use Rattle.tool_api.proofs.Passed.{Lives, lives, named_lives, passes, both_none, none_passes, passed_tests, keeps_fit, fits_or_stays, none_in}
 use Rattle.way_combine.proofs.Among.{way_kind, user_is, uses_one, some_user}
 use Rattle.way_combine.proofs.Joints.{Only, joined_only}
 use Rattle.way_combine.proofs.Looks.{entry_thrice, next_thrice, four_cases}
@@ -73,18 +73,18 @@ conflict_case true false false e f g = cc
 conflict_case true true c e f g = cc
 conflict_case false b c e f g = cc
 
-undisturbed : (t u : TableValue) (named : List Key) (k : Key) → disturb_test t named u ≡ None → in_conflict (entry_of t k) ≡ true → is_named named k ≡ false → entry_of t k ≡ entry_of u k
-undisturbed t u named k passed conflict apart =
-    let calm : disturbs named k (entry_of t k) (entry_of u k) ≡ false =
-    none_passes (λ (j : Key). disturbs named j (entry_of t j) (entry_of u j)) (keys_by_rank t) k (none_in (find (λ (j : Key). disturbs named j (entry_of t j) (entry_of u j)) (keys_by_rank t)) InConflict passed) (has_key t k (conflict_some (entry_of t k) conflict)) in
+leaves_conflict : (t u : TableValue) (named : List Key) (k : Key) → conflict_change_test t named u ≡ None → in_conflict (entry_of t k) ≡ true → is_named named k ≡ false → entry_of t k ≡ entry_of u k
+leaves_conflict t u named k passed conflict apart =
+    let calm : changes_conflict named k (entry_of t k) (entry_of u k) ≡ false =
+    none_passes (λ (j : Key). changes_conflict named j (entry_of t j) (entry_of u j)) (keys_by_rank t) k (none_in (find (λ (j : Key). changes_conflict named j (entry_of t j) (entry_of u j)) (keys_by_rank t)) InConflict passed) (has_key t k (conflict_some (entry_of t k) conflict)) in
     (same_at_decides (entry_of t k) (entry_of u k)).0 (conflict_case _ (is_named named k) _ calm conflict apart)
 
 -- an edited content fits, or is what it was
 fits_edited : (t u : TableValue) (limit : ℕ) (named : List Key) (k : Key) (base : Base) (c d : Content) → closing_tests t limit named u ≡ None
     → entry_of t k ≡ Some (Known base (Some c) None) → entry_of u k ≡ Some (Known base (Some d) None) → (fits d ≡ true) ⊎ (Some c ≡ Some d)
 fits_edited t u limit named k base c d passed was is =
-    let fine : spoils (Some c) (Some d) ≡ false =
-    (let a = sym was in let b = sym is in λ i. spoils (option_and_then mine_of (a i)) (option_and_then mine_of (b i))) ∙ unspoiled t u limit named k _ passed is in
+    let fine : makes_unfit (Some c) (Some d) ≡ false =
+    (let a = sym was in let b = sym is in λ i. makes_unfit (option_and_then mine_of (a i)) (option_and_then mine_of (b i))) ∙ keeps_fit t u limit named k _ passed is in
     fits_or_stays (Some c) d fine
 
 sound_edited : (n : ℕ) (k : Key) (base : Base) (c d : Content) → kind_of_content d ≡ k.kind → (fits d ≡ true) ⊎ (Some c ≡ Some d) → IsSoundEntry n k (Known base (Some c) None) → IsSoundEntry n k (Known base (Some d) None)
@@ -201,7 +201,7 @@ module _ (t : TableValue) (limit : ℕ) (ways : List Key) (refs : List ℤ) (kep
 
   calm : (q : Key) (base : Base) (c : Content) (conflict : Conflict) → entry_of t q ≡ Some (Known base (Some c) (Some conflict)) → (b : Bool) → is_named ways q ≡ b → entry_of after q ≡ entry_of t q
   calm q base c conflict was true named = (let e : true ≡ false = no_conflict _ (live q _ named was) in cc)
-  calm q base c conflict was false named = sym (undisturbed t after ways q (passed_tests t after limit ways p.closed).undisturbed (ap in_conflict was) named)
+  calm q base c conflict was false named = sym (leaves_conflict t after ways q (passed_tests t after limit ways p.closed).leaves_conflict (ap in_conflict was) named)
 
   rel_sound : (q : Key) (e : Entry) → entry_of after q ≡ Some e → edit t folds q ≡ Some e → IsSoundEntry t.next q e
   rel_sound q e has is = edited_from (IsSoundEntry t.next q) folds e (entry_of t q) is by

@@ -15,7 +15,7 @@ use Rattle.tool_api.specs.declared.kinds.Kinds.TheVariants.{Ways}
 use Rattle.tool_api.specs.Basic.{with_refs}
 use Rattle.tool_api.specs.Changes.{changed, edit}
 use Rattle.tool_api.specs.Closing.{closing_tests}
-use Rattle.tool_api.specs.Tests.{target_test}
+use Rattle.tool_api.specs.Checks.{target_test}
 use Rattle.tool_api.proofs.Passed.{named_lives}
 use Rattle.tool_api.proofs.Sounds.{edit_sound}
 

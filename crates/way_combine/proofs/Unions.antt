@@ -17,7 +17,7 @@ use Rattle.osm_base.proofs.SameLaws.{same_text_decides, same_tag_decides}
 use Rattle.osm_base.proofs.TagLaws.{one_key, key_itself, value_of_put, fore, aft}
 use Rattle.tool_api.specs.declared.refusal.Refusal.{Refusal}
 use Rattle.tool_api.specs.declared.refusal.Refusal.TheVariants.{TagClash}
-use Rattle.tool_api.specs.Tests.{◌>>◌}
+use Rattle.tool_api.specs.Checks.{◌>>◌}
 use Rattle.tool_api.specs.Combine.{united, clash_test}
 use Rattle.way_combine.specs.Parts.{unless, differs, put_on, union_of}
 use Rattle.tool_api.proofs.Bools.{or_true}

@@ -3,7 +3,7 @@ use Rattle.std.specs.Prelude.{ℕ, Bool, false, not, if◌then◌else◌, List, 
 use Rattle.osm_base.specs.Same.{same_text}
 use Rattle.osm_base.specs.Tags.{Pair, value_of, with_tag}
 use Rattle.tool_api.specs.Combine.{united, clash_test}
-use Rattle.tool_api.specs.Tests.{◌>>◌}
+use Rattle.tool_api.specs.Checks.{◌>>◌}
 use Rattle.tool_api.specs.declared.refusal.Refusal.{Refusal}
 use Rattle.tool_api.specs.declared.refusal.Refusal.TheVariants.{TagClash}
 

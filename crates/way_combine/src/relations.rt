@@ -6,7 +6,7 @@ ghost use Rattle.osm_table.specs.Table.{mine_of};
 ghost use Rattle.dataset.specs.Draft.{drafted};
 ghost use Rattle.tool_api.specs.Changes.{changed, content_of, edit, with_mine};
 ghost use Rattle.tool_api.specs.Combine.{clashes, fold_runs, member_test, relations_among};
-ghost use Rattle.tool_api.specs.Tests.{first_of, target_test};
+ghost use Rattle.tool_api.specs.Checks.{first_of, target_test};
 ghost use Rattle.tool_api.specs.declared.kinds.Kinds.TheVariants.{Ways};
 
 use dataset::{DataSet, Draft};

@@ -1,7 +1,7 @@
 //! The ways that are to be joined: the tests of each by itself, and references turned round.
 ghost use Rattle.std.specs.Prelude.{◌≡◌, reverse, IfOk};
 ghost use Rattle.tool_api.specs.Combine.{way_test};
-ghost use Rattle.tool_api.specs.Tests.{first_of};
+ghost use Rattle.tool_api.specs.Checks.{first_of};
 
 use dataset::DataSet;
 use osm_base::Key;

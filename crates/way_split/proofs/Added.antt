@@ -20,9 +20,9 @@ use Rattle.osm_table.specs.Table.{TableValue, entry_of, mine_of, IsThere}
 use Rattle.osm_table.proofs.Each.{get_with, get_with_same, same_table}
 use Rattle.dataset.specs.Sound.{IsSound, IdFits}
 use Rattle.dataset.proofs.Changes.{new_sound, number_sound}
-use Rattle.tool_api.specs.Tests.{is_named}
+use Rattle.tool_api.specs.Checks.{is_named}
 use Rattle.tool_api.specs.Changes.{placed, changed, new_key, added, all_added, content_of}
-use Rattle.tool_api.specs.Closing.{spoils}
+use Rattle.tool_api.specs.Closing.{makes_unfit}
 use Rattle.tool_api.proofs.Looks.{entry_placed, next_placed}
 use Rattle.tool_api.proofs.Passed.{fits_or_stays}
 use Rattle.tool_api.proofs.Bools.{or_left, or_right, none_of_two, by_bool}
@@ -131,16 +131,16 @@ fresh_case t k m (Some e) s low is = absurd (no_new t.next m k e s.number.0 low 
 pub fresh : (t : TableValue) (k : Kind) (m : ℕ) → IsSound t → t.next ≤ m → entry_of t (new_key k m) ≡ None
 fresh t k m s low = fresh_case t k m _ s low refl
 
--- New objects that aren't spoiled fit.
+-- New objects that aren't made unfit fit.
 pub new_fit : (t u x : TableValue) (cs : List Content) → u ≡ all_added x cs → 1 ≤ x.next → ((k : Kind) (m : ℕ) → x.next ≤ m → entry_of t (new_key k m) ≡ None)
-    → ((k : Key) (e : Entry) → entry_of u k ≡ Some e → spoils (content_of t k) (content_of u k) ≡ false) → AllByRecursion (λ c. fits c ≡ true) cs
-new_fit t u x [] is one new unspoiled = tt
-new_fit t u x (c ∷ cs) is one new unspoiled =
+    → ((k : Key) (e : Entry) → entry_of u k ≡ Some e → makes_unfit (content_of t k) (content_of u k) ≡ false) → AllByRecursion (λ c. fits c ≡ true) cs
+new_fit t u x [] is one new keeps_fit = tt
+new_fit t u x (c ∷ cs) is one new keeps_fit =
     let k = new_key (kind_of_content c) x.next in
     let there : entry_of u k ≡ Some (Known New (Some c) None) = ap (λ (y : TableValue). entry_of y k) is ∙ at_added x c cs one in
-    let fine : spoils None (Some c) ≡ false =
-    (let a = sym (new (kind_of_content c) x.next (omega arith)) in let b = sym there in λ i. spoils (option_and_then mine_of (a i)) (option_and_then mine_of (b i))) ∙ unspoiled k _ there in
-    (only_fits c (fits_or_stays None c fine), new_fit t u (added x c) cs is (omega arith) (λ j m low. new j m (omega arith)) unspoiled)
+    let fine : makes_unfit None (Some c) ≡ false =
+    (let a = sym (new (kind_of_content c) x.next (omega arith)) in let b = sym there in λ i. makes_unfit (option_and_then mine_of (a i)) (option_and_then mine_of (b i))) ∙ keeps_fit k _ there in
+    (only_fits c (fits_or_stays None c fine), new_fit t u (added x c) cs is (omega arith) (λ j m low. new j m (omega arith)) keeps_fit)
 
 -- Sound tables with new objects that fit, and whose references are there.
 abbrev pub RefersIn : TableValue → Content → Type 0

@@ -14,10 +14,10 @@ use Rattle.osm_base.specs.declared.key.Key.{Key}
 use Rattle.tool_api.specs.declared.kinds.Kinds.TheVariants.{Nodes}
 use Rattle.tool_api.specs.declared.refusal.Refusal.{Refusal}
 use Rattle.tool_api.specs.declared.refusal.Refusal.TheVariants.{NamedTwice, WrongKind, NotInWay}
-use Rattle.tool_api.specs.Tests.{is_named, takes, when}
+use Rattle.tool_api.specs.Checks.{is_named, takes, when}
 use Rattle.tool_api.specs.Split.{pieces_from, is_closed, node_tests, piece_of}
 use Rattle.tool_api.specs.Upkeep.{first_in, is_among}
-use Rattle.way_split.specs.Tests.{one_test}
+use Rattle.way_split.specs.NodeChecks.{one_test}
 use Rattle.tool_api.proofs.Lasts.{last_got}
 
 -- A way cut at its nodes.

@@ -10,12 +10,12 @@ use Rattle.dataset.specs.Sound.{IsSound}
 use Rattle.tool_api.specs.declared.kinds.Kinds.TheVariants.{Ways}
 use Rattle.tool_api.specs.declared.refusal.Refusal.{Refusal}
 use Rattle.tool_api.specs.declared.refusal.Refusal.TheVariants.{NothingToSplit}
-use Rattle.tool_api.specs.Tests.{◌>>◌, when, is_named, target_test}
+use Rattle.tool_api.specs.Checks.{◌>>◌, when, is_named, target_test}
 use Rattle.tool_api.specs.Changes.{Outcome, content_of}
 use Rattle.tool_api.specs.Closing.{closing, closing_tests}
 use Rattle.tool_api.specs.Split.{way_refs, node_tests, complete_test, all_pieces, kept_number, keyed, others, split_table, split_into, split_pieces, split}
 use Rattle.tool_api.proofs.Passed.{both_none}
-use Rattle.way_split.specs.Tests.{split_tests}
+use Rattle.way_split.specs.NodeChecks.{split_tests}
 use Rattle.way_split.proofs.Sounds.{split_sound, way_lives}
 
 -- The tests.

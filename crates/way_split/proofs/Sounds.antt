@@ -31,16 +31,16 @@ use Rattle.dataset.proofs.Kept.{entry_more}
 use Rattle.tool_api.specs.declared.kinds.Kinds.TheVariants.{Nodes, Ways}
 use Rattle.tool_api.specs.declared.refusal.Refusal.{Refusal}
 use Rattle.tool_api.specs.declared.refusal.Refusal.TheVariants.{InConflict, WrongKind, NamedTwice, NotInWay}
-use Rattle.tool_api.specs.Tests.{is_named, takes, conflict_test, entry_test, target_test, when}
+use Rattle.tool_api.specs.Checks.{is_named, takes, conflict_test, entry_test, target_test, when}
 use Rattle.tool_api.specs.Changes.{changed, edit, with_mine, new_key, all_added, content_of}
-use Rattle.tool_api.specs.Closing.{closing_tests, in_conflict, disturbs, spoils}
+use Rattle.tool_api.specs.Closing.{closing_tests, in_conflict, changes_conflict, makes_unfit}
 use Rattle.tool_api.specs.Basic.{with_refs}
 use Rattle.tool_api.specs.Gone.{is_relation}
 use Rattle.tool_api.specs.Upkeep.{is_among, replaced}
 use Rattle.tool_api.specs.Split.{way_refs, tags_at, node_tests, split_pieces, keyed, piece_of, others, kept_refs, relations_of, split_table}
-use Rattle.tool_api.proofs.Least.{has_key, disturbs_at}
+use Rattle.tool_api.proofs.Least.{has_key, changes_conflict_at}
 use Rattle.tool_api.proofs.Looks.{entry_changed, next_changed}
-use Rattle.tool_api.proofs.Passed.{both_none, none_passes, passed_tests, unspoiled, fits_or_stays, none_in}
+use Rattle.tool_api.proofs.Passed.{both_none, none_passes, passed_tests, keeps_fit, fits_or_stays, none_in}
 use Rattle.tool_api.proofs.Sounds.{content_edited, each_changed, next_is}
 use Rattle.way_split.proofs.Holds.{all_pieces_hold, parts_hold, all_filtered, found_holds}
 use Rattle.way_split.proofs.Members.{has_piece, replaced_refers, replaced_kind}
@@ -170,9 +170,9 @@ calm_case false b c P e f g same = cc
 
 calm : (t u : TableValue) (limit : ℕ) (named : List Key) (k : Key) (e f : Entry) → closing_tests t limit named u ≡ None → is_named named k ≡ false → entry_of t k ≡ Some e → entry_of u k ≡ Some f → in_conflict (Some e) ≡ true → e ≡ f
 calm t u limit named k e f passed out is there conflict =
-    let d : disturbs named k (Some e) (Some f) ≡ false =
-    (let a = sym is in let b = sym there in λ i. disturbs named k (a i) (b i))
-    ∙ none_passes (disturbs_at t named u) (keys_by_rank t) k (none_in (find (disturbs_at t named u) (keys_by_rank t)) InConflict (passed_tests t u limit named passed).undisturbed) (has_key t k (ap is_some is)) in
+    let d : changes_conflict named k (Some e) (Some f) ≡ false =
+    (let a = sym is in let b = sym there in λ i. changes_conflict named k (a i) (b i))
+    ∙ none_passes (changes_conflict_at t named u) (keys_by_rank t) k (none_in (find (changes_conflict_at t named u) (keys_by_rank t)) InConflict (passed_tests t u limit named passed).leaves_conflict) (has_key t k (ap is_some is)) in
     calm_case (in_conflict (Some e)) (is_named named k) (same_at (Some e) (Some f)) (e ≡ f) conflict out d (λ same. ap (λ (o : Option Entry). option_map_or (λ (x : Entry). x) o e) ((same_at_decides (Some e) (Some f)).0 same))
 
 -- The split.
@@ -235,7 +235,7 @@ begun_sound t limit named way parts s lives there passed =
     number_room (nat_lt limit (fin.len u.entries)) u.next (t.next + length (news t way parts)) (passed_tests t u limit named passed).room
     (next_added changed_all (news t way parts) ∙ ap (λ n. n + length (news t way parts)) next) in
     all_added_sound t t (news t way parts) s (λ r h. h)
-    (new_fit t u changed_all (news t way parts) refl one (λ k m low. fresh t k m s (subst (λ n. n ≤ m) next low)) (λ k e has. unspoiled t u limit named k e passed has))
+    (new_fit t u changed_all (news t way parts) refl one (λ k m low. fresh t k m s (subst (λ n. n ≤ m) next low)) (λ k e has. keeps_fit t u limit named k e passed has))
     (ways_refer t (tags_at t way) (others way parts) (all_filtered (λ (p : Key × List ℤ). AllByRecursion (λ n. IsThere (entry_of t (node n))) p.1) (λ p. not (is_key way p.0)) parts there)) room
 
 -- each piece's key is there in the table with the new ways
@@ -290,8 +290,8 @@ module _ (t : TableValue) (limit : ℕ) (way : Key) (nodes : List Key) (kept : �
       let d = replaced t way (map (piece_of way) parts) c in
       let same : Known base (Some d) conflict ≡ e = ap (λ (o : Option Entry). option_map_or (λ (x : Entry). x) o e) put in
       let there : entry_of u k ≡ Some (Known base (Some d) conflict) = relation_at k (Known base (Some d) conflict) named (ap (option_map (with_mine (replaced t way (map (piece_of way) parts)))) is) in
-      let fine : spoils (Some c) (Some d) ≡ false =
-      (let a = sym is in let b = sym there in λ i. spoils (option_and_then mine_of (a i)) (option_and_then mine_of (b i))) ∙ unspoiled t u limit (way ∷ nodes) k _ end_passed there in
+      let fine : makes_unfit (Some c) (Some d) ≡ false =
+      (let a = sym is in let b = sym there in λ i. makes_unfit (option_and_then mine_of (a i)) (option_and_then mine_of (b i))) ∙ keeps_fit t u limit (way ∷ nodes) k _ end_passed there in
       let rel : IsRelation (entry_of t k) = subst IsRelation (sym is) (is_rel base tags members conflict) in
       let own : IsSoundEntry t.next k (Known base (Some d) conflict) =
       content_sound t.next k base c d conflict (p.sound.entries k _ is) (replaced_kind t way (map (piece_of way) parts) c) (fits_or_stays (Some c) d fine)
@@ -338,8 +338,8 @@ module _ (t : TableValue) (limit : ℕ) (way : Key) (nodes : List Key) (kept : �
       let d = content.Way tags (kept_refs way parts) in
       let same : Known base (Some d) None ≡ e = ap (λ (o : Option Entry). option_map_or (λ (x : Entry). x) o e) put in
       let there : entry_of u k ≡ Some (Known base (Some d) None) = way_at k (Known base (Some d) None) named (ap (option_map (with_mine (with_refs (λ _. kept_refs way parts)))) is) in
-      let fine : spoils (Some c) (Some d) ≡ false =
-      (let a = sym is in let b = sym there in λ i. spoils (option_and_then mine_of (a i)) (option_and_then mine_of (b i))) ∙ unspoiled t u limit (way ∷ nodes) k _ end_passed there in
+      let fine : makes_unfit (Some c) (Some d) ≡ false =
+      (let a = sym is in let b = sym there in λ i. makes_unfit (option_and_then mine_of (a i)) (option_and_then mine_of (b i))) ∙ keeps_fit t u limit (way ∷ nodes) k _ end_passed there in
       let own : IsSoundEntry t.next k (Known base (Some d) None) =
       content_edited t.next (λ _. d) k base c refl (fits_or_stays (Some c) d fine) (p.sound.entries k _ is) in
       let nodes_in : RefersIn t d =

@@ -1,3 +1,3 @@
-pub mod Tests
+pub mod NodeChecks
 pub mod Tested
 pub mod Pieces

@@ -5,7 +5,7 @@ use Rattle.osm_table.specs.Table.{TableValue}
 use Rattle.tool_api.specs.Split.{split_pieces}
 use Rattle.way_split.specs.declared.split.Tested.{Tested}
 use Rattle.way_split.specs.declared.split.Tested.TheVariants.{Refused, Cut}
-use Rattle.way_split.specs.Tests.{split_tests}
+use Rattle.way_split.specs.NodeChecks.{split_tests}
 
 -- the first refusal, or the pieces where there is none
 abbrev pub IsTested : TableValue → Key → List Key → Tested → Type 0

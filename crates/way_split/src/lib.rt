@@ -11,7 +11,7 @@
 
 mod drafts;
 mod law;
-mod node_tests;
+mod node_checks;
 mod nodes;
 mod parts;
 mod pieces;

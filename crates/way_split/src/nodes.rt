@@ -1,7 +1,7 @@
 //! The nodes of a way as keys.
 ghost use Rattle.std.specs.Prelude.{◌≡◌, IfOk, ℤ, ◌<◌, length, slice_index_or, pos};
 ghost use Rattle.osm_base.specs.Content.{node};
-ghost use Rattle.tool_api.specs.Tests.{is_named};
+ghost use Rattle.tool_api.specs.Checks.{is_named};
 ghost use Rattle.tool_api.specs.Upkeep.{is_among};
 
 use osm_base::{Key, node_key};

@@ -2,7 +2,7 @@
 ghost use Rattle.std.specs.Prelude.{◌≡◌, ◌++◌, ◌∷◌, [], if◌then◌else◌, IfOk, ◌<◌, ◌≤◌, ◌+◌, ◌&&◌, nat_lt, pos, slice_index_or, length};
 ghost use Rattle.std.specs.List.{position, position_or_len};
 ghost use Rattle.osm_base.specs.Content.{node};
-ghost use Rattle.tool_api.specs.Tests.{is_named};
+ghost use Rattle.tool_api.specs.Checks.{is_named};
 ghost use Rattle.tool_api.specs.Split.{pieces, is_closed, turned, all_pieces, kept_number};
 
 use crate::nodes::node_at;

@@ -4,13 +4,13 @@ ghost use Rattle.dataset.specs.Sound.{IsSound};
 ghost use Rattle.tool_api.specs.Changes.{content_of};
 ghost use Rattle.tool_api.specs.Planned.{Plans};
 ghost use Rattle.tool_api.specs.Split.{node_tests, split, split_pieces, way_refs};
-ghost use Rattle.tool_api.specs.Tests.{target_test};
+ghost use Rattle.tool_api.specs.Checks.{target_test};
 ghost use Rattle.tool_api.specs.declared.kinds.Kinds.TheVariants.{Ways};
-ghost use Rattle.way_split.specs.Tests.{split_tests};
+ghost use Rattle.way_split.specs.NodeChecks.{split_tests};
 ghost use Rattle.way_split.specs.Tested.{IsTested};
 
 use crate::drafts::split_draft;
-use crate::node_tests::node_tests;
+use crate::node_checks::node_tests;
 use crate::parts::{keyed, new_keys};
 use crate::pieces::{all_pieces, kept_number};
 use dataset::DataSet;

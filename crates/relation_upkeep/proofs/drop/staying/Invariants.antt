@@ -1,5 +1,5 @@
 use Rattle.std.proofs.Common.{◌≡◌, take}
-use Rattle.tool_api.specs.Tests.{is_named}
+use Rattle.tool_api.specs.Checks.{is_named}
 use Rattle.tool_api.specs.Gone.{members_without}
 use Rattle.relation_upkeep.proofs.drop.staying.Given as goal
 

@@ -1,5 +1,5 @@
 use Rattle.std.proofs.Common.{◌≡◌, drop}
-use Rattle.tool_api.specs.Tests.{first_of, use_test}
+use Rattle.tool_api.specs.Checks.{first_of, use_test}
 use Rattle.tool_api.proofs.uses.use_tests.Given as goal
 
 abbrev pub invariant-loop-key : goal.invariant-loop-key

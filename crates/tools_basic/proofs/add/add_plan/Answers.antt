@@ -1,7 +1,7 @@
 use Rattle.std.proofs.Common.{◌≡◌, refl, sym, ap, ◌∙◌, ◌++◌, subst, None, [], IfOk}
 use Rattle.osm_base.specs.Content.{refs_of}
 use Rattle.dataset.specs.Sound.{IsSound}
-use Rattle.tool_api.specs.Tests.{ref_tests}
+use Rattle.tool_api.specs.Checks.{ref_tests}
 use Rattle.tool_api.specs.Closing.{closing_tests}
 use Rattle.tool_api.specs.Planned.{Plans}
 use Rattle.tool_api.proofs.Sounds.{add_sound}

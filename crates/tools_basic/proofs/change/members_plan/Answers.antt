@@ -1,6 +1,6 @@
 use Rattle.std.proofs.Common.{◌≡◌, sym, ap, ◌∙◌, map, None}
 use Rattle.osm_base.specs.declared.members.Member.{Member}
-use Rattle.tool_api.specs.Tests.{ref_tests}
+use Rattle.tool_api.specs.Checks.{ref_tests}
 use Rattle.tools_basic.proofs.Replaced.{members_sound}
 use Rattle.tools_basic.proofs.change.members_plan.Goals as goal
 

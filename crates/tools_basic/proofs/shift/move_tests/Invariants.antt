@@ -1,7 +1,7 @@
 use Rattle.std.proofs.Common.{◌≡◌, drop}
 use Rattle.osm_table.specs.Table.{entry_of}
 use Rattle.tool_api.specs.Basic.{move_entry_test}
-use Rattle.tool_api.specs.Tests.{first_of}
+use Rattle.tool_api.specs.Checks.{first_of}
 use Rattle.tools_basic.proofs.shift.move_tests.Given as goal
 
 abbrev pub invariant-loop-key : goal.invariant-loop-key

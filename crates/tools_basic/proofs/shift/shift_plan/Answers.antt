@@ -2,7 +2,7 @@ use Rattle.std.proofs.Common.{◌≡◌, sym, ap, ◌∙◌, subst, None, IfOk}
 use Rattle.osm_table.specs.Table.{entry_of}
 use Rattle.tool_api.specs.Basic.{move_entry_test}
 use Rattle.tool_api.specs.Planned.{Plans}
-use Rattle.tool_api.specs.Tests.{first_of}
+use Rattle.tool_api.specs.Checks.{first_of}
 use Rattle.tools_basic.proofs.Shifts.{shift_sound, shift_ends}
 use Rattle.tools_basic.proofs.shift.shift_plan.Goals as goal
 

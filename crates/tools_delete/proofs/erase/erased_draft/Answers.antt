@@ -2,7 +2,7 @@ use Rattle.std.proofs.Common.{◌∙◌, ◌&&◌, ◌||◌, ap, not, filter, Li
 use Rattle.std.proofs.lemmas.Result.{IfOk-weaker}
 use Rattle.osm_base.specs.declared.key.Key.{Key}
 use Rattle.tool_api.specs.Gone.{erased}
-use Rattle.tool_api.specs.Tests.{is_named}
+use Rattle.tool_api.specs.Checks.{is_named}
 use Rattle.tools_delete.specs.Touched.{falls_short}
 use Rattle.tools_delete.proofs.Erased.{erased_by}
 use Rattle.tools_delete.proofs.erase.erased_draft.Goals as goal

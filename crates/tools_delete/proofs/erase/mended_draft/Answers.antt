@@ -3,7 +3,7 @@ use Rattle.osm_table.specs.Table.{TableValue}
 use Rattle.tool_api.specs.Basic.{with_members, with_refs}
 use Rattle.tool_api.specs.Changes.{changed, delete, edit}
 use Rattle.tool_api.specs.Gone.{members_without, mended}
-use Rattle.tool_api.specs.Tests.{is_named}
+use Rattle.tool_api.specs.Checks.{is_named}
 use Rattle.tools_delete.proofs.erase.mended_draft.Goals as goal
 
 pub returns : goal.returns

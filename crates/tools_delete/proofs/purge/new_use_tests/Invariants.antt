@@ -1,5 +1,5 @@
 use Rattle.std.proofs.Common.{◌≡◌, drop}
-use Rattle.tool_api.specs.Tests.{first_of}
+use Rattle.tool_api.specs.Checks.{first_of}
 use Rattle.tools_delete.specs.Purged.{new_use_test}
 use Rattle.tools_delete.proofs.purge.new_use_tests.Given as goal
 

@@ -1,6 +1,6 @@
 use Rattle.std.proofs.Common.{◌≡◌, drop}
 use Rattle.osm_table.specs.Table.{entry_of}
-use Rattle.tool_api.specs.Tests.{first_of, purge_entry_test}
+use Rattle.tool_api.specs.Checks.{first_of, purge_entry_test}
 use Rattle.tools_delete.proofs.purge.purge_tests.Given as goal
 
 abbrev pub invariant-loop-key : goal.invariant-loop-key

@@ -3,7 +3,7 @@ use Rattle.std.specs.List.{flat_map}
 use Rattle.std.proofs.lemmas.Result.{IfOk-weaker}
 use Rattle.osm_base.specs.declared.key.Key.{Key}
 use Rattle.osm_table.specs.Table.{users}
-use Rattle.tool_api.specs.Tests.{is_named}
+use Rattle.tool_api.specs.Checks.{is_named}
 use Rattle.tool_api.specs.Distinct.{distinct}
 use Rattle.tool_api.proofs.Distincts.{distinct_once}
 use Rattle.tools_delete.specs.Touched.{lives_as_relation}

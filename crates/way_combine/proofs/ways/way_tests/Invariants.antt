@@ -1,5 +1,5 @@
 use Rattle.std.proofs.Common.{◌≡◌, drop}
-use Rattle.tool_api.specs.Tests.{first_of}
+use Rattle.tool_api.specs.Checks.{first_of}
 use Rattle.tool_api.specs.Combine.{way_test}
 use Rattle.way_combine.proofs.ways.way_tests.Given as goal
 

@@ -2,7 +2,7 @@ use Rattle.std.proofs.Common.{List, ap, ◌∙◌}
 use Rattle.std.proofs.lemmas.Result.{IfOk-weaker}
 use Rattle.osm_base.specs.Content.{node}
 use Rattle.osm_base.specs.declared.key.Key.{Key}
-use Rattle.tool_api.specs.Tests.{is_named}
+use Rattle.tool_api.specs.Checks.{is_named}
 use Rattle.way_split.proofs.Cuts.{named_nodes}
 use Rattle.way_split.proofs.nodes.node_set.Goals as goal
 

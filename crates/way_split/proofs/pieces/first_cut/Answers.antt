@@ -1,6 +1,6 @@
 use Rattle.std.proofs.Common.{arith}
 use Rattle.osm_base.specs.Content.{node}
-use Rattle.tool_api.specs.Tests.{is_named}
+use Rattle.tool_api.specs.Checks.{is_named}
 use Rattle.way_split.proofs.Cuts.{none_place, some_place, place_within}
 use Rattle.way_split.proofs.pieces.first_cut.Goals as goal
 

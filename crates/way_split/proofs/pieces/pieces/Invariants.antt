@@ -1,6 +1,6 @@
 use Rattle.std.proofs.Common.{◌≡◌, ◌++◌, drop}
 use Rattle.osm_base.specs.Content.{node}
-use Rattle.tool_api.specs.Tests.{is_named}
+use Rattle.tool_api.specs.Checks.{is_named}
 use Rattle.tool_api.specs.Split.{pieces, pieces_from}
 use Rattle.way_split.proofs.pieces.pieces.Given as goal
 

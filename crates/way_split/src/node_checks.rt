@@ -2,7 +2,7 @@
 ghost use Rattle.std.specs.Prelude.{◌≡◌, [], IfOk};
 ghost use Rattle.std.specs.Option.{IfNone};
 ghost use Rattle.tool_api.specs.Split.{node_tests};
-ghost use Rattle.way_split.specs.Tests.{one_test};
+ghost use Rattle.way_split.specs.NodeChecks.{one_test};
 
 use crate::nodes::node_set;
 use osm_base::{Key, node_key};

@@ -5,7 +5,7 @@ ghost use Rattle.std.specs.Option.{option_copied};
 ghost use Rattle.osm_base.specs.Content.{node};
 ghost use Rattle.osm_table.specs.Table.{entry_of};
 ghost use Rattle.tool_api.specs.Split.{complete_test, is_incomplete};
-ghost use Rattle.tool_api.specs.Tests.{is_named, entry_test, target_test, twice_test, list_tests, ref_entry_test, ref_tests, first_of};
+ghost use Rattle.tool_api.specs.Checks.{is_named, entry_test, target_test, twice_test, list_tests, ref_entry_test, ref_tests, first_of};
 
 use crate::kinds::Kinds;
 use crate::refusal::Refusal;

@@ -1,6 +1,6 @@
 use Rattle.std.proofs.Common.{arith, ◌<◌, length}
 use Rattle.way_split.proofs.Cuts.{test_step, test_refuses}
-use Rattle.way_split.proofs.node_tests.node_tests.Goals as goal
+use Rattle.way_split.proofs.node_checks.node_tests.Goals as goal
 
 pub loop-key-preserved : goal.loop-key-preserved
 loop-key-preserved c =

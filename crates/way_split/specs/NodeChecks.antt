@@ -7,7 +7,7 @@ use Rattle.osm_table.specs.Table.{TableValue}
 use Rattle.tool_api.specs.declared.kinds.Kinds.TheVariants.{Nodes, Ways}
 use Rattle.tool_api.specs.declared.refusal.Refusal.{Refusal}
 use Rattle.tool_api.specs.declared.refusal.Refusal.TheVariants.{NamedTwice, WrongKind, NotInWay, NothingToSplit}
-use Rattle.tool_api.specs.Tests.{when, is_named, takes, target_test}
+use Rattle.tool_api.specs.Checks.{when, is_named, takes, target_test}
 use Rattle.tool_api.specs.Changes.{content_of}
 use Rattle.tool_api.specs.Split.{way_refs, node_tests, complete_test, split_pieces}
 

@@ -1,0 +1,8 @@
+use Rattle.tool_api.proofs.Least.{changes_conflict_of}
+use Rattle.tool_api.proofs.closing.conflict_change_test.Goals as goal
+
+pub returns-in-None : goal.returns-in-None
+returns-in-None c = changes_conflict_of c.args.ds.now c.args.draft.now c.args.named.now c.args.keys.now _ c.in-None.ensures c.requires.keys
+
+pub returns-in-Some : goal.returns-in-Some
+returns-in-Some c = changes_conflict_of c.args.ds.now c.args.draft.now c.args.named.now c.args.keys.now _ c.in-Some.ensures c.requires.keys

@@ -1,8 +1,0 @@
-use Rattle.tool_api.proofs.Least.{disturbs_of}
-use Rattle.tool_api.proofs.closing.disturb_test.Goals as goal
-
-pub returns-in-None : goal.returns-in-None
-returns-in-None c = disturbs_of c.args.ds.now c.args.draft.now c.args.named.now c.args.keys.now _ c.in-None.ensures c.requires.keys
-
-pub returns-in-Some : goal.returns-in-Some
-returns-in-Some c = disturbs_of c.args.ds.now c.args.draft.now c.args.named.now c.args.keys.now _ c.in-Some.ensures c.requires.keys
