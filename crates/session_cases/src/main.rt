@@ -31,12 +31,17 @@ use running::run_case;
 use std::fs;
 
 /// The bundles of cases, in the order in which they run.
-const BUNDLES: [&str; 5] = [
+const BUNDLES: [&str; 10] = [
     "reading.txt",
     "jobs.txt",
     "groups.txt",
     "deleting.txt",
     "ways.txt",
+    "newer.txt",
+    "joined.txt",
+    "conflicts.txt",
+    "coming_back.txt",
+    "held.txt",
 ];
 
 fn main(rt: HostRuntime) -> Result<()> {
