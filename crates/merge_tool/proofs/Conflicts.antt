@@ -31,7 +31,7 @@ held_conflict b None h = h
 held_conflict b (Some Incomplete) h = h
 held_conflict b (Some (Known a m f)) h = refl
 
-back_conflict : (o : Option Entry) → is_some (lost_of o) ≡ true → in_conflict (option_map back o) ≡ true
+pub back_conflict : (o : Option Entry) → is_some (lost_of o) ≡ true → in_conflict (option_map back o) ≡ true
 back_conflict None h = h
 back_conflict (Some Incomplete) h = h
 back_conflict (Some (Known b m f)) h = refl

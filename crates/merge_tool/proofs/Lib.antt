@@ -6,3 +6,4 @@ pub mod Places
 pub mod Sounds
 pub mod Untold
 pub mod Conflicts
+pub mod Edits

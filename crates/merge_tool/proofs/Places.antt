@@ -120,7 +120,7 @@ why_kept Changed theirs b m h e = absurd (true≢false (sym e))
 why_kept Held theirs b m h e = absurd (true≢false (sym e))
 why_kept Withdrawn theirs b m h e = (h.0, h.1)
 
-kept : (b : Base) (m : Option Content) (f : Option Conflict) → ConflictFits b m f → (is_withdrawn f ≡ true) ⊎ IsKept b m → IsLive b × (m ≡ held_by b)
+pub kept : (b : Base) (m : Option Content) (f : Option Conflict) → ConflictFits b m f → (is_withdrawn f ≡ true) ⊎ IsKept b m → IsLive b × (m ≡ held_by b)
 kept b m None h (inl e) = absurd (true≢false (sym e))
 kept b m (Some c) h (inl e) = why_kept c.why c.theirs b m h e
 kept b m f h (inr i) = (live_base b m i.as_base i.stands, i.as_base)

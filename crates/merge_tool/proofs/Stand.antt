@@ -21,7 +21,7 @@ use Rattle.tool_api.specs.Staged.{Staged, lost_of, refers_by, back, against, bar
 use Rattle.tool_api.specs.Merged.{firm_content, lost_content, candidate_content, named_by_firm, named_by_wanted, named_by_held, wanted_start, wanted_leads, wanted, held_start, held_leads, held, named, final}
 
 -- plain facts of one entry
-there_if_mine : (o : Option Entry) → is_some (mine_at o) ≡ true → IsThere o
+pub there_if_mine : (o : Option Entry) → is_some (mine_at o) ≡ true → IsThere o
 there_if_mine None h = absurd (true≢false (sym h))
 there_if_mine (Some Incomplete) h = tt
 there_if_mine (Some (Known b None f)) h = absurd (true≢false (sym h))

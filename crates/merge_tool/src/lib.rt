@@ -3,4 +3,4 @@
 
 mod law;
 
-pub use law::{conflicts_of_merges, merged_is_sound, untold_stays};
+pub use law::{conflicts_of_merges, edits_stay, merged_is_sound, untold_stays};
