@@ -5,11 +5,12 @@ use Rattle.std.specs.Prelude.{T}
 use Rattle.std.specs.FinMap.{is_sorted}
 use Rattle.std.proofs.lemmas.Bool.{true≢false, or_cases}
 use mathlib.Core.Logic.{◌⊎◌, inl, inr}
+use Rattle.std.proofs.lemmas.Option.{none-some}
 use Rattle.osm_base.specs.Tags.{Pair, bytes_cmp, value_of}
 use Rattle.merge_cases.specs.declared.pick.Pick.{Pick}
 use Rattle.merge_cases.specs.declared.pick.Pick.TheVariants.{Mine, Theirs, Clash}
 use Rattle.merge_cases.specs.Join.{tag_pick, tag_value, tags_clash, picked, picked_tags, joined_tags, pick, is_clash, same_value}
-use Rattle.merge_cases.proofs.TagValues.{of_no_value, some_is, no_some}
+use Rattle.merge_cases.proofs.TagValues.{of_no_value, some_is}
 use Rattle.merge_cases.proofs.JoinLaws.{stood, value_joined, none_mine, none_theirs}
 
 -- a value that stands is one side's
@@ -45,7 +46,7 @@ module _ (b m t : List Pair) where
 
       by : (c : Bool) → tags_clash b m t ≡ c → cond c None (Some (picked_tags b m t)) ≡ None → (key : List ℕ) × (tag_value b m t key ≡ None)
       by true e g = either (or_cases (list_any (λ tag. is_clash (tag_pick b m t tag.0)) m) (list_any (λ tag. is_clash (tag_pick b m t tag.0)) t) e)
-      by false e g = absurd (no_some (picked_tags b m t) (sym g))
+      by false e g = absurd (none-some (picked_tags b m t) (sym g))
 
   module _ (sm : T (is_sorted bytes_cmp m)) (st : T (is_sorted bytes_cmp t)) where
     no_clash : tags_clash b m t ≡ false → (k : List ℕ) → is_clash (tag_pick b m t k) ≡ false
@@ -60,7 +61,7 @@ module _ (b m t : List Pair) where
     each_tag tags h k = by (tags_clash b m t) refl h
       where
         by : (c : Bool) → tags_clash b m t ≡ c → cond c None (Some (picked_tags b m t)) ≡ Some tags → tag_value b m t k ≡ Some (value_of tags k)
-        by true e g = absurd (no_some tags g)
+        by true e g = absurd (none-some tags g)
         by false e g =
             one_side (tag_pick b m t k) (value_of m k) (value_of t k) (no_clash e k)
             ∙ ap Some (sym (value_joined b m t sm st k))

@@ -1,9 +1,10 @@
 //! The content that comes of three.
 //!
-//! Of a tag or a body that only one side changed, that side's stands; where neither or both did and
-//! they agree, it is one and the same.
+//! Of a tag or a body that only one side changed, that side's stands. What neither changed, or both
+//! alike, is one and the same.
 ghost use Rattle.std.specs.Prelude.{◌≡◌, OnOk, IfOk};
-ghost use Rattle.merge_cases.specs.Join.{joined, joined_tags, standing, with_tags, picked_tags, with_body};
+ghost use Rattle.std.specs.Option.{option_copied};
+ghost use Rattle.merge_cases.specs.Join.{joined, picked, standing, with_tags, picked_tags, with_body};
 
 use crate::join_tests::clashing;
 use crate::pick::{Pick, body_pick, tag_pick};
@@ -25,14 +26,26 @@ pub fn joined(
 ) -> Result<Option<Content>, AllocError>
     ensures { IfOk result (λ content. content ≡ joined base.now mine.now theirs.now) }
 {
-    let body = body_pick(base, mine, theirs);
+    let Some(body) = picked(body_pick(base, mine, theirs), mine, theirs) else {
+        return Ok(None);
+    };
     let (b, m, t) = (base.tags(), mine.tags(), theirs.tags());
-    if body == Pick::Clash || clashing(b, m, t, m) || clashing(b, m, t, t) {
+    if clashing(b, m, t, m) || clashing(b, m, t, t) {
         return Ok(None);
     }
     let tags = picked_tags(alloc, b, m, t)?;
-    let from = if body == Pick::Mine { mine } else { theirs };
-    Ok(Some(with_body(tags, from)?))
+    Ok(Some(with_body(tags, body)?))
+}
+
+/// The side that stands.
+fn picked<'a>(pick: Pick, mine: &'a Content, theirs: &'a Content) -> Option<&'a Content>
+    ensures { option_copied result ≡ picked pick mine.now theirs.now }
+{
+    match pick {
+        Pick::Mine => Some(mine),
+        Pick::Theirs => Some(theirs),
+        Pick::Clash => None,
+    }
 }
 
 fn with_body(tags: Tags, body: &Content) -> Result<Content, AllocError>
