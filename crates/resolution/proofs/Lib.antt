@@ -1,2 +1,3 @@
 mod Pushed
+mod Parts
 mod Examples

@@ -12,7 +12,7 @@ both : (a b : Bool) → T a → T b → T (a && b)
 both true b g h = h
 both false b g h = absurd g
 
-neither : (a b : Bool) → (a || b) ≡ false → (a ≡ false) × (b ≡ false)
+pub neither : (a b : Bool) → (a || b) ≡ false → (a ≡ false) × (b ≡ false)
 neither true b h = absurd (true≢false h)
 neither false b h = (refl, h)
 

@@ -7,7 +7,9 @@
 #![tactic(auto)]
 
 mod choice;
+mod law;
 mod tag_keys;
 
 pub use choice::{Choice, Side};
+pub use law::parts_settle_clashes_alone;
 pub use tag_keys::TagKeys;
