@@ -6,3 +6,9 @@ pub mod Places
 pub mod Sounds
 pub mod Untold
 pub mod Conflicts
+pub mod News
+pub mod Appends
+pub mod Bareds
+pub mod Puts
+pub mod Clashes
+pub mod Cases
