@@ -1,13 +1,16 @@
 -- One key more of a pass that appends.
 use Rattle.std.proofs.Common.{◌<◌, length, drop, get_or, drop-cons, ◌≡◌, ◌↔◌, ◌||◌, ℕ, zero, suc, true, false, List, [], ◌∷◌, ◌++◌, take, slice_get, Some, sym, refl, ap, subst, ◌∙◌, append_assoc, Bool, filter}
-use Rattle.std.specs.Prelude.{Result, IfOk}
+use Rattle.std.specs.Prelude.{Result, Ok, Err, IfOk}
 use Rattle.std.specs.List.{flat_map, list_any}
 use Rattle.std.proofs.lemmas.Grind.{flat_map-append}
 use Rattle.std.proofs.lemmas.List.Elements.{filter-append}
 use Rattle.std.proofs.lemmas.List.Folds.{list_any-append}
 use Rattle.osm_base.specs.Rank.{is_key}
 use Rattle.osm_base.specs.declared.key.Key.{Key}
+use Rattle.osm_table.specs.Table.{TableValue}
+use Rattle.osm_table.specs.Told.{ToldEntries}
 use Rattle.closure.specs.Closure.{has, Chain}
+use Rattle.merge_tool.specs.Passes.{held_starts}
 
 append_none : (xs : List Key) → xs ++ [] ≡ xs
 append_none [] = refl
@@ -68,3 +71,16 @@ pub same_starts : {R E : Type 0} (xs ys : List Key) (next : Key → List Key) (k
     → IfOk r (λ marks. (k : Key) → (has is_key (keys marks) k ≡ true) ↔ Chain (has is_key xs) (λ j. has is_key (next j)) k)
     → IfOk r (λ marks. (k : Key) → (has is_key (keys marks) k ≡ true) ↔ Chain (has is_key ys) (λ j. has is_key (next j)) k)
 same_starts xs ys next keys r e h = subst (λ (l : List Key). IfOk r (λ marks. (k : Key) → (has is_key (keys marks) k ≡ true) ↔ Chain (has is_key l) (λ j. has is_key (next j)) k)) e h
+
+pub if_ok : {A E : Type 0} (P Q : A → Type 0) (r : Result A E) → ((a : A) → P a → Q a) → IfOk r P → IfOk r Q
+if_ok P Q (Ok a) f h = f a h
+if_ok P Q (Err e) f h = h
+
+empty : (ks : List Key) → length ks ≡ 0 → ks ≡ []
+empty [] e = refl
+empty (k ∷ ks) e = cc
+
+-- no candidate, no start
+pub none_start : (t : TableValue) (m : ToldEntries) (candidates names late new : List Key) → new ≡ [] → length candidates ≡ 0 → new ≡ held_starts t m candidates names late
+none_start t m candidates names late new is none =
+    is ∙ sym (ap (λ (ks : List Key). held_starts t m ks names late) (empty candidates none) ∙ ap (λ (ks : List Key). (ks ++ filter (has is_key []) late) ++ []) (filter_none names) ∙ ap (λ (ks : List Key). ks ++ []) (filter_none late))

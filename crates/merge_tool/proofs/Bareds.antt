@@ -7,25 +7,12 @@ use Rattle.osm_table.specs.declared.entry.Base.{Base}
 use Rattle.osm_table.specs.declared.entry.Conflict.{Conflict}
 use Rattle.osm_table.specs.declared.entry.Entry.{Entry}
 use Rattle.osm_table.specs.declared.entry.Entry.TheVariants.{Incomplete, Known}
-use Rattle.osm_table.specs.Table.{held_by, known_base, IsThere}
+use Rattle.osm_table.specs.Table.{held_by, known_base}
 use Rattle.dataset.specs.Exact.{mine_at}
 use Rattle.tool_api.specs.Staged.{lost_of, bared, back}
 use Rattle.merge_tool.specs.Passes.{is_there}
 
--- where nothing refers to it, it stays
-pub bared_none : (o : Option Entry) → bared false o ≡ o
-bared_none None = refl
-bared_none (Some Incomplete) = refl
-bared_none (Some (Known b None f)) = refl
-bared_none (Some (Known b (Some c) f)) = refl
-
--- and so does what is there
-pub bared_found : (n : Bool) (o : Option Entry) → IsThere o → bared n o ≡ o
-bared_found n None h = absurd h
-bared_found n (Some Incomplete) h = refl
-bared_found n (Some (Known b None f)) h = absurd (true≢false (sym h))
-bared_found n (Some (Known b (Some c) f)) h = refl
-
+-- what is there stays
 pub there_bared : (n : Bool) (o : Option Entry) → is_there o ≡ true → bared n o ≡ o
 there_bared n None h = absurd (true≢false (sym h))
 there_bared n (Some Incomplete) h = refl

@@ -17,6 +17,8 @@ use Rattle.osm_table.specs.declared.told.Told.TheVariants as told
 use Rattle.osm_table.specs.Table.{TableValue, entry_of, uses, users, held_by, known_base, IsThere}
 use Rattle.osm_table.specs.Told.{ToldEntries, ToldValue, entry_told, told_of, told_at}
 use Rattle.osm_table.proofs.Each.{get_with}
+use Rattle.dataset.specs.Draft.{DraftValue, drafted}
+use Rattle.dataset.proofs.Changes.{drafted_none}
 use Rattle.dataset.specs.Exact.{mine_at}
 use Rattle.dataset.specs.Sound.{IsSound}
 use Rattle.dataset.proofs.Listed.{user_uses}
@@ -31,7 +33,7 @@ use Rattle.merge_tool.specs.Passes.{Gives, IsPassed, noted, new_bared, early, fi
 use Rattle.merge_tool.proofs.Rows.{theirs_by, verdict_by}
 use Rattle.merge_tool.proofs.Fitting.{there}
 use Rattle.merge_tool.proofs.Appends.{has_more}
-use Rattle.merge_tool.proofs.Bareds.{bared_none, bared_found}
+use Rattle.merge_tool.proofs.Stand.{bared_none, bared_kept}
 use Rattle.merge_tool.proofs.News.{going_told}
 
 -- the case of what is told
@@ -64,7 +66,7 @@ going_is t m k v case = ap (λ (w : Verdict). cond (is_candidate w) (k ∷ []) [
 pub clashing_is : (t : TableValue) (m : ToldEntries) (k : Key) (v : Verdict) → v ≡ verdict_at t m k → filter (λ j. is_clash v) (k ∷ []) ≡ filter (is_clashing t m) (k ∷ [])
 clashing_is t m k v case = ap (λ (w : Verdict). cond (is_clash w) (k ∷ []) []) case
 
-uses_at : (o : Option Entry) (k : Key) → option_map_or (λ e. uses e k) o false ≡ refers_by (mine_at o) k
+pub uses_at : (o : Option Entry) (k : Key) → option_map_or (λ e. uses e k) o false ≡ refers_by (mine_at o) k
 uses_at None k = refl
 uses_at (Some e) k = refl
 
@@ -79,7 +81,7 @@ pub early_stays : (t : TableValue) (m : ToldEntries) → IsSound t → (k : Key)
 early_stays t m sound k = by (has_untold_user t m k) refl
   where
     by : (b : Bool) → has_untold_user t m k ≡ b → bared b (entry_of t k) ≡ entry_of t k
-    by true e = bared_found true (entry_of t k) (used_there t m sound k e)
+    by true e = bared_kept true (entry_of t k) (used_there t m sound k e)
     by false e = bared_none (entry_of t k)
 
 noted_at : (u : TableValue) (k : Key) (o : Option Entry) (q : Key) → is_some o ≡ true → entry_of (noted u k o) q ≡ cond (is_key q k) o (entry_of u q)
@@ -127,6 +129,10 @@ module _ (t : TableValue) (m : ToldEntries) (sound : IsSound t) (k : Key) (o new
               same true = refl
               same false = refl
 
+-- a draft that changes nothing
+pub none_yet : (t : TableValue) (d : DraftValue) → d ≡ record { puts = fin.empty; next = t.next } → (q : Key) → entry_of (drafted d t) q ≡ entry_of t q
+none_yet t d e q = ap (λ (x : TableValue). entry_of x q) (ap (λ (x : DraftValue). drafted x t) e ∙ drafted_none t.next t)
+
 -- all keys: what isn't told of stays
 pub passed_all : (t : TableValue) (m : ToldValue) (u : TableValue) → IsSound t → IsPassed (entry_of t) (early t m.told) m.order u → ((k : Key) → list_any (is_key k) m.order ≡ is_some (told_at m k)) → (q : Key) → entry_of u q ≡ early t m.told q
 passed_all t m u sound h each q = h q ∙ ap (λ b. cond b (early t m.told q) (entry_of t q)) (each q) ∙ by (told_at m q) refl
@@ -163,7 +169,7 @@ heeded x y b e = sym (ap (λ c. cond c x y) e)
 
 -- where it isn't held, what is told
 pub left_gone : (t : TableValue) (m : ToldEntries) (held : List Key) (k : Key) (news : Entry) → is_going t m k ≡ true → Some news ≡ option_map entry_told (fin.get m k) → has is_key held k ≡ false → Some news ≡ left t m held k
-left_gone t m held k news going is no = is ∙ by (fin.get m k) refl going ∙ unheld (option_map (against Held (theirs_at m k)) (entry_of t k)) (Some (Known (theirs_at m k) None None)) (has is_key held k) no
+left_gone t m held k news going is off = is ∙ by (fin.get m k) refl going ∙ unheld (option_map (against Held (theirs_at m k)) (entry_of t k)) (Some (Known (theirs_at m k) None None)) (has is_key held k) off
   where
     by : (s : Option Told) → fin.get m k ≡ s → is_candidate (verdict_by (entry_of t k) (fin.get m k)) ≡ true → option_map entry_told (fin.get m k) ≡ Some (Known (theirs_at m k) None None)
     by None e c = absurd (true≢false (sym (sym (ap (λ (s : Option Told). is_candidate (verdict_by (entry_of t k) s)) e) ∙ c)))
@@ -174,9 +180,9 @@ left_gone t m held k news going is no = is ∙ by (fin.get m k) refl going ∙ u
 
 -- where it is, it is against what is told
 pub left_held : (t : TableValue) (m : ToldEntries) (held : List Key) (k : Key) (news old new : Entry) → Some news ≡ option_map entry_told (fin.get m k) → Some old ≡ entry_of t k → new ≡ against Held (theirs_told (told_of news)) old → has is_key held k ≡ true → Some new ≡ left t m held k
-left_held t m held k news old new is look step yes =
+left_held t m held k news old new is look step there =
     ap Some (step ∙ ap (λ (b : Base). against Held b old) (by (fin.get m k) refl is)) ∙ ap (option_map (against Held (theirs_at m k))) look
-    ∙ heeded (option_map (against Held (theirs_at m k)) (entry_of t k)) (Some (Known (theirs_at m k) None None)) (has is_key held k) yes
+    ∙ heeded (option_map (against Held (theirs_at m k)) (entry_of t k)) (Some (Known (theirs_at m k) None None)) (has is_key held k) there
   where
     by : (s : Option Told) → fin.get m k ≡ s → Some news ≡ option_map entry_told (fin.get m k) → theirs_told (told_of news) ≡ theirs_at m k
     by None e h = let f : ◌≡◌ {A = Option Entry} (Some news) None = h ∙ ap (option_map entry_told) e in cc

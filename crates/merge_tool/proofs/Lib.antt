@@ -12,3 +12,6 @@ pub mod Bareds
 pub mod Puts
 pub mod Clashes
 pub mod Cases
+pub mod Untolds
+pub mod WantedEnds
+pub mod HeldEnds

@@ -15,7 +15,8 @@ use Rattle.tool_api.specs.Staged.{lost_of, bared, back}
 use Rattle.merge_tool.specs.Walks.{is_lost}
 use Rattle.merge_tool.specs.Passes.{noted, is_there}
 use Rattle.merge_tool.proofs.Appends.{has_taken, taken_all, taken_more}
-use Rattle.merge_tool.proofs.Bareds.{bared_none, there_bared, bared_lost, bared_gone, lost_bared, bared_twice, back_twice}
+use Rattle.merge_tool.proofs.Stand.{bared_none}
+use Rattle.merge_tool.proofs.Bareds.{there_bared, bared_lost, bared_gone, lost_bared, bared_twice, back_twice}
 
 -- what a draft's table has after one put
 pub put_at : (d e : DraftValue) (t : TableValue) (k : Key) (x : Entry) → e ≡ record { puts = fin.insert d.puts k (Some x); next = d.next } → (q : Key) → entry_of (drafted e t) q ≡ cond (is_key q k) (Some x) (entry_of (drafted d t) q)
@@ -46,20 +47,20 @@ name_stays u k same q = by (is_key q k) refl
     by false e = sym (bared_none (entry_of u q))
 
 pub name_there : (u : TableValue) (k : Key) (o : Option Entry) (b : Bool) → o ≡ entry_of u k → b ≡ is_there o → b ≡ true → (q : Key) → entry_of u q ≡ bared (is_key q k) (entry_of u q)
-name_there u k o b at is yes = name_stays u k (there_bared true (entry_of u k) (sym (ap is_there at) ∙ sym is ∙ yes))
+name_there u k o b at is there = name_stays u k (there_bared true (entry_of u k) (sym (ap is_there at) ∙ sym is ∙ there))
 
-pub name_lost : (u : TableValue) (k : Key) → is_lost u k ≡ true → (q : Key) → entry_of u q ≡ bared (is_key q k) (entry_of u q)
-name_lost u k yes = name_stays u k (bared_lost true (entry_of u k) yes)
+pub name_lost : (u : TableValue) (k : Key) (o : Option Entry) (b : Bool) → o ≡ entry_of u k → b ≡ is_some (lost_of o) → b ≡ true → (q : Key) → entry_of u q ≡ bared (is_key q k) (entry_of u q)
+name_lost u k o b at is lost = name_stays u k (bared_lost true (entry_of u k) (sym (ap (λ (x : Option Entry). is_some (lost_of x)) at) ∙ sym is ∙ lost))
 
 as_bared : (b : Bool) (o : Option Entry) → cond b (bared true o) o ≡ bared b o
 as_bared true o = refl
 as_bared false o = sym (bared_none o)
 
 -- one that isn't there
-pub name_enters : (d e : DraftValue) (t : TableValue) (k : Key) → e ≡ record { puts = fin.insert d.puts k (Some Incomplete); next = d.next } → is_there (entry_of (drafted d t) k) ≡ false → is_lost (drafted d t) k ≡ false
-    → (q : Key) → entry_of (drafted e t) q ≡ bared (is_key q k) (entry_of (drafted d t) q)
-name_enters d e t k put no gone q =
-    put_mapped d e t k Incomplete (bared true) put (sym (bared_gone (entry_of (drafted d t) k) no gone)) q
+pub name_enters : (d e : DraftValue) (t : TableValue) (k : Key) (x : Entry) (o : Option Entry) (a b : Bool) → x ≡ Incomplete → o ≡ entry_of (drafted d t) k → a ≡ is_there o → a ≡ false → b ≡ is_some (lost_of o) → b ≡ false
+    → e ≡ record { puts = fin.insert d.puts k (Some x); next = d.next } → (q : Key) → entry_of (drafted e t) q ≡ bared (is_key q k) (entry_of (drafted d t) q)
+name_enters d e t k x o a b new at is absent was gone put q =
+    put_mapped d e t k x (bared true) put (ap Some new ∙ sym (ap (bared true) (sym at) ∙ bared_gone o (sym is ∙ absent) (sym was ∙ gone))) q
     ∙ as_bared (is_key q k) (entry_of (drafted d t) q)
 
 -- one name more

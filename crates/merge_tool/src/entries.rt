@@ -192,6 +192,13 @@ pub fn lost(entry: Option<&SharedEntry>) -> Option<&Content>
     }
 }
 
+/// Whether an object was lost here: the known side holds something, and the entry doesn't live.
+pub fn is_lost(entry: Option<&SharedEntry>) -> bool
+    ensures { result ≡ is_some (lost_of (option_copied entry.entry)) }
+{
+    lost(entry).is_some()
+}
+
 fn lost_content(entry: &SharedEntry) -> Option<&Content>
     ensures { option_copied result ≡ lost_of (Some entry.now) }
 {

@@ -10,7 +10,7 @@ ghost use Rattle.tool_api.specs.Staged.{bared};
 ghost use Rattle.merge_tool.specs.Walks.{is_lost};
 ghost use Rattle.merge_tool.specs.Passes.{is_there};
 
-use crate::entries::lost;
+use crate::entries::is_lost;
 use dataset::{DataSet, Draft};
 use osm_base::Key;
 use osm_table::{EntryParts, SharedEntry, Told};
@@ -45,7 +45,7 @@ fn name(ds: &DataSet, draft: &mut Draft, key: Key, out: &mut Vec<Key>) -> Result
     let entry = draft.entry(ds, key);
     if is_there(entry) {
         Ok(())
-    } else if lost(entry).is_some() {
+    } else if is_lost(entry) {
         out.push(key)?;
         Ok(())
     } else {

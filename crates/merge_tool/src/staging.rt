@@ -81,7 +81,8 @@ impl Staging {
         push_if_clashing(verdict, key, &mut self.clashes)?;
         push_firm(verdict, after(old, &new), &mut self.names)?;
         let new = bared(ds, told, key, new)?;
-        note(&mut self.draft, key, new)
+        note(&mut self.draft, key, new)?;
+        Ok(())
     }
 }
 

@@ -7,7 +7,7 @@ ghost use Rattle.dataset.specs.Draft.{drafted};
 ghost use Rattle.closure.specs.Closure.{has, Chain};
 ghost use Rattle.merge_tool.specs.Walks.{is_lost, lost_refs, lost_links};
 
-use crate::entries::lost;
+use crate::entries::{is_lost, lost};
 use crate::staging::push_all;
 use closure::{Links, reach};
 use dataset::{DataSet, Draft};
@@ -58,7 +58,7 @@ fn push_if_lost(
 ) -> Result<(), AllocError>
     ensures { OnOk result (out.new.items ≡ out.old.items ++ filter (is_lost (drafted draft.now ds.now)) (key ∷ [])) }
 {
-    if lost(draft.entry(ds, key)).is_some() {
+    if is_lost(draft.entry(ds, key)) {
         out.push(key)?;
     }
     Ok(())
