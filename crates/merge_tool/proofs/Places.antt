@@ -26,7 +26,7 @@ use Rattle.merge_cases.specs.declared.verdict.Verdict.TheVariants.{Stay, Mention
 use Rattle.merge_cases.specs.Case.{verdict_of, is_withdrawn, all_join}
 use Rattle.merge_cases.specs.Join.{joined}
 use Rattle.merge_cases.proofs.Means.{Means, IsKept, IsOwn}
-use Rattle.merge_cases.proofs.JoinedOf.{If, TakesOver, joined_takes}
+use Rattle.merge_cases.proofs.JoinedOf.{TakesOver, joined_takes}
 use Rattle.tool_api.specs.Staged.{theirs_told, taken, withdrawn, against, with_theirs, all_joined, staged, is_candidate, lost_of, back, bared, is_dead}
 use Rattle.merge_tool.proofs.Rows.{SaysTold, says, theirs_by, verdict_by}
 

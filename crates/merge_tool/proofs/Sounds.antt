@@ -25,7 +25,7 @@ use Rattle.closure.specs.Closure.{has}
 use Rattle.merge_cases.specs.declared.verdict.Verdict.{Verdict}
 use Rattle.merge_cases.specs.declared.verdict.Verdict.TheVariants.{Stay, Mention, Take, Clash, Keep, Candidate, Settle, Join, Dispute}
 use Rattle.merge_cases.specs.Join.{joined}
-use Rattle.merge_cases.proofs.JoinedOf.{If, TakesOver, joined_takes}
+use Rattle.merge_cases.proofs.JoinedOf.{TakesOver, joined_takes}
 use Rattle.tool_api.specs.Staged.{verdict_at, theirs_at, staged, stage_of, with_theirs, against, all_joined, lost_of, refers_by}
 use Rattle.tool_api.specs.Merged.{both_keys, reached_keys, lost_content, wanted, held, named, final, merged}
 use Rattle.merge_tool.proofs.Rows.{theirs_by}
