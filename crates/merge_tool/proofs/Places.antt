@@ -17,7 +17,7 @@ use Rattle.osm_table.specs.declared.entry.Entry.{Entry}
 use Rattle.osm_table.specs.declared.entry.Entry.TheVariants.{Incomplete, Known}
 use Rattle.osm_table.specs.declared.told.Told.{Told}
 use Rattle.osm_table.specs.declared.told.Told.TheVariants as told
-use Rattle.osm_table.specs.Table.{held_by, known_base, version_of, IsPositive}
+use Rattle.osm_table.specs.Table.{held_by, known_base, version_of, IsPositive, IfContent}
 use Rattle.osm_table.specs.Told.{IsVersion, IsTold}
 use Rattle.dataset.specs.Sound.{IsSoundEntry, BaseFits, ConflictFits, WhyFits, IsLive, IsGiven, HasVersion, OfKind, FromTheServer}
 use Rattle.dataset.proofs.Changes.{incomplete_entry}
@@ -144,7 +144,7 @@ fits_or c t h e = by (fits c) (same_content c t) h e
     by false true i g = absurd (true≢false (sym g))
     by false false i g = i
 
-joined_entry : (n : ℕ) (k : Key) (v : ℕ) (m c : Content) (meta : Meta) (o : Option Content) → IsTold k (told.Live v c meta) → If o (TakesOver m c) → option_map_or (λ d. fits d || same_content d c) o false ≡ true → IsSoundEntry n k (Known (base.Live v c meta) o None)
+joined_entry : (n : ℕ) (k : Key) (v : ℕ) (m c : Content) (meta : Meta) (o : Option Content) → IsTold k (told.Live v c meta) → IfContent o (TakesOver m c) → option_map_or (λ d. fits d || same_content d c) o false ≡ true → IsSoundEntry n k (Known (base.Live v c meta) o None)
 joined_entry n k v m c meta None h t j = absurd (true≢false (sym j))
 joined_entry n k v m c meta (Some d) h t j = record { id = h.0; kinds = (h.2.0, t.kind ∙ h.2.0, tt); server = (h.2.1, tt); versions = (h.1, tt); limits = λ changed. fits_or d c j changed; conflict = tt }
 

@@ -16,7 +16,7 @@ use Rattle.osm_table.specs.declared.entry.Entry.{Entry}
 use Rattle.osm_table.specs.declared.entry.Entry.TheVariants.{Incomplete, Known}
 use Rattle.osm_table.specs.declared.told.Told.{Told}
 use Rattle.osm_table.specs.declared.told.Told.TheVariants as told
-use Rattle.osm_table.specs.Table.{TableValue, entry_of, held_by, Each, IsThere, IsPositive}
+use Rattle.osm_table.specs.Table.{TableValue, entry_of, held_by, Each, IsThere, IsPositive, IfContent}
 use Rattle.osm_table.specs.Told.{ToldEntries, IsTold, IsToldMap}
 use Rattle.dataset.specs.Exact.{mine_at}
 use Rattle.dataset.specs.Sound.{IsSound, IsSoundEntry, IsNumber, FromTheServer}
@@ -58,7 +58,7 @@ told_positive k (Some (told.Gone v meta)) q t h = absurd (true≢false (sym h))
 Ours : Option Entry → Key → Type 0
 Ours o q = (refers_by (mine_at o) q ≡ true) ⊎ IsPositive q.id
 
-joined_ours : (m c : Content) (o : Option Content) (q : Key) → If o (TakesOver m c) → refers_by o q ≡ true → (refers m q ≡ true) ⊎ (refers c q ≡ true)
+joined_ours : (m c : Content) (o : Option Content) (q : Key) → IfContent o (TakesOver m c) → refers_by o q ≡ true → (refers m q ≡ true) ⊎ (refers c q ≡ true)
 joined_ours m c None q t h = absurd (true≢false (sym h))
 joined_ours m c (Some d) q t h = t.refs q h
 
