@@ -1,4 +1,5 @@
 pub mod Cutting
+pub mod Fronts
 pub mod Unbroken
 pub mod ListsAgain
 pub mod Again

@@ -12,6 +12,7 @@
 
 mod fault;
 mod fields;
+mod front;
 mod law;
 mod letter;
 mod line;
@@ -24,12 +25,12 @@ mod writing;
 
 pub use fault::{LineAnswer, LineFault};
 pub use law::read_as_spelled;
-pub use line::{freed, is_blank, read_line};
+pub use line::{freed, read_line};
 pub use lists::{read_members, read_refs, read_tags};
 pub use mode::Mode;
 pub use object::{LineKind, OplObject};
 pub use opl_text::Pool;
-pub use pieces::cut;
+pub use pieces::{cut, is_blank};
 pub use writing::write_line;
 
 #[cfg(test)]

@@ -1,22 +1,9 @@
 //! Values of fields that take no memory.
 
 ghost use Rattle.std.specs.Prelude.{◌≡◌};
-ghost use Rattle.opl_line.specs.Field.{number_to, visible_text, place_text};
+ghost use Rattle.opl_line.specs.Field.{visible_text, place_text};
 
-use osm_base::{read_coord, read_digits};
-
-/// The number that 1 to 10 digits spell, up to a limit.
-#[tactic(auto, unfolding(crate::specs::Field::number_to))]
-pub fn number_to(text: &[u8], high: u32) -> Option<u32>
-    ensures { result ≡ number_to high text.now }
-{
-    let number = read_digits(text, 10)?;
-    if number <= u64::from(high) {
-        Some(number as u32)
-    } else {
-        None
-    }
-}
+use osm_base::read_coord;
 
 /// `V` or `D`.
 #[tactic(auto, unfolding(crate::specs::Field::visible_text))]
