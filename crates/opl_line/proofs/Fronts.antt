@@ -94,7 +94,7 @@ front_case most b front true is h =
     rw (short, d.1, p.1) refl
 front_case most b front false is h = let short : nat_le 0 most ≡ true = grind (arith, nat_tests) in rw short refl
 
-front_are_digits : (most : ℕ) (bytes : List ℕ) → are_digits most (front_digits most bytes) ≡ true
+pub front_are_digits : (most : ℕ) (bytes : List ℕ) → are_digits most (front_digits most bytes) ≡ true
 front_are_digits most [] = let short : nat_le 0 most ≡ true = grind (arith, nat_tests) in rw short refl
 front_are_digits most (b ∷ bytes) = front_case most b (front_digits (most - 1) bytes) (nat_lt 0 most && is_ascii_digit b) refl (front_are_digits (most - 1) bytes)
 

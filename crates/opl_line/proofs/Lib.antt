@@ -1,5 +1,6 @@
 pub mod Cutting
 pub mod Fronts
+pub mod Coordinates
 pub mod Unbroken
 pub mod ListsAgain
 pub mod Again

@@ -11,12 +11,13 @@ ghost use Rattle.opl_line.specs.Line.{is_blank};
 ghost use Rattle.opl_line.specs.Reads.{Gives};
 ghost use Rattle.opl_line.specs.Field.{version_into, visible_into, changeset_into, uid_into, time_into, user_into, x_into, y_into, tags_into, refs_into, members_into, named_into, field_into};
 
+use crate::degrees::place_front;
 use crate::fault::{LineAnswer, LineFault};
 use crate::front::number_front;
 use crate::letter::{Letter, has_field, letter_of};
 use crate::lists::{members_allowed, read_members, read_refs, read_tags, refs_allowed, text_at};
 use crate::mode::Mode;
-use crate::number::{read_place, read_visible};
+use crate::number::read_visible;
 use crate::object::Fields;
 use crate::pieces::{cut, is_blank};
 use opl_text::{Pool, TimeFault, read_time};
@@ -91,8 +92,7 @@ fn x_into<'t>(fields: &mut Fields, text: &'t [u8]) -> Result<Option<&'t [u8]>, L
     if fields.x.is_some() {
         return Err(LineAnswer::Bad(LineFault::FieldTwice));
     }
-    let (text, rest) = cut(text, b' ', b'\t');
-    let Some(value) = read_place(text, 1_800_000_000) else {
+    let Some((value, rest)) = place_front(text, 1_800_000_000) else {
         return Err(LineAnswer::Bad(LineFault::BadCoordinate));
     };
     fields.x = Some(value);
@@ -107,8 +107,7 @@ fn y_into<'t>(fields: &mut Fields, text: &'t [u8]) -> Result<Option<&'t [u8]>, L
     if fields.y.is_some() {
         return Err(LineAnswer::Bad(LineFault::FieldTwice));
     }
-    let (text, rest) = cut(text, b' ', b'\t');
-    let Some(value) = read_place(text, 900_000_000) else {
+    let Some((value, rest)) = place_front(text, 900_000_000) else {
         return Err(LineAnswer::Bad(LineFault::BadCoordinate));
     };
     fields.y = Some(value);

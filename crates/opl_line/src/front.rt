@@ -19,12 +19,14 @@ const MOST_ID: u64 = 1_000_000_000_000_000_000;
 
 /// The value of the decimal digits at the front, at most so many of them, their number, and the
 /// bytes behind them.
-fn digits_front(bytes: &[u8], most: usize) -> (u64, usize, &[u8])
+pub fn digits_front(bytes: &[u8], most: usize) -> (u64, usize, &[u8])
     requires { most ≤ 19 }
     ensures value { result.0 ≡ digits_value 10 (front_digits most bytes.now) }
     ensures count { result.1 ≡ length (front_digits most bytes.now) }
     ensures rest { result.2.now ≡ behind_digits most bytes.now }
     ensures below { result.0 < 10 ^ most }
+    ensures sharp { result.0 < 10 ^ result.1 }
+    ensures short { result.1 ≤ most }
 {
     let mut value = 0u64;
     let mut left = most;
@@ -43,7 +45,7 @@ fn digits_front(bytes: &[u8], most: usize) -> (u64, usize, &[u8])
 }
 
 /// The bytes behind the end of a piece, where it ends at once; `None` where it goes on.
-fn end_front(bytes: &[u8], a: u8, b: u8) -> Option<Option<&[u8]>>
+pub fn end_front(bytes: &[u8], a: u8, b: u8) -> Option<Option<&[u8]>>
     ensures { option_map (option_map (λ rest. rest.now)) result ≡ ended (is_one_of a b) bytes.now }
 {
     match bytes {

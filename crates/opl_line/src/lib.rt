@@ -10,6 +10,7 @@
 //! Lines are cut as they are read, by one function for every separator; no list of pieces is made.
 #![tactic(auto)]
 
+mod degrees;
 mod fault;
 mod fields;
 mod front;
