@@ -1,6 +1,7 @@
 pub mod Cutting
 pub mod Fronts
 pub mod Coordinates
+pub mod Times
 pub mod Unbroken
 pub mod ListsAgain
 pub mod Again

@@ -17,10 +17,11 @@ use crate::front::number_front;
 use crate::letter::{Letter, has_field, letter_of};
 use crate::lists::{members_allowed, read_members, read_refs, read_tags, refs_allowed, text_at};
 use crate::mode::Mode;
+use crate::moments::time_front;
 use crate::number::read_visible;
 use crate::object::Fields;
 use crate::pieces::{cut, is_blank};
-use opl_text::{Pool, TimeFault, read_time};
+use opl_text::Pool;
 use osm_base::Kind;
 
 #[tactic(auto, unfolding(crate::specs::Field::version_into))]
@@ -122,11 +123,8 @@ fn time_into<'t>(fields: &mut Fields, text: &'t [u8]) -> Result<Option<&'t [u8]>
     if fields.time.is_some() {
         return Err(LineAnswer::Bad(LineFault::FieldTwice));
     }
-    let (text, rest) = cut(text, b' ', b'\t');
-    let time = match read_time(text) {
-        Ok(time) => time,
-        Err(TimeFault::BadTime) => return Err(LineAnswer::Bad(LineFault::BadTime)),
-        Err(TimeFault::Memory) => return Err(LineAnswer::Memory),
+    let Some((time, rest)) = time_front(text) else {
+        return Err(LineAnswer::Bad(LineFault::BadTime));
     };
     fields.time = Some(time);
     Ok(rest)

@@ -19,6 +19,7 @@ mod letter;
 mod line;
 mod lists;
 mod mode;
+mod moments;
 mod number;
 mod object;
 mod pieces;
