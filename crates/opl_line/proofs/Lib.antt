@@ -1,6 +1,8 @@
 pub mod Cutting
 pub mod Fronts
 pub mod Coordinates
+pub mod Digits
+pub mod Items
 pub mod Times
 pub mod Unbroken
 pub mod ListsAgain

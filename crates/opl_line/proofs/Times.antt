@@ -1,22 +1,21 @@
 -- Times at the front of bytes.
 use Rattle.std.proofs.Common.{◌≡◌, ℕ, suc, ◌<◌, ◌≤◌, true, false, cond, List, [], ◌∷◌, ◌++◌, length, get_or, take, drop, Option, Some, None, refl, subst, ap, arith}
-use Rattle.std.specs.Prelude.{◌&&◌, ◌==◌, Bool, nat_le, slice_range, slice_index}
-use Rattle.std.specs.List.{list_all}
+use Rattle.std.specs.Prelude.{◌&&◌, ◌==◌, Bool, slice_range, slice_index}
 use Rattle.std.specs.Option.{option_map}
 use Rattle.std.specs.Char.{is_ascii_digit}
 use Rattle.std.proofs.Math.Seq.{drop-cons}
 use Rattle.std.proofs.lemmas.List.{take-append-drop}
 use Rattle.std.proofs.lemmas.List.Folds.{drop_split}
 use Rattle.std.proofs.lemmas.Grind.{common_steps}
-use Rattle.std.proofs.lemmas.Bool.{and_parts}
 use Rattle.std.proofs.lemmas.Bool.Decides.{nat_tests}
-use Rattle.osm_base.specs.Number.{number_text, number_test}
+use Rattle.osm_base.specs.Number.{number_text}
 use Rattle.osm_base.specs.declared.meta.Stamp.{Stamp}
 use Rattle.opl_text.specs.Time.{has_marks, parts_of, stamp_text, time_text, ◌>>=◌}
 use Rattle.opl_line.specs.Cut.{before, after}
 use Rattle.opl_line.specs.Front.{ended}
 use Rattle.opl_line.specs.Line.{is_blank}
-use Rattle.opl_line.proofs.Unbroken.{Unbroken, unbroken_append, unbroken_from}
+use Rattle.opl_line.proofs.Digits.{pass_some, number_unbroken}
+use Rattle.opl_line.proofs.Unbroken.{Unbroken, unbroken_append}
 
 -- ---- a piece that stands whole at the front
 
@@ -37,10 +36,6 @@ bind_some : {A B : Type 0} (o : Option A) (f : A → Option B) (y : B) → (o >>
 bind_some None f y e = absurd cc
 bind_some (Some x) f y e = (x, refl, e)
 
-pass_some : {A : Type 0} (t : Bool) (o : Option A) (x : A) → cond t o None ≡ Some x → (t ≡ true) × (o ≡ Some x)
-pass_some true o x e = (refl, e)
-pass_some false o x e = absurd cc
-
 map_some : (o : Option Stamp) (s : Stamp) → option_map (λ s. Some s) o ≡ Some (Some s) → o ≡ Some s
 map_some None s e = absurd cc
 map_some (Some t) s e = cc
@@ -48,16 +43,9 @@ map_some (Some t) s e = cc
 digit_no_blank : (b : ℕ) → is_ascii_digit b ≡ true → is_blank b ≡ false
 digit_no_blank b digit = grind (arith, nat_tests, digit)
 
-number_unbroken : (most : ℕ) (text : List ℕ) (n : ℕ) → number_text most text ≡ Some n → Unbroken is_blank text
-unfolding number_text
-number_unbroken most text n e =
-    let test = pass_some (number_test most text) _ n e in
-    let p = and_parts (nat_le 1 (length text) && nat_le (length text) most) (list_all is_ascii_digit text) test.0 in
-    unbroken_from is_ascii_digit is_blank text digit_no_blank p.1
-
 -- a part from a place on, and a mark at a place
 part_unbroken : (text : List ℕ) (most i j n : ℕ) → i ≤ j → number_text most (slice_range text i j) ≡ Some n → Unbroken is_blank (drop j text) → Unbroken is_blank (drop i text)
-part_unbroken text most i j n le e h = rw (drop_split text i j le) (unbroken_append is_blank (slice_range text i j) (drop j text) (number_unbroken most (slice_range text i j) n e) h)
+part_unbroken text most i j n le e h = rw (drop_split text i j le) (unbroken_append is_blank (slice_range text i j) (drop j text) (number_unbroken is_blank most (slice_range text i j) n digit_no_blank e) h)
 
 mark_unbroken : (text : List ℕ) (i mark : ℕ) → i < length text → (get_or text i 0 == mark) ≡ true → is_blank mark ≡ false → Unbroken is_blank (drop (suc i) text) → Unbroken is_blank (drop i text)
 mark_unbroken text i mark below e spared h =
