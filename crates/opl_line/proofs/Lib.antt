@@ -1,4 +1,9 @@
 pub mod Cutting
+pub mod Fronts
+pub mod Coordinates
+pub mod Digits
+pub mod Items
+pub mod Times
 pub mod Unbroken
 pub mod ListsAgain
 pub mod Again

@@ -1,5 +1,6 @@
 pub mod Cut
 pub mod Fault
+pub mod Front
 pub mod Field
 pub mod Line
 pub mod Reads

@@ -7,16 +7,23 @@
 //!
 //! Each field has one definition and one function of the same name (`version_into`). A new field
 //! wants a letter in `letter.rt`, a place in `Fields`, its function, and its value in `Spelling`.
-//! Lines are cut as they are read, by one function for every separator; no list of pieces is made.
+//! A line is read from the left, and no list of pieces is made. A function named for a `front` gives
+//! a value and the bytes behind the separator that ends it, so value and end are found in one pass:
+//! numbers in `front.rt`, coordinates in `degrees.rt`, times in `moments.rt`, references in
+//! `lists.rt`. The last three take the usual form so. They leave any other to the reader of whole
+//! pieces, which `cut` makes: a short cut, no grammar of its own.
 #![tactic(auto)]
 
+mod degrees;
 mod fault;
 mod fields;
+mod front;
 mod law;
 mod letter;
 mod line;
 mod lists;
 mod mode;
+mod moments;
 mod number;
 mod object;
 mod pieces;
@@ -24,12 +31,12 @@ mod writing;
 
 pub use fault::{LineAnswer, LineFault};
 pub use law::read_as_spelled;
-pub use line::{freed, is_blank, read_line};
+pub use line::{freed, read_line};
 pub use lists::{read_members, read_refs, read_tags};
 pub use mode::Mode;
 pub use object::{LineKind, OplObject};
 pub use opl_text::Pool;
-pub use pieces::cut;
+pub use pieces::{cut, is_blank};
 pub use writing::write_line;
 
 #[cfg(test)]

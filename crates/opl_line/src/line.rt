@@ -1,51 +1,52 @@
 //! Lines, read.
 
 ghost use Rattle.std.specs.Prelude.{◌≡◌, ◌≤◌, ◌<◌, [], Some, None, Ok, IfOk};
-ghost use Rattle.std.specs.Option.{unwrap_or};
+ghost use Rattle.std.specs.Option.{unwrap_or, option_map};
 ghost use Rattle.std.specs.List.{list_all};
 ghost use Rattle.opl_line.specs.Reads.{Gives, folded};
-ghost use Rattle.opl_line.specs.Cut.{split};
+ghost use Rattle.opl_line.specs.Cut.{split, before, after};
 ghost use Rattle.opl_line.specs.Field.{is_allowed, field_into};
 ghost use Rattle.opl_line.specs.Line.{is_blank, id_at, key_at, no_fields, version_of, location_of, content_of, side_of, completed, meta_of, object_of, freed, is_skipped, kind_of_line, line_of};
 ghost use Rattle.opl_line.specs.Writable.{IsReadObject};
 
 use crate::fault::{LineAnswer, LineFault};
 use crate::fields::field_into;
+use crate::front::id_front;
 use crate::mode::{Mode, is_allowed};
 use crate::object::{Fields, LineKind, OplObject};
-use crate::pieces::cut;
+use crate::pieces::is_blank;
 use opl_text::Pool;
-use osm_base::{
-    Content, Coord, Key, Kind, Members, Meta, Refs, Tags, Text, coord_of, kind_of, read_id,
-};
+use osm_base::{Content, Coord, Key, Kind, Members, Meta, Refs, Tags, Text, coord_of, kind_of};
 
 #[tactic(auto, unfolding(crate::specs::Line::id_at))]
-fn id_at(mode: Mode, text: &[u8]) -> Result<i64, LineAnswer>
-    ensures { Gives (λ id. id) result (id_at mode text.now) }
+fn id_at(mode: Mode, text: &[u8]) -> Result<(i64, Option<&[u8]>), LineAnswer>
+    ensures id { Gives (λ r. r.0) result (id_at mode (before is_blank text.now)) }
+    ensures rest { IfOk result (λ r. option_map (λ rest. rest.now) r.1 ≡ after is_blank text.now) }
 {
-    let Some(id) = read_id(text) else {
+    let Some((id, rest)) = id_front(text, b' ', b'\t') else {
         return Err(LineAnswer::Bad(LineFault::BadId));
     };
     if is_allowed(mode, id) {
-        Ok(id)
+        Ok((id, rest))
     } else {
         Err(LineAnswer::Bad(LineFault::NegativeId))
     }
 }
 
-/// The first field.
-#[tactic(auto, unfolding(crate::specs::Line::key_at))]
-fn key_at(mode: Mode, piece: &[u8]) -> Result<Key, LineAnswer>
-    ensures { Gives (λ key. key) result (key_at mode piece.now) }
+/// The first field, and the bytes behind the blank after it.
+#[tactic(auto, unfolding(crate::specs::Line::key_at), using(crate::proofs::Fronts::key_reads, crate::proofs::Fronts::key_leaves, crate::proofs::Fronts::kind_no_blank))]
+fn key_at(mode: Mode, line: &[u8]) -> Result<(Key, Option<&[u8]>), LineAnswer>
+    ensures key { Gives (λ r. r.0) result (key_at mode (before is_blank line.now)) }
+    ensures rest { IfOk result (λ r. option_map (λ rest. rest.now) r.1 ≡ after is_blank line.now) }
 {
-    let [first, text @ ..] = piece else {
+    let [first, text @ ..] = line else {
         return Err(LineAnswer::Bad(LineFault::BadStart));
     };
     let Some(kind) = kind_of(*first) else {
         return Err(LineAnswer::Bad(LineFault::BadStart));
     };
-    let id = id_at(mode, text)?;
-    Ok(Key { kind, id })
+    let (id, rest) = id_at(mode, text)?;
+    Ok((Key { kind, id }, rest))
 }
 
 fn no_fields() -> Fields
@@ -67,6 +68,7 @@ fn no_fields() -> Fields
 }
 
 /// Takes the fields between blanks in, one after the other.
+#[tactic(auto, using(crate::proofs::Fronts::split_front, crate::proofs::Fronts::behind_shorter))]
 fn fields_of(
     pool: &mut Pool,
     mode: Mode,
@@ -78,9 +80,7 @@ fn fields_of(
 {
     let mut rest = bytes;
     loop {
-        let (piece, after) = cut(rest, b' ', b'\t');
-        field_into(pool, mode, kind, fields, piece)?;
-        match after {
+        match field_into(pool, mode, kind, fields, rest)? {
             None => return Ok(()),
             Some(next) => rest = next,
         }
@@ -223,12 +223,11 @@ fn completed(pool: &mut Pool, key: Key, mut fields: Fields) -> Result<OplObject,
     })
 }
 
-#[tactic(auto, unfolding(crate::specs::Line::object_of))]
+#[tactic(auto, unfolding(crate::specs::Line::object_of), using(crate::proofs::Fronts::split_front))]
 fn object_of(pool: &mut Pool, mode: Mode, line: &[u8]) -> Result<OplObject, LineAnswer>
     ensures { Gives (λ object. object) result (object_of mode (split is_blank line.now)) }
 {
-    let (first, after) = cut(line, b' ', b'\t');
-    let key = key_at(mode, first)?;
+    let (key, after) = key_at(mode, line)?;
     let mut fields = no_fields();
     if let Some(rest) = after {
         fields_of(pool, mode, key.kind, &mut fields, rest)?;
@@ -245,13 +244,6 @@ pub fn freed(line: &[u8]) -> &[u8]
     } else {
         line
     }
-}
-
-/// Whether the byte is a space or a tab.
-pub fn is_blank(byte: u8) -> bool
-    ensures { result ≡ is_blank byte }
-{
-    byte == b' ' || byte == b'\t'
 }
 
 fn all_blank(line: &[u8]) -> bool
@@ -279,8 +271,7 @@ fn kind_of_line(pool: &mut Pool, mode: Mode, line: &[u8]) -> Result<LineKind, Li
 
 /// What a line (without its LF) is: skipped, an object, or its first fault from the left.
 ///
-/// Texts come from the pool, so that one that comes again is shared. The line is walked once by
-/// fields, and each field once.
+/// Texts come from the pool, so that one that comes again is shared. The line is walked once.
 ///
 /// # Errors
 /// `Bad` with the line's fault; `Memory` where memory ran out.

@@ -1,23 +1,24 @@
 //! Texts, tags, references and members of a line.
 //!
-//! A list is cut at its commas, and each item is read to its end before the next, so that the
-//! first broken thing decides.
+//! A list is read item by item, each to its end before the next, so that the first broken thing
+//! decides. A reference ends where its digits do; other items are cut at their commas.
 
-ghost use Rattle.std.specs.Prelude.{◌≡◌, [], is_some};
+ghost use Rattle.std.specs.Prelude.{◌≡◌, [], is_some, IfOk, IfSome, Some};
 ghost use Rattle.std.specs.List.{list_all};
 ghost use Rattle.std.specs.Option.{option_map};
 ghost use Rattle.opl_text.specs.Text.{unescaped};
 ghost use Rattle.opl_line.specs.declared.fault.LineFault.TheVariants as faults;
 ghost use Rattle.opl_line.specs.Reads.{Gives, or_fault, folded};
-ghost use Rattle.opl_line.specs.Cut.{is_one_of, split};
+ghost use Rattle.opl_line.specs.Cut.{is_one_of, split, before, after};
 ghost use Rattle.opl_line.specs.Field.{is_allowed, tag_into, tags_text, is_place, is_place_or_none, ref_text, ref_into, refs_text, member_at, member_into, members_text};
 
 use crate::fault::{LineAnswer, LineFault};
+use crate::front::id_front;
 use crate::mode::{Mode, is_allowed};
 use crate::number::read_place;
 use crate::pieces::cut;
 use opl_text::{Pool, read_escaped};
-use osm_base::{Key, Member, Members, Refs, Tags, Text, TextFault, kind_of, read_id};
+use osm_base::{Key, Member, Members, Refs, Tags, Text, TextFault, kind_of};
 
 /// The text of a field.
 pub fn text_at(pool: &mut Pool, text: &[u8]) -> Result<Text, LineAnswer>
@@ -116,8 +117,7 @@ fn read_ref(item: &[u8]) -> Option<i64>
     let [b'n', text @ ..] = item else {
         return None;
     };
-    let (id, place) = cut(text, b'x', b'x');
-    let id = read_id(id)?;
+    let (id, place) = id_front(text, b'x', b'x')?;
     if is_place_or_none(place) {
         Some(id)
     } else {
@@ -125,27 +125,57 @@ fn read_ref(item: &[u8]) -> Option<i64>
     }
 }
 
-#[tactic(auto, unfolding(crate::specs::Field::ref_into))]
-fn ref_into(refs: &mut Refs, item: &[u8]) -> Result<(), LineAnswer>
-    ensures { Gives (λ _. refs.new) result (ref_into refs.old item.now) }
+// `n` and an id. What isn't of this form may be a reference too.
+#[tactic(auto, using(crate::proofs::Items::ref_before, crate::proofs::Items::ref_after))]
+fn plain_ref(bytes: &[u8]) -> Option<(i64, Option<&[u8]>)>
+    ensures value { IfSome result (λ r. ref_text (before (is_one_of 44 44) bytes.now) ≡ Some r.0) }
+    ensures rest { IfSome result (λ r. option_map (λ rest. rest.now) r.1 ≡ after (is_one_of 44 44) bytes.now) }
 {
-    let Some(id) = read_ref(item) else {
+    let [first, text @ ..] = bytes else {
+        return None;
+    };
+    if *first != b'n' {
+        return None;
+    }
+    let (id, rest) = id_front(text, b',', b',')?;
+    Some((id, rest))
+}
+
+/// A reference, and what is behind the comma after it. Only one with a location is cut first.
+fn ref_front(bytes: &[u8]) -> Option<(i64, Option<&[u8]>)>
+    ensures value { option_map (λ r. r.0) result ≡ ref_text (before (is_one_of 44 44) bytes.now) }
+    ensures rest { IfSome result (λ r. option_map (λ rest. rest.now) r.1 ≡ after (is_one_of 44 44) bytes.now) }
+{
+    if let Some((id, rest)) = plain_ref(bytes) {
+        return Some((id, rest));
+    }
+    let (item, rest) = cut(bytes, b',', b',');
+    let id = read_ref(item)?;
+    Some((id, rest))
+}
+
+/// Takes a reference in, and gives what is behind the comma after it.
+#[tactic(auto, unfolding(crate::specs::Field::ref_into))]
+fn ref_into<'t>(refs: &mut Refs, bytes: &'t [u8]) -> Result<Option<&'t [u8]>, LineAnswer>
+    ensures taken { Gives (λ _. refs.new) result (ref_into refs.old (before (is_one_of 44 44) bytes.now)) }
+    ensures rest { IfOk result (λ rest. option_map (λ r. r.now) rest ≡ after (is_one_of 44 44) bytes.now) }
+{
+    let Some((id, rest)) = ref_front(bytes) else {
         return Err(LineAnswer::Bad(LineFault::BadRefs));
     };
     refs.push(id)?;
-    Ok(())
+    Ok(rest)
 }
 
 /// The references between commas.
+#[tactic(auto, using(crate::proofs::Fronts::split_front, crate::proofs::Fronts::behind_shorter))]
 fn all_refs(pool: &mut Pool, text: &[u8]) -> Result<Refs, LineAnswer>
     ensures { Gives (λ refs. refs) result (folded ref_into [] (split (is_one_of 44 44) text.now)) }
 {
     let mut refs = Refs::new(pool.allocator());
     let mut rest = text;
     loop {
-        let (item, after) = cut(rest, b',', b',');
-        ref_into(&mut refs, item)?;
-        match after {
+        match ref_into(&mut refs, rest)? {
             None => return Ok(refs),
             Some(next) => rest = next,
         }
@@ -184,8 +214,7 @@ fn member_at(pool: &mut Pool, item: &[u8]) -> Result<Member, LineAnswer>
     let Some(kind) = kind_of(*first) else {
         return Err(LineAnswer::Bad(LineFault::BadMembers));
     };
-    let (id, after) = cut(text, b'@', b'@');
-    let Some(id) = read_id(id) else {
+    let Some((id, after)) = id_front(text, b'@', b'@') else {
         return Err(LineAnswer::Bad(LineFault::BadMembers));
     };
     let Some(role) = after else {

@@ -1,22 +1,9 @@
 //! Values of fields that take no memory.
 
-ghost use Rattle.std.specs.Prelude.{◌≡◌};
-ghost use Rattle.opl_line.specs.Field.{number_to, visible_text, place_text};
+ghost use Rattle.std.specs.Prelude.{◌≡◌, nat_le, unsigned_abs, if◌then◌else◌, Some, None};
+ghost use Rattle.opl_line.specs.Field.{visible_text, place_text};
 
-use osm_base::{read_coord, read_digits};
-
-/// The number that 1 to 10 digits spell, up to a limit.
-#[tactic(auto, unfolding(crate::specs::Field::number_to))]
-pub fn number_to(text: &[u8], high: u32) -> Option<u32>
-    ensures { result ≡ number_to high text.now }
-{
-    let number = read_digits(text, 10)?;
-    if number <= u64::from(high) {
-        Some(number as u32)
-    } else {
-        None
-    }
-}
+use osm_base::read_coord;
 
 /// `V` or `D`.
 #[tactic(auto, unfolding(crate::specs::Field::visible_text))]
@@ -39,6 +26,13 @@ pub fn read_place(text: &[u8], limit: u32) -> Option<Option<i64>>
         return Some(None);
     }
     let value = read_coord(text)?;
+    in_range(value, limit)
+}
+
+/// The value as a coordinate, where it is of at most this size.
+pub fn in_range(value: i64, limit: u32) -> Option<Option<i64>>
+    ensures { result ≡ (if nat_le (unsigned_abs value) limit then Some (Some value) else None) }
+{
     if value.unsigned_abs() <= u64::from(limit) {
         Some(Some(value))
     } else {

@@ -3,11 +3,20 @@
 ghost use Rattle.std.specs.Prelude.{◌≡◌, ◌<◌, ◌∷◌, [], length, MatchOption};
 ghost use Rattle.std.specs.Option.{option_map};
 ghost use Rattle.opl_line.specs.Cut.{is_one_of, split, before, after};
+ghost use Rattle.opl_line.specs.Line.{is_blank};
 
-fn is_mark(a: u8, b: u8, byte: u8) -> bool
+/// Whether the byte is one of two.
+pub fn is_mark(a: u8, b: u8, byte: u8) -> bool
     ensures { result ≡ is_one_of a b byte }
 {
     byte == a || byte == b
+}
+
+/// Whether the byte is a space or a tab.
+pub fn is_blank(byte: u8) -> bool
+    ensures { result ≡ is_blank byte }
+{
+    byte == b' ' || byte == b'\t'
 }
 
 /// The piece before the first of two separators, and the bytes behind it where there is one.
