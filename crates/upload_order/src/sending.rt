@@ -24,14 +24,9 @@ fn up_known(key: Key, base: &Base, content: Content) -> Change
 {
     match base {
         Base::New => Change::Create { key, content },
-        Base::Live { version, .. } => Change::Modify {
+        _ => Change::Modify {
             key,
-            version: *version,
-            content,
-        },
-        Base::Gone { version, .. } => Change::Modify {
-            key,
-            version: *version,
+            version: base.version(),
             content,
         },
     }
