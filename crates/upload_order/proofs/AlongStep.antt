@@ -10,14 +10,15 @@ use Rattle.osm_table.specs.declared.entry.Entry.TheVariants.{Incomplete, Known}
 use Rattle.osm_table.specs.declared.entry.Base.TheVariants.{New, Live, Gone}
 use Rattle.osm_table.specs.Table.{TableValue, entry_of, mine_of, version_of, is_new}
 use Rattle.upload_order.specs.Rename.{Names, id_meant, meant, called, with_id, renamed}
-use Rattle.upload_order.specs.Words.{base_in, is_based}
 use Rattle.upload_order.specs.World.{World, WorldEntry, stands}
-use Rattle.upload_order.proofs.Basics.{one_key, key_self, key_same, decide, true_false, both, none_some}
+use Rattle.upload_order.proofs.Basics.{key_same, decide, true_false, both, none_some}
 use Rattle.upload_order.proofs.Renaming.{renamed_same}
 use Rattle.upload_order.proofs.Static.{IsUp, with_key}
 use Rattle.upload_order.proofs.Worlds.{grown, at_grown, off_grown}
 use Rattle.upload_order.proofs.Along.{Along, IsPut, IsPlace, up_based, at_is}
 use Rattle.upload_order.specs.Kinds.{at_key, is_rising}
+use Rattle.upload_order.specs.Bases.{base_in, is_based}
+use Rattle.osm_base.proofs.RisingKeys.{one_key, key_itself}
 
 new_rising : (e : Entry) (c : Content) → mine_of e ≡ Some c → is_new (base_in e) ≡ true → is_rising e ≡ true
 new_rising Incomplete c h g = cc
@@ -66,7 +67,7 @@ module _ (t : TableValue) (w0 w : World) (done : Key → Bool) (a : Along t w0 w
   put_here = record {
     place = q;
     means = means;
-    stood = at_grown w ns q _ _ q (key_self q) ∙ ap (λ (d : Content). let y : WorldEntry = record { version = version_of (base_in e) + 1; content = Some d } in Some y) (same_refs c before);
+    stood = at_grown w ns q _ _ q (key_itself q) ∙ ap (λ (d : Content). let y : WorldEntry = record { version = version_of (base_in e) + 1; content = Some d } in Some y) (same_refs c before);
     which = which;
   }
 
@@ -132,7 +133,7 @@ module _ (t : TableValue) (w0 w : World) (done : Key → Bool) (a : Along t w0 w
     others = λ x n. elim (a.others x n) [
       | inl same ↦ (elim (decide (is_key x q)) [
         | inl i ↦ (elim which [
-          | inl new ↦ inr (record { old = k; entry = e; content = c; is_up = up; was_new = new.0; is_done = with_on k k done (key_self k); means = means ∙ ap (λ (y : Key). Some y) (sym (one_key x q i)) })
+          | inl new ↦ inr (record { old = k; entry = e; content = c; is_up = up; was_new = new.0; is_done = with_on k k done (key_itself k); means = means ∙ ap (λ (y : Key). Some y) (sym (one_key x q i)) })
           | inr old ↦ true_false (at_key t is_based x) (at_is t is_based x e true (ap (entry_of t) (one_key x q i ∙ old.1) ∙ up.entry) (up_based e c up.mine old.0)) n
         ])
         | inr i ↦ inl (off_grown w ns q _ _ x i ∙ same)

@@ -14,11 +14,11 @@ use Rattle.upload_order.specs.declared.refusal.PlanRefusal.TheVariants.{Incomple
 use Rattle.upload_order.specs.Kinds.{at_key, held_of, is_rising, is_update, is_sent}
 use Rattle.upload_order.specs.Plan.{made, plan}
 use Rattle.upload_order.specs.Refused.{keeps, vouches, vouches_at, is_loose, refs_sent, loose_of, loose_among, stuck_of, open_refusal, loose_refusal, stuck_refusal, upload_refusal, unless, upload}
-use Rattle.upload_order.specs.Words.{IsVouched}
 use Rattle.upload_order.proofs.Basics.{or_left, or_right}
 use Rattle.upload_order.proofs.Entries.{IsIn, none_found, any_in}
 use Rattle.upload_order.proofs.Lists.{any_is}
 use Rattle.upload_order.proofs.PlanUps.{and_both, content_is}
+use Rattle.upload_order.proofs.Conditions.{IsVouched}
 
 or_none : {A : Type 0} (a b : Option A) → option_or a b ≡ None → (a ≡ None) × (b ≡ None)
 or_none None b e = (refl, e)

@@ -14,16 +14,18 @@ use Rattle.upload_order.specs.declared.change.Change.TheVariants.{Modify, Delete
 use Rattle.upload_order.specs.Rename.{called}
 use Rattle.upload_order.specs.Plan.{empty_relation, version_at, later, down_of}
 use Rattle.upload_order.proofs.Fitting.{fits_empty}
-use Rattle.upload_order.specs.Words.{base_in, is_based, Sound}
 use Rattle.upload_order.specs.Kinds.{held_of, at_key, is_falling}
 use Rattle.upload_order.specs.World.{World, WorldEntry, stands, content_in, content_at, user_of, Used, Missing, OldVersion, refusal, on_modify, on_delete, put_in, after, IsFresh, Accepts}
-use Rattle.upload_order.proofs.Basics.{one_key, decide, true_false, both, none_some, at_key_put, at_other}
+use Rattle.upload_order.proofs.Basics.{decide, true_false, both, none_some, at_key_put, at_other}
 use Rattle.upload_order.proofs.Static.{Left, set_left, IsDown, no_more, clear, remove}
 use Rattle.upload_order.specs.declared.down.Down.{Down}
 use Rattle.upload_order.specs.declared.down.Down.TheVariants.{Clear, Remove}
 use Rattle.upload_order.proofs.Worlds.{called_meant, unused}
 use Rattle.upload_order.proofs.Along.{means_itself, passed, at_is}
 use Rattle.upload_order.proofs.Ups.{nat_self, fit_content, same_version}
+use Rattle.upload_order.specs.Bases.{base_in, is_based}
+use Rattle.upload_order.proofs.Conditions.{Sound}
+use Rattle.osm_base.proofs.RisingKeys.{one_key}
 
 version_case : (e : Entry) → version_at (Some e) ≡ version_of (base_in e)
 version_case Incomplete = refl

@@ -17,13 +17,14 @@ use Rattle.upload_order.specs.declared.down.Down.TheVariants.{Remove}
 use Rattle.upload_order.specs.Counts.{Counts, has, changed_all, one_less, put_all, put_where, raised_by}
 use Rattle.upload_order.specs.Fall.{fall}
 use Rattle.upload_order.specs.Kinds.{held_at, held_refs, held_refers}
-use Rattle.upload_order.proofs.Keys.{or_right}
 use Rattle.osm_base.proofs.RankedKeys.{rises_ranked, named_ranked}
 use Rattle.upload_order.proofs.Counted.{AreCounts}
 use Rattle.upload_order.proofs.Starting.{counts_at_start, keys_at_start}
 use Rattle.upload_order.proofs.FallSteps.{waits, can_clear, items}
 use Rattle.upload_order.proofs.FallCounts.{any_alike, any_there, clearable_of}
-use Rattle.upload_order.proofs.FallTurns.{Falls, shorter, put_filter}
+use Rattle.upload_order.proofs.FallTurns.{Falls, put_filter}
+use Rattle.upload_order.proofs.Basics.{or_right}
+use Rattle.upload_order.proofs.Lists.{shorter}
 
 is_case : (b : Bool) (p : Key → Bool) (k : Key) (ks : List Key) → p k ≡ b → (b || list_any p ks) ≡ true → (list_any p ks ≡ true → (j : Key) × (is_in j ks ≡ true) × (p j ≡ true)) → (j : Key) × (is_in j (k ∷ ks) ≡ true) × (p j ≡ true)
 is_case true p k ks is h f = (k, ap (λ b. b || is_in k ks) (key_itself k), is)

@@ -13,13 +13,14 @@ mod Versions
 mod Changed
 mod Vouching
 mod Parts
-mod Basics
-mod Entries
+pub mod Basics
+mod Conditions
+pub mod Entries
 mod Lists
 mod Where
-mod Renaming
+pub mod Renaming
 mod Fitting
-mod Worlds
+pub mod Worlds
 mod Static
 mod Along
 mod AlongStep
@@ -29,8 +30,8 @@ mod Turn
 mod Peel
 mod PlanUps
 mod PlanDowns
-mod Runs
+pub mod Runs
 mod Sounds
 mod ClearLaw
-mod Accepted
+pub mod Accepted
 mod Examples

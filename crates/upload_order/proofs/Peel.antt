@@ -10,10 +10,11 @@ use Rattle.osm_table.specs.Table.{TableValue}
 use Rattle.upload_order.specs.Kinds.{mine_refers, content_refers, is_rising, at_key}
 use Rattle.dataset.specs.Exact.{mine_at}
 use Rattle.upload_order.specs.Order.{without, is_ready, peel_found, peel}
-use Rattle.upload_order.proofs.Basics.{one_key, key_self, key_same, decide, true_false}
+use Rattle.upload_order.proofs.Basics.{key_same, decide, true_false}
 use Rattle.upload_order.proofs.Entries.{IsIn, found_in, none_found, in_filter, filter_in}
 use Rattle.upload_order.proofs.Lists.{AreDistinct, distinct_filter, less_filter, any_of}
 use Rattle.upload_order.proofs.Static.{IsUp, IsOrdered, no_more, next, with_key}
+use Rattle.osm_base.proofs.RisingKeys.{one_key, key_itself}
 
 -- the keys done, with those of a list
 abbrev pub all_with : List Key → (Key → Bool) → Key → Bool
@@ -149,7 +150,7 @@ module _ (t : TableValue) where
     by_found go None e j = is_not (list_any (mine_refers t k) left) (none_found (is_ready (mine_refers t) left) left k e j)
     by_found go (Some q) e j =
         let f = found_in (is_ready (mine_refers t) left) left q e in
-        let less = less_filter (λ x. not (is_key x q)) left q f.0 (not_is (is_key q q) (key_self q)) in
+        let less = less_filter (λ x. not (is_key x q)) left q f.0 (not_is (is_key q q) (key_itself q)) in
         go (without q left) (omega (arith, h, less)) k j
 
   -- and each set of keys that do is among the stuck ones

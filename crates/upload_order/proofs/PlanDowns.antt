@@ -10,18 +10,19 @@ use Rattle.osm_base.specs.declared.content.Content.{Content}
 use Rattle.osm_table.specs.declared.entry.Entry.{Entry}
 use Rattle.osm_table.specs.Table.{TableValue, entry_of}
 use Rattle.upload_order.specs.Kinds.{held_of, content_refers, held_at, held_refers, is_falling, at_key}
-use Rattle.upload_order.specs.Words.{Sound}
 use Rattle.upload_order.proofs.Where.{falling_both, falling_self, falling_of, keys_where, falling_items, distinct_where, in_where, where_in}
 use Rattle.upload_order.specs.Fall.{Item, item_uses, is_unused, uses_some, without_item, emptied, fall, fall_next, fall_clear}
 use Rattle.upload_order.specs.Plan.{plain_removes, downs}
 use Rattle.upload_order.specs.declared.down.Down.{Down}
-use Rattle.upload_order.proofs.Basics.{one_key, key_self, key_same, decide, true_false, both, none_some}
+use Rattle.upload_order.proofs.Basics.{key_same, decide, true_false, both, none_some}
 use Rattle.upload_order.proofs.Entries.{IsIn, found_in, none_found, in_filter, filter_in, in_map, map_in}
 use Rattle.upload_order.proofs.Lists.{AreDistinct, any_of, any_is}
 use Rattle.upload_order.proofs.Static.{Left, set_left, IsDown, no_more, clear, remove}
 use Rattle.upload_order.proofs.Along.{passed, at_is}
 use Rattle.upload_order.proofs.Turn.{start_left, to_go}
 use Rattle.upload_order.proofs.PlanUps.{kind_is, kind_self, and_both, node_refs, way_refs}
+use Rattle.upload_order.proofs.Conditions.{Sound}
+use Rattle.osm_base.proofs.RisingKeys.{one_key, key_itself}
 
 -- each step is worth one of these
 abbrev pub worth : Bool → ℕ
@@ -133,7 +134,7 @@ module _ (t : TableValue) (s : Sound t) where
         subst (λ (y : Item). set_left i.0 (Some true) left y.0 ≡ Some y.1) f.2 (mark_left (is_key f.0.0 i.0) f.0.1 (left f.0.0) (l.lefts f.0 f.1));
   } where
     mark_here : (q : Key) (i : Item) (k : Key) (b : Bool) → k ≡ i.0 → true ≡ b → emptied i.0 i ≡ (k, b)
-    mark_here q i k b e f = λ x. (sym e x, (ap (λ c. cond c true i.1) (key_self i.0) ∙ f) x)
+    mark_here q i k b e f = λ x. (sym e x, (ap (λ c. cond c true i.1) (key_itself i.0) ∙ f) x)
 
     mark_off : (q k : Key) (b : Bool) → is_key k q ≡ false → emptied q (k, b) ≡ (k, b)
     mark_off q k b e = λ x. (k, ap (λ c. cond c true b) e x)
@@ -196,7 +197,7 @@ module _ (t : TableValue) (s : Sound t) where
       let f = found_in (is_unused (held_refers t) items) items i e in
       let x = l.falls i f.0 in
       let y = passed is_falling (entry_of t i.0) x.0 in
-      let lighter = lighter_drop (λ j. not (is_key j.0 i.0)) items i f.0 (not_is (is_key i.0 i.0) (key_self i.0)) in
+      let lighter = lighter_drop (λ j. not (is_key j.0 i.0)) items i f.0 (not_is (is_key i.0 i.0) (key_itself i.0)) in
       let r = go (without_item i.0 items) (set_left i.0 None left) (omega (arith, h, lighter)) (dropped left items i l f.0) in (
         r.0,
         remove left r.0 i.0 i.1 _ y.0 y.1 y.2 (l.lefts i f.0) (λ u k c a b d. elim (kinds u.kind) [

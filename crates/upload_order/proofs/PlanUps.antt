@@ -10,7 +10,6 @@ use Rattle.osm_table.specs.declared.entry.Entry.{Entry}
 use Rattle.osm_table.specs.declared.entry.Entry.TheVariants.{Incomplete, Known}
 use Rattle.osm_table.specs.declared.entry.Base.TheVariants.{New, Live, Gone}
 use Rattle.osm_table.specs.Table.{TableValue, entry_of, mine_of, is_new, is_incomplete}
-use Rattle.upload_order.specs.Words.{base_in, Sound}
 use Rattle.upload_order.proofs.Where.{rising_both, rising_self, rising_of, keys_where, distinct_where, in_where, where_in}
 use Rattle.upload_order.specs.Kinds.{mine_refers, content_refers, at_key, is_rising, is_update}
 use Rattle.dataset.specs.Exact.{mine_at}
@@ -21,6 +20,8 @@ use Rattle.upload_order.proofs.Static.{IsUp, IsOrdered}
 use Rattle.upload_order.proofs.Along.{passed, at_is}
 use Rattle.upload_order.proofs.Peel.{all_with, all_done, all_in, all_cases, ordered_more, part_ordered, peel_ordered, peel_all, peel_from}
 use Rattle.upload_order.proofs.Turn.{not_update}
+use Rattle.upload_order.specs.Bases.{base_in}
+use Rattle.upload_order.proofs.Conditions.{Sound}
 
 abbrev pub kind_is : Kind → Kind → Bool
 kind_is kind.Node kind.Node = true

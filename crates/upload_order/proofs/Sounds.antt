@@ -14,9 +14,10 @@ use Rattle.osm_table.specs.Table.{TableValue, entry_of, mine_of, held_by, is_new
 use Rattle.dataset.specs.Sound.{IsSound, IsSoundEntry, IsGiven}
 use Rattle.upload_order.specs.Kinds.{held_of}
 use Rattle.upload_order.specs.Rename.{is_positive}
-use Rattle.upload_order.specs.Words.{base_in, is_based, Sound}
 use Rattle.upload_order.proofs.Changed.{changed_up}
 use Rattle.upload_order.proofs.Entries.{IsIn, any_in}
+use Rattle.upload_order.specs.Bases.{base_in, is_based}
+use Rattle.upload_order.proofs.Conditions.{Sound}
 
 there_case : (o : Option Entry) → IsThere o → (option_map_or is_incomplete o false ≡ true) ⊎ ((f : Entry) × (d : Content) × (o ≡ Some f) × (mine_of f ≡ Some d))
 there_case None h = absurd h

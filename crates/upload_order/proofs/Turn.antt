@@ -8,7 +8,6 @@ use Rattle.osm_table.specs.declared.entry.Entry.TheVariants.{Incomplete, Known}
 use Rattle.osm_table.specs.declared.entry.Base.TheVariants.{New, Live, Gone}
 use Rattle.osm_table.specs.Table.{TableValue, entry_of, mine_of, version_of, is_new, is_incomplete}
 use Rattle.upload_order.specs.Rename.{Names, meant, called, renamed}
-use Rattle.upload_order.specs.Words.{base_in, is_based, Sound, IsVouched}
 use Rattle.upload_order.specs.Kinds.{held_of, at_key, is_rising, is_update, is_falling}
 use Rattle.osm_base.specs.Same.{same_content}
 use Rattle.osm_base.proofs.SameLaws.{same_content_decides}
@@ -23,6 +22,8 @@ use Rattle.upload_order.proofs.Along.{Along, IsPut, passed, at_is, means_itself,
 use Rattle.upload_order.proofs.Ups.{ups_accepted, accepts_more, accepts_weaker}
 use Rattle.upload_order.proofs.Downs.{Falling, content_left, falling_based, downs_accepted}
 use Rattle.std.specs.Option.{option_map_or}
+use Rattle.upload_order.specs.Bases.{base_in, is_based}
+use Rattle.upload_order.proofs.Conditions.{Sound, IsVouched}
 
 same_law : (a b : Content) → same_content a b ≡ true → a ≡ b
 same_law a b h = (same_content_decides a b).0 h

@@ -14,15 +14,17 @@ use Rattle.osm_table.specs.Table.{TableValue, entry_of, mine_of, version_of, is_
 use Rattle.upload_order.specs.declared.change.Change.{Change}
 use Rattle.upload_order.specs.declared.change.Change.TheVariants.{Create, Modify}
 use Rattle.upload_order.specs.Rename.{named, called, with_id, renamed, is_positive}
-use Rattle.upload_order.specs.Words.{base_in, Sound, IsVouched}
 use Rattle.upload_order.specs.Kinds.{held_of, at_key, is_rising}
 use Rattle.upload_order.specs.World.{World, stands, bad_ref, BadRef, Exists, Unfit, OldVersion, refusal, on_content, on_modify, after, Backs, IsFresh, Accepts}
-use Rattle.upload_order.proofs.Basics.{both, key_self, true_false}
+use Rattle.upload_order.proofs.Basics.{both, true_false}
 use Rattle.upload_order.proofs.Static.{IsUp, IsOrdered, no_more, next, with_key}
 use Rattle.upload_order.specs.Plan.{up_entry, up_of}
 use Rattle.upload_order.proofs.Worlds.{no_bad_ref, grown, called_meant}
 use Rattle.upload_order.proofs.Along.{Along, up_based, mine_known, means_itself, all_reached}
 use Rattle.upload_order.proofs.AlongStep.{along_step}
+use Rattle.upload_order.specs.Bases.{base_in}
+use Rattle.upload_order.proofs.Conditions.{Sound, IsVouched}
+use Rattle.osm_base.proofs.RisingKeys.{key_itself}
 
 up_case : (k : Key) (e : Entry) (c : Content) → mine_of e ≡ Some c → up_entry k (Some e) ≡ cond (is_new (base_in e)) (Create k c) (Modify k (version_of (base_in e)) c)
 up_case k Incomplete c h = cc
@@ -85,7 +87,7 @@ module _ (t : TableValue) (s : Sound t) (v : IsVouched t) (w0 : World) (backs : 
         let ns = (k, p) ∷ w.names in
         let one = sym (new_version (base_in e) n) in
         let along = along_step t w0 w done a k e c up free before q ns
-        (first_name k (is_positive k.id) (is_key k k) p (named w.names k) (s.negative k e up.entry n (mine_known e c up.mine)).0 (key_self k))
+        (first_name k (is_positive k.id) (is_key k k) p (named w.names k) (s.negative k e up.entry n (mine_known e c up.mine)).0 (key_itself k))
         (λ j h. skip_name (is_positive j.id) (is_key j k) j.id p (named w.names j) (h n))
         (inl (n, f.2)) (λ _. f.1) in
         (ok, subst (λ (m : ℕ). Along t w0 (grown w ns q m (renamed (called w.names) c)) (with_key k done)) (sym one) along)

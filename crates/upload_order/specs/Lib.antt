@@ -7,6 +7,6 @@ pub mod Part
 pub mod Plan
 pub mod Refused
 pub mod Rename
-pub mod Words
+pub mod Bases
 pub mod World
 pub mod Run

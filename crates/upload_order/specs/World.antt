@@ -14,7 +14,7 @@ use Rattle.upload_order.specs.declared.change.Change.{Change}
 use Rattle.upload_order.specs.declared.change.Change.TheVariants.{Create, Modify, Delete}
 use Rattle.upload_order.specs.Rename.{Names, meant, called, with_id, renamed, is_positive}
 use Rattle.upload_order.specs.Kinds.{held_of, at_key, is_falling, is_rising}
-use Rattle.upload_order.specs.Words.{base_in, is_based, IsHeldUser}
+use Rattle.upload_order.specs.Bases.{base_in, is_based, IsHeldUser}
 
 pub record WorldEntry : Type 0 where
   pub version : ℕ

@@ -1,29 +1,13 @@
--- Words on the bases of a table.
-use Rattle.std.specs.Prelude.{◌≡◌, Bool, true, false, not, ◌⊎◌, Some}
+-- What an upload needs of a sound table, and of one that isn't refused.
+use Rattle.std.specs.Prelude.{◌≡◌, true, false, ◌⊎◌, Some}
 use Rattle.osm_base.specs.Content.{refers, kind_of_content, fits}
 use Rattle.osm_base.specs.declared.key.Key.{Key}
 use Rattle.osm_base.specs.declared.content.Content.{Content}
-use Rattle.osm_table.specs.declared.entry.Base.{Base}
-use Rattle.osm_table.specs.declared.entry.Base.TheVariants.{New}
 use Rattle.osm_table.specs.declared.entry.Entry.{Entry}
-use Rattle.osm_table.specs.declared.entry.Entry.TheVariants.{Incomplete, Known}
 use Rattle.osm_table.specs.Table.{TableValue, entry_of, is_incomplete, is_new, mine_of}
+use Rattle.upload_order.specs.Bases.{base_in, is_based, IsHeldUser}
 use Rattle.upload_order.specs.Kinds.{at_key, held_of, is_rising, is_update}
 use Rattle.upload_order.specs.Rename.{is_positive}
-
--- the state that the edits began from, New where the entry is Incomplete
-abbrev pub base_in : Entry → Base
-base_in Incomplete = New
-base_in (Known base mine conflict) = base
-
--- an entry that is Known, and not New
-abbrev pub is_based : Entry → Bool
-is_based Incomplete = false
-is_based (Known base mine conflict) = not (is_new base)
-
--- some base holds a content that refers to the key
-abbrev pub IsHeldUser : TableValue → Key → Type 0
-IsHeldUser t r = (u : Key) × (e : Entry) × (b : Content) × (entry_of t u ≡ Some e) × (held_of e ≡ Some b) × (refers b r ≡ true)
 
 -- the conditions of a sound table that the upload rests on
 pub record Sound (t : TableValue) : Type 0 where
