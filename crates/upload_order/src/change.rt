@@ -71,6 +71,13 @@ impl Changes {
         self.items.len()
     }
 
+    /// The changes, in order.
+    pub fn as_slice(&self) -> &[Change]
+        ensures { result.now ≡ self.now }
+    {
+        self.items.as_slice()
+    }
+
     /// The change at a place, counted from 0.
     pub fn change_at(&self, at: usize) -> &Change
         requires { at < length self.now }

@@ -86,3 +86,40 @@ fn relations(alloc: Global, ds: &DataSet, changed: &[Key]) -> Result<Order, Allo
     let order = order_of(alloc, ds, &relations)?;
     Ok(order)
 }
+
+#[cfg(test)]
+mod tests {
+    use super::*;
+    use crate::change::Change;
+    use osm_base::Kind;
+    use std::test::Fail;
+
+    fn sent(ds: &DataSet) -> Result<usize, AllocError> {
+        let Ok(changes) = plan(ds) else {
+            return Err(AllocError);
+        };
+        Ok(changes.len())
+    }
+
+    #[test]
+    fn a_data_set_without_objects_sends_nothing(rt: HostRuntime) -> Result<(), Fail> {
+        let ds = DataSet::new(rt.alloc());
+        assert_eq!(rt; sent(&ds)?, 0);
+        Ok(())
+    }
+
+    #[test]
+    fn changes_stand_in_order(rt: HostRuntime) -> Result<(), Fail> {
+        let mut changes = Changes::new(rt.alloc());
+        for version in [2, 5] {
+            let key = Key {
+                kind: Kind::Node,
+                id: 7,
+            };
+            changes.push(Change::Delete { key, version })?;
+        }
+        assert_eq!(rt; changes.len(), 2);
+        assert!(rt; matches!(changes.change_at(1), Change::Delete { version: 5, .. }));
+        Ok(())
+    }
+}
