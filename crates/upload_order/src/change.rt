@@ -85,4 +85,9 @@ impl Changes {
     {
         &self.items[at]
     }
+
+    /// The allocator that it takes its memory from.
+    pub fn alloc(&self) -> Global {
+        *self.items.allocator()
+    }
 }
