@@ -1,0 +1,139 @@
+-- Between the table, the world at the start and the world now, while objects are created and changed.
+use Rattle.std.proofs.Common.{◌≡◌, ◌+◌, ℤ, Bool, true, false, cond, Option, Some, None, is_some, refl, sym, ◌∙◌, ap, ◌⊎◌, inl, inr}
+use Rattle.std.specs.Option.{option_map, option_map_or}
+use Rattle.osm_base.specs.Content.{refers}
+use Rattle.osm_base.specs.declared.key.Key.{Key}
+use Rattle.osm_base.specs.declared.content.Content.{Content}
+use Rattle.osm_table.specs.declared.entry.Entry.{Entry}
+use Rattle.osm_table.specs.declared.entry.Entry.TheVariants.{Incomplete, Known}
+use Rattle.osm_table.specs.declared.entry.Base.TheVariants.{New, Live, Gone}
+use Rattle.osm_table.specs.Table.{TableValue, entry_of, mine_of, version_of, is_new, is_incomplete}
+use Rattle.upload_order.specs.Rename.{Names, named, meant, called, with_id, renamed, is_positive}
+use Rattle.upload_order.specs.Kinds.{held_of, at_key, is_rising}
+use Rattle.upload_order.specs.World.{World, stands, content_in, content_at, has_content, reaches, Backs}
+use Rattle.upload_order.proofs.Basics.{decide, true_false, both, none_some}
+use Rattle.upload_order.proofs.Static.{IsUp}
+use Rattle.upload_order.specs.Bases.{base_in, is_based, IsHeldUser}
+use Rattle.upload_order.proofs.Conditions.{Sound, IsVouched}
+
+-- where the object of a key stands: under a pick, or under the key
+abbrev pub IsPlace : TableValue → Key → Entry → Key → Type 0
+IsPlace t k e q = ((is_new (base_in e) ≡ true) × (entry_of t q ≡ None)) ⊎ ((is_new (base_in e) ≡ false) × (q ≡ k))
+
+-- the object of a key stands in the world with its new content
+pub record IsPut (t : TableValue) (w : World) (k : Key) (e : Entry) (c : Content) : Type 0 where
+  pub place : Key
+  pub means : meant w.names k ≡ Some place
+  pub stood : stands w place ≡ Some (record { version = version_of (base_in e) + 1; content = Some (renamed (called w.names) c) })
+  pub which : IsPlace t k e place
+
+-- the key is a pick
+pub record IsPick (t : TableValue) (w : World) (done : Key → Bool) (q : Key) : Type 0 where
+  pub old : Key
+  pub entry : Entry
+  pub content : Content
+  pub is_up : IsUp t old entry content
+  pub was_new : is_new (base_in entry) ≡ true
+  pub is_done : done old ≡ true
+  pub means : meant w.names old ≡ Some q
+
+pub record Along (t : TableValue) (w0 w : World) (done : Key → Bool) : Type 0 where
+  pub ups : (k : Key) → done k ≡ true → (e : Entry) × (c : Content) × IsUp t k e c
+  pub closed : (k r : Key) (e : Entry) (c : Content) → done k ≡ true → IsUp t k e c → refers c r ≡ true → at_key t is_rising r ≡ true → done r ≡ true
+  pub put : (k : Key) (e : Entry) (c : Content) → done k ≡ true → IsUp t k e c → IsPut t w k e c
+  pub waiting : (k : Key) (e : Entry) → entry_of t k ≡ Some e → is_based e ≡ true → done k ≡ false → stands w k ≡ Some (record { version = version_of (base_in e); content = held_of e })
+  pub others : (q : Key) → at_key t is_based q ≡ false → (stands w q ≡ stands w0 q) ⊎ IsPick t w done q
+
+pub based_is : (e : Entry) → is_based e ≡ true → (is_new (base_in e) ≡ false) × (is_incomplete e ≡ false)
+based_is Incomplete h = cc
+based_is (Known New m c) h = cc
+based_is (Known (Live v b n) m c) h = (refl, refl)
+based_is (Known (Gone v n) m c) h = (refl, refl)
+
+pub not_based : (e : Entry) → is_new (base_in e) ≡ true → is_based e ≡ false
+not_based Incomplete h = refl
+not_based (Known New m c) h = refl
+not_based (Known (Live v b n) m c) h = cc
+not_based (Known (Gone v n) m c) h = cc
+
+pub up_based : (e : Entry) (c : Content) → mine_of e ≡ Some c → is_new (base_in e) ≡ false → is_based e ≡ true
+up_based Incomplete c h g = cc
+up_based (Known New m d) c h g = cc
+up_based (Known (Live v b n) m d) c h g = refl
+up_based (Known (Gone v n) m d) c h g = refl
+
+pub mine_known : (e : Entry) (c : Content) → mine_of e ≡ Some c → is_incomplete e ≡ false
+mine_known Incomplete c h = cc
+mine_known (Known b m d) c h = refl
+
+pub incomplete_not_based : (e : Entry) → is_incomplete e ≡ true → is_based e ≡ false
+incomplete_not_based Incomplete h = refl
+incomplete_not_based (Known b m d) h = cc
+
+-- an entry that lives is rising, or its base holds a content
+pub data Living (e : Entry) : Type 0 where
+  rises : is_rising e ≡ true → Living e
+  lives : (c : Content) → is_based e ≡ true → held_of e ≡ Some c → Living e
+
+pub living : (e : Entry) (c : Content) → mine_of e ≡ Some c → Living e
+living Incomplete c h = cc
+living (Known New m d) c h = rises refl
+living (Known (Live v b n) m d) c h = lives b refl refl
+living (Known (Gone v n) None d) c h = cc
+living (Known (Gone v n) (Some m) d) c h = rises refl
+
+pub passed : (test : Entry → Bool) (o : Option Entry) → option_map_or test o false ≡ true → (e : Entry) × (o ≡ Some e) × (test e ≡ true)
+passed test None h = cc
+passed test (Some e) h = (e, refl, h)
+
+pub at_is : (t : TableValue) (test : Entry → Bool) (k : Key) (e : Entry) (b : Bool) → entry_of t k ≡ Some e → test e ≡ b → at_key t test k ≡ b
+at_is t test k e b h g = ap (λ (o : Option Entry). option_map_or test o false) h ∙ g
+
+positive_means : (b : Bool) (r : Key) (o : Option ℤ) → b ≡ true → option_map (with_id r) (cond b (Some r.id) o) ≡ Some r
+positive_means true r o e = refl
+positive_means false r o e = cc
+
+-- a positive key means itself
+pub means_itself : (ns : Names) (r : Key) → is_positive r.id ≡ true → meant ns r ≡ Some r
+means_itself ns r e = positive_means (is_positive r.id) r (named ns r) e
+
+reach_by : (w : World) (r q : Key) (d : Content) → meant w.names r ≡ Some q → content_at w q ≡ Some d → reaches w r ≡ true
+reach_by w r q d e f = ap (has_content w) e ∙ ap is_some f
+
+module _ (t : TableValue) (s : Sound t) (v : IsVouched t) (w0 w : World) (backs : Backs w0 t) where
+  -- each reference of what is to be sent next has a name and a content
+  incomplete_stands : (done : Key → Bool) → Along t w0 w done → (r : Key) → at_key t is_incomplete r ≡ true → IsHeldUser t r → reaches w r ≡ true
+  incomplete_stands done a r i u =
+      let p = passed is_incomplete (entry_of t r) i in
+      let there = backs r i u in
+      let here : stands w r ≡ stands w0 r =
+      elim (a.others r (at_is t is_based r p.0 false p.1 (incomplete_not_based p.0 p.2))) [
+        | inl same ↦ same
+        | inr pick ↦ pick_apart done a r p.0 pick p.1
+      ] in
+      reach_by w r r there.0 (means_itself w.names r (s.positive r p.0 p.1 (inl p.2))) (ap content_in here ∙ there.1) where
+        pick_apart : {P : Type 0} (done : Key → Bool) → Along t w0 w done → (q : Key) (f : Entry) → IsPick t w done q → entry_of t q ≡ Some f → P
+        pick_apart done a q f pick h =
+            let b = a.put pick.old pick.entry pick.content pick.is_done pick.is_up in
+            let same : b.place ≡ q = both b.place q (meant w.names pick.old) b.means pick.means in
+            elim b.which [
+              | inl n ↦ none_some f (entry_of t q) (ap (entry_of t) (sym same) ∙ n.1) h
+              | inr n ↦ true_false (is_new (base_in pick.entry)) pick.was_new n.0
+            ]
+
+  pub all_reached : (done : Key → Bool) → Along t w0 w done → (k : Key) (e : Entry) (c : Content) → IsUp t k e c → ((r : Key) → refers c r ≡ true → at_key t is_rising r ≡ true → done r ≡ true) → (r : Key) → refers c r ≡ true → reaches w r ≡ true
+  all_reached done a k e c up before r h =
+      elim (s.refs k r e c up.entry up.mine h) [
+        | inl i ↦ incomplete_stands done a r i (v k r e c up.entry up.mine up.up h i)
+        | inr l ↦ (
+            elim (living l.0 l.1 l.3) [
+              | rises rising ↦ (let d = before r h (at_is t is_rising r l.0 true l.2 rising) in done_reached done a r d)
+              | lives b based held ↦ (
+                  elim (decide (done r)) [
+                    | inl d ↦ done_reached done a r d
+                    | inr n ↦ reach_by w r r b (means_itself w.names r (s.positive r l.0 l.2 (inr based))) (ap content_in (a.waiting r l.0 l.2 based n) ∙ held)
+                  ])
+            ])
+      ] where
+        done_reached : (done : Key → Bool) → Along t w0 w done → (r : Key) → done r ≡ true → reaches w r ≡ true
+        done_reached done a r d = let u = a.ups r d in let p = a.put r u.0 u.1 d u.2 in reach_by w r p.place _ p.means (ap content_in p.stood)

@@ -1,0 +1,12 @@
+pub mod Order
+pub mod Counts
+pub mod Kinds
+pub mod Fall
+pub mod First
+pub mod Part
+pub mod Plan
+pub mod Refused
+pub mod Rename
+pub mod Bases
+pub mod World
+pub mod Run

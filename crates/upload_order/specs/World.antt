@@ -1,0 +1,134 @@
+-- A server that takes changes one at a time.
+use Rattle.std.specs.Prelude.{◌≡◌, ℕ, ◌+◌, nat_eq, ℤ, Bool, true, false, not, if◌then◌else◌, List, [], ◌∷◌, Option, Some, None, is_some, ◌⊎◌}
+use Rattle.std.specs.List.{find}
+use Rattle.std.specs.Option.{option_map_or, option_map}
+use Rattle.std.specs.FinMap as fin
+use Rattle.osm_base.specs.Rank.{rank_cmp}
+use Rattle.osm_base.specs.Content.{refs_of, refers, fits}
+use Rattle.osm_base.specs.declared.key.Key.{Key}
+use Rattle.osm_base.specs.declared.content.Content.{Content}
+use Rattle.osm_table.specs.declared.entry.Entry.{Entry}
+use Rattle.osm_table.specs.declared.entry.Entry.TheVariants.{Incomplete, Known}
+use Rattle.osm_table.specs.Table.{TableValue, entry_of, mine_of, version_of, is_incomplete}
+use Rattle.upload_order.specs.declared.change.Change.{Change}
+use Rattle.upload_order.specs.declared.change.Change.TheVariants.{Create, Modify, Delete}
+use Rattle.upload_order.specs.Rename.{Names, meant, called, with_id, renamed, is_positive}
+use Rattle.upload_order.specs.Kinds.{held_of, at_key, is_falling, is_rising}
+use Rattle.upload_order.specs.Bases.{base_in, is_based, IsHeldUser}
+
+pub record WorldEntry : Type 0 where
+  pub version : ℕ
+  pub content : Option Content
+
+pub record World : Type 0 where
+  pub entries : fin.FinMap rank_cmp WorldEntry
+  pub names : Names
+
+abbrev pub stands : World → Key → Option WorldEntry
+stands w k = fin.get w.entries k
+
+abbrev pub content_in : Option WorldEntry → Option Content
+content_in None = None
+content_in (Some e) = e.content
+
+abbrev pub content_at : World → Key → Option Content
+content_at w k = content_in (stands w k)
+
+pub data Refusal : Type 0 where
+  Exists : Refusal
+  Missing : Refusal
+  OldVersion : ℕ → Refusal
+  BadRef : Key → Refusal
+  Used : Key → Refusal
+  Unfit : Refusal
+
+-- the reference has a name, under which a content stands
+abbrev pub has_content : World → Option Key → Bool
+has_content w None = false
+has_content w (Some q) = is_some (content_at w q)
+
+abbrev pub reaches : World → Key → Bool
+reaches w r = has_content w (meant w.names r)
+
+abbrev pub bad_ref : World → Content → Option Key
+bad_ref w c = find (λ r. not (reaches w r)) (refs_of c)
+
+abbrev pub entry_refers : Key → WorldEntry → Bool
+entry_refers k e = option_map_or (λ c. refers c k) e.content false
+
+abbrev pub user_among : List (Key × WorldEntry) → Key → Option Key
+user_among es k = option_map (λ e. e.0) (find (λ e. entry_refers k e.1) es)
+
+abbrev pub user_of : World → Key → Option Key
+user_of w k = user_among (fin.entries w.entries) k
+
+abbrev pub on_content : World → Content → Option Refusal
+on_content w c = if fits c then option_map BadRef (bad_ref w c) else Some Unfit
+
+abbrev pub on_modify : World → ℕ → Content → Option WorldEntry → Option Refusal
+on_modify w v c None = Some Missing
+on_modify w v c (Some e) = if nat_eq e.version v then on_content w c else Some (OldVersion e.version)
+
+abbrev pub on_delete : World → Key → ℕ → Option WorldEntry → Option Refusal
+on_delete w k v None = Some Missing
+on_delete w k v (Some e) = if is_some e.content then (if nat_eq e.version v then option_map Used (user_of w k) else Some (OldVersion e.version)) else Some Missing
+
+-- why the world refuses a change
+abbrev pub refusal : World → Change → ℤ → Option Refusal
+refusal w (Create k c) picked = if is_some (stands w (with_id k picked)) then Some Exists else on_content w c
+refusal w (Modify k v c) picked = on_modify w v c (stands w (called w.names k))
+refusal w (Delete k v) picked = on_delete w (called w.names k) v (stands w (called w.names k))
+
+abbrev pub put_in : World → Key → ℕ → Option Content → World
+put_in w k v c = record { entries = fin.insert w.entries k (record { version = v; content = c }); names = w.names }
+
+-- the world after a change that it accepts
+abbrev pub after : World → Change → ℤ → World
+after w (Create k c) picked = record {
+  entries = fin.insert w.entries (with_id k picked) (record { version = 1; content = Some (renamed (called w.names) c) });
+  names = (k, picked) ∷ w.names;
+}
+after w (Modify k v c) picked = put_in w (called w.names k) (v + 1) (Some (renamed (called w.names) c))
+after w (Delete k v) picked = put_in w (called w.names k) (v + 1) None
+
+-- Each reference of a content that stands in the world stands in it with a content.
+abbrev pub IsSoundWorld : World → Type 0
+IsSoundWorld w = (q r : Key) (c : Content) → content_at w q ≡ Some c → refers c r ≡ true → (d : Content) × (content_at w r ≡ Some d)
+
+-- The pick for a change is new to the world and to the table.
+abbrev pub IsFresh : World → TableValue → Change → ℤ → Type 0
+IsFresh w t (Create k c) p = (is_positive p ≡ true) × (stands w (with_id k p) ≡ None) × (entry_of t (with_id k p) ≡ None)
+IsFresh w t (Modify k v c) p = Unit {0}
+IsFresh w t (Delete k v) p = Unit {0}
+
+-- The world has the bases of the table.
+abbrev pub Holds : World → TableValue → Type 0
+Holds w t = (k : Key) (e : Entry) → entry_of t k ≡ Some e → is_based e ≡ true → stands w k ≡ Some (record { version = version_of (base_in e); content = held_of e })
+
+-- No other content refers to a falling key.
+abbrev pub Alone : World → TableValue → Type 0
+Alone w t = (q k : Key) (c : Content) → at_key t is_based q ≡ false → content_at w q ≡ Some c → at_key t is_falling k ≡ true → refers c k ≡ false
+
+-- Whatever fresh ids are picked, the changes are accepted one by one, and of the last world P holds.
+abbrev pub Accepts : TableValue → World → List Change → (World → Type 0) → Type 0
+Accepts t w [] P = P w
+Accepts t w (c ∷ cs) P = (p : ℤ) → IsFresh w t c p → (refusal w c p ≡ None) × Accepts t (after w c p) cs P
+
+-- and each world on the way is sound
+abbrev pub AcceptsSoundly : TableValue → World → List Change → (World → Type 0) → Type 0
+AcceptsSoundly t w [] P = IsSoundWorld w × P w
+AcceptsSoundly t w (c ∷ cs) P = IsSoundWorld w × ((p : ℤ) → IsFresh w t c p → (refusal w c p ≡ None) × AcceptsSoundly t (after w c p) cs P)
+
+-- Each Incomplete key to which a base refers stands in the world with a content.
+abbrev pub Backs : World → TableValue → Type 0
+Backs w t = (r : Key) → at_key t is_incomplete r ≡ true → IsHeldUser t r → (d : Content) × (content_at w r ≡ Some d)
+
+abbrev pub is_known : Entry → Bool
+is_known Incomplete = false
+is_known (Known base mine conflict) = true
+
+-- The world w has the data of the table, under the names that its keys were given; all else is as in w0.
+pub record IsEdited (t : TableValue) (w0 w : World) : Type 0 where
+  pub living : (k : Key) (e : Entry) (c : Content) → entry_of t k ≡ Some e → mine_of e ≡ Some c → (q : Key) × (meant w.names k ≡ Some q) × (content_at w q ≡ Some (renamed (called w.names) c))
+  pub deleted : (k : Key) (e : Entry) → entry_of t k ≡ Some e → is_known e ≡ true → mine_of e ≡ None → content_at w k ≡ None
+  pub others : (q : Key) → at_key t is_known q ≡ false → (stands w q ≡ stands w0 q) ⊎ ((k : Key) × (at_key t is_rising k ≡ true) × (meant w.names k ≡ Some q))

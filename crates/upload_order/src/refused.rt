@@ -1,0 +1,197 @@
+//! Why a table is not sent.
+ghost use Rattle.std.specs.Prelude.{◌≡◌, ◌&&◌, [], map, IfOk, OnOk};
+ghost use Rattle.std.specs.List.{filter, find};
+ghost use Rattle.std.specs.Option.{option_copied};
+ghost use Rattle.osm_base.specs.Content.{node, refs_of};
+ghost use Rattle.osm_table.specs.Table.{entry_of, is_incomplete, keys_by_rank};
+ghost use Rattle.upload_order.specs.Counts.{put_where};
+ghost use Rattle.upload_order.specs.Kinds.{at_key, held_list};
+ghost use Rattle.upload_order.specs.Part.{changed_keys};
+ghost use Rattle.upload_order.specs.Refused.{is_open, open_of, keeps_at, vouched_among, is_loose_in, loose_of, loose_among, loose_refusal, stuck_of};
+
+use crate::kinds::{held_at, is_incomplete, is_sent};
+use crate::rank_set::RankSet;
+use crate::refusal::PlanRefusal;
+use dataset::DataSet;
+use osm_base::{Content, Key, Keys, Member, node_key, push_references};
+use std::alloc::{AllocError, Global};
+
+fn is_open(ds: &DataSet, key: Key) -> bool
+    ensures { result ≡ at_key ds.now is_open key }
+{
+    match ds.entry(key) {
+        None => false,
+        Some(entry) => entry.conflict().is_some(),
+    }
+}
+
+/// Those of the keys that are in conflict, in order. One look-up a key.
+///
+/// # Errors
+/// No memory was left.
+pub fn open_among(alloc: Global, ds: &DataSet, keys: &[Key]) -> Result<Vec<Key>, AllocError>
+    ensures { IfOk result (λ list. list.items ≡ filter (at_key ds.now is_open) keys.now) }
+{
+    keys.iter()
+        .filter(|key| is_open(ds, **key))
+        .copied()
+        .collect(alloc)
+}
+
+/// That there are conflicts, if there are.
+pub fn open_refusal(keys: &[Key]) -> Option<PlanRefusal>
+    ensures { result ≡ open_of keys.now }
+{
+    match keys {
+        [] => None,
+        [first, ..] => Some(PlanRefusal::Conflicts {
+            count: keys.len() as u64,
+            first: *first,
+        }),
+    }
+}
+
+/// Whether an object that doesn't live or still refers to the key.
+fn keeps(ds: &DataSet, key: Key, of: Key) -> bool
+    ensures { result ≡ keeps_at ds.now key of }
+{
+    match ds.entry(key) {
+        None => false,
+        Some(entry) => !entry.is_living() || ds.is_user(of, key),
+    }
+}
+
+/// With those of the references that are Incomplete and that the object keeps.
+fn put_kept(ds: &DataSet, vouched: RankSet, key: Key, refs: &[Key]) -> Result<RankSet, AllocError>
+    ensures { IfOk result (λ s. s ≡ put_where (λ r. at_key ds.now is_incomplete r && keeps_at ds.now key r) vouched refs.now) }
+{
+    let mut vouched = vouched;
+    for of in refs {
+        let test = is_incomplete(ds, *of) && keeps(ds, key, *of);
+        vouched = vouched.put_if(*of, test)?;
+    }
+    Ok(vouched)
+}
+
+/// To what the base of a key refers, in a list whose memory is used again.
+fn list_held(ds: &DataSet, key: Key, refs: &mut Vec<Key>) -> Result<(), AllocError>
+    ensures { OnOk result (refs.new.items ≡ held_list ds.now key) }
+{
+    refs.clear();
+    match held_at(ds.entry(key)) {
+        None => Ok(()),
+        Some(content) => push_references(content, refs),
+    }
+}
+
+/// The Incomplete keys that an object vouches for. Costs a look-up for each reference of a base, and for each Incomplete
+/// one a search among its users.
+fn vouched_among(alloc: Global, ds: &DataSet, keys: &[Key]) -> Result<RankSet, AllocError>
+    ensures { IfOk result (λ s. s ≡ vouched_among ds.now [] keys.now) }
+{
+    let mut vouched = RankSet::new(alloc);
+    let mut refs = Vec::new(alloc);
+    for key in keys {
+        list_held(ds, *key, &mut refs)?;
+        vouched = put_kept(ds, vouched, *key, &refs)?;
+    }
+    Ok(vouched)
+}
+
+fn is_loose(ds: &DataSet, vouched: &RankSet, key: Key) -> bool
+    ensures { result ≡ is_loose_in ds.now vouched.now key }
+{
+    is_incomplete(ds, key) && !vouched.contains(key)
+}
+
+fn loose_node(ds: &DataSet, vouched: &RankSet, ids: &[i64]) -> Option<Key>
+    ensures { result ≡ find (is_loose_in ds.now vouched.now) (map node ids.now) }
+{
+    for id in ids {
+        let key = node_key(*id);
+        if is_loose(ds, vouched, key) {
+            return Some(key);
+        }
+    }
+    None
+}
+
+fn loose_member(ds: &DataSet, vouched: &RankSet, members: &[Member]) -> Option<Key>
+    ensures { result ≡ find (is_loose_in ds.now vouched.now) (map (λ m. m.key) members.now) }
+{
+    for member in members {
+        if is_loose(ds, vouched, member.key) {
+            return Some(member.key);
+        }
+    }
+    None
+}
+
+/// The first reference of a content that is loose.
+fn loose_in(ds: &DataSet, vouched: &RankSet, content: &Content) -> Option<Key>
+    ensures { result ≡ find (is_loose_in ds.now vouched.now) (refs_of content.now) }
+{
+    match content {
+        Content::Node { .. } => None,
+        Content::Way { refs, .. } => loose_node(ds, vouched, refs.as_slice()),
+        Content::Relation { members, .. } => loose_member(ds, vouched, members.as_slice()),
+    }
+}
+
+/// The first reference of what is sent of an object that is loose.
+fn loose_of(ds: &DataSet, vouched: &RankSet, key: Key) -> Option<Key>
+    ensures { result ≡ loose_of (is_loose_in ds.now vouched.now) ds.now key }
+{
+    let Some(entry) = ds.entry(key) else {
+        return None;
+    };
+    if !is_sent(entry) {
+        return None;
+    }
+    match entry.mine() {
+        None => None,
+        Some(content) => loose_in(ds, vouched, content),
+    }
+}
+
+fn loose_among(ds: &DataSet, vouched: &RankSet, keys: &[Key]) -> Option<PlanRefusal>
+    ensures { result ≡ loose_among (is_loose_in ds.now vouched.now) ds.now keys.now }
+{
+    for key in keys {
+        if let Some(of) = loose_of(ds, vouched, *key) {
+            return Some(PlanRefusal::IncompleteRef { key: *key, of });
+        }
+    }
+    None
+}
+
+/// That something is sent that refers to what may not stand at the server, if it is so. The keys are all, by rank, and the
+/// changed ones of them.
+///
+/// # Errors
+/// No memory was left.
+pub fn loose_refusal(
+    alloc: Global,
+    ds: &DataSet,
+    keys: &[Key],
+    changed: &[Key],
+) -> Result<Option<PlanRefusal>, AllocError>
+    requires keys { keys.now ≡ keys_by_rank ds.now }
+    requires changed { changed.now ≡ changed_keys ds.now }
+    ensures { IfOk result (λ r. r ≡ loose_refusal ds.now) }
+{
+    let vouched = vouched_among(alloc, ds, keys)?;
+    Ok(loose_among(ds, &vouched, changed))
+}
+
+/// That new relations refer to each other, if some are stuck.
+pub fn stuck_refusal(stuck: Vec<Key>) -> Option<PlanRefusal>
+    ensures { result ≡ stuck_of stuck.items }
+{
+    if stuck.is_empty() {
+        return None;
+    }
+    Some(PlanRefusal::Cyclic {
+        keys: Keys::from_vec(stuck),
+    })
+}
