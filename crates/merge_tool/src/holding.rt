@@ -52,11 +52,7 @@ fn push_going(
     Ok(())
 }
 
-fn push_if_going(
-    candidates: &IndexSet<Key>,
-    key: Key,
-    out: &mut Vec<Key>,
-) -> Result<(), AllocError>
+fn push_if_going(candidates: &IndexSet<Key>, key: Key, out: &mut Vec<Key>) -> Result<(), AllocError>
     ensures { OnOk result (out.new.items ≡ out.old.items ++ filter (has is_key candidates.now.keys) (key ∷ [])) }
 {
     if is_among(candidates, key) {

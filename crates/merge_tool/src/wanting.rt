@@ -50,12 +50,7 @@ fn push_lost(
     Ok(())
 }
 
-fn push_if_lost(
-    ds: &DataSet,
-    draft: &Draft,
-    key: Key,
-    out: &mut Vec<Key>,
-) -> Result<(), AllocError>
+fn push_if_lost(ds: &DataSet, draft: &Draft, key: Key, out: &mut Vec<Key>) -> Result<(), AllocError>
     ensures { OnOk result (out.new.items ≡ out.old.items ++ filter (is_lost (drafted draft.now ds.now)) (key ∷ [])) }
 {
     if is_lost(draft.entry(ds, key)) {

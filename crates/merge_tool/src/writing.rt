@@ -21,11 +21,7 @@ use std::alloc::AllocError;
 ///
 /// # Errors
 /// No memory was left.
-pub fn bring_back(
-    ds: &DataSet,
-    draft: &mut Draft,
-    wanted: &IndexSet<Key>,
-) -> Result<(), AllocError>
+pub fn bring_back(ds: &DataSet, draft: &mut Draft, wanted: &IndexSet<Key>) -> Result<(), AllocError>
     ensures entries { OnOk result ((q : Key) → entry_of (drafted draft.new ds.now) q ≡ (if has is_key wanted.now.keys q then option_map back (entry_of (drafted draft.old ds.now) q) else entry_of (drafted draft.old ds.now) q)) }
     ensures number { OnOk result (draft.new.next ≡ draft.old.next) }
 {

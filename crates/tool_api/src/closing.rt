@@ -15,10 +15,10 @@ ghost use Rattle.tool_api.specs.Changes.{content_of};
 ghost use Rattle.tool_api.specs.Closing.{closing, closing_tests, conflict_change_test, fit_test, room_test, changes_conflict, makes_unfit, in_conflict, is_full};
 ghost use Rattle.tool_api.specs.Planned.{Plans};
 
+use crate::checks::is_named;
 use crate::contents::content;
 use crate::plan::Plan;
 use crate::refusal::Refusal;
-use crate::checks::is_named;
 use dataset::{DataSet, Draft};
 use osm_base::{Content, Key, Keys, fits, same};
 use osm_table::{EntryParts, SharedEntry};

@@ -11,6 +11,7 @@
 //! calls of this crate: the tests, a draft of the change, and `closed`.
 #![tactic(auto)]
 
+mod checks;
 mod closing;
 mod command;
 mod contents;
@@ -24,12 +25,14 @@ mod plan;
 mod refusal;
 mod reply;
 mod steps;
-mod checks;
 mod tool;
 mod undoable;
 mod uses;
 mod verb;
 
+pub use checks::{
+    complete_test, is_named, list_tests, reference_tests, target_test, target_tests, twice_test,
+};
 pub use closing::{closed, room_test};
 pub use command::Command;
 pub use contents::{content_of, is_relation, refs_at};
@@ -43,9 +46,6 @@ pub use plan::Plan;
 pub use refusal::Refusal;
 pub use reply::Reply;
 pub use steps::Steps;
-pub use checks::{
-    complete_test, is_named, list_tests, reference_tests, target_test, target_tests, twice_test,
-};
 pub use tool::Tool;
 pub use undoable::Undoable;
 pub use uses::{all_users, use_test, use_tests};

@@ -14,5 +14,5 @@ loop-key-preserved c =
       named_more (drafted c.args.draft.now c.args.ds.now) (drafted c.loop-key.draft c.args.ds.now) (drafted c.name.new.draft c.args.ds.now) c.args.names.now c.loop-key.key-index _ c.loop-key.invariant.0 (slice_get-get_or c.args.names.now c.loop-key.key-index _ h) c.in_ok-name.ensures.entries,
       filter_more (is_lost (drafted c.args.draft.now c.args.ds.now)) c.args.names.now _ _ _ c.loop-key.key-index _ c.loop-key.invariant.1 (slice_get-get_or c.args.names.now c.loop-key.key-index _ h)
           (c.in_ok-name.ensures.lost ∙ ap (λ (l : List Key). c.loop-key.out.items ++ l) (still_lost (drafted c.args.draft.now c.args.ds.now) (drafted c.loop-key.draft c.args.ds.now) _ _ c.loop-key.invariant.0)),
-      c.in_ok-name.ensures.number ∙ c.loop-key.invariant.2
+      c.in_ok-name.ensures.number ∙ c.loop-key.invariant.2,
     )
