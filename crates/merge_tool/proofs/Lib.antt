@@ -15,3 +15,4 @@ pub mod Cases
 pub mod Untolds
 pub mod WantedEnds
 pub mod HeldEnds
+pub mod Finals
