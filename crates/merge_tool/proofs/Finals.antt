@@ -24,60 +24,27 @@ use Rattle.merge_tool.proofs.WantedEnds.{lost_same, wanted_ends, late_are}
 use Rattle.merge_tool.proofs.HeldEnds.{stays, going_are, held_ends, last_are}
 
 -- What the passes found and made, in their order.
-pub record Passed (t : TableValue) (m : ToldValue) (u0 u1 u2 u3 u4 u5 : TableValue) (ns ls cs ds ws xs hs ys : List Key) : Type 0 where
+pub record Passed (t : TableValue) (m : ToldValue) (u0 u2 u3 u4 u5 : TableValue) (ns cs ws xs hs : List Key) : Type 0 where
   pub staged : (k : Key) → entry_of u0 k ≡ early t m.told k
   pub names : ns ≡ flat_map (firm_refs t m.told) m.order
-  pub listed : ls ≡ filter (is_going t m.told) m.order
-  pub set : (k : Key) → has is_key cs k ≡ has is_key ls k
-  pub named : (k : Key) → entry_of u1 k ≡ bared (has is_key ns k) (entry_of u0 k)
-  pub lost : ds ≡ filter (is_lost u0) ns
-  pub wants : (k : Key) → (has is_key ws k ≡ true) ↔ Chain (has is_key ds) (λ j. has is_key (lost_links u1 j)) k
-  pub late : xs ≡ flat_map (lost_refs u1) ws
-  pub came : (k : Key) → entry_of u2 k ≡ bared (has is_key xs k) (entry_of u1 k)
-  pub holds : (k : Key) → (has is_key hs k ≡ true) ↔ Chain (has is_key (held_starts t m.told cs ns xs)) (λ j. has is_key (going_links cs t j)) k
-  pub last : ys ≡ flat_map (mine_refs t) hs
-  pub stood : (k : Key) → entry_of u3 k ≡ bared (has is_key ys k) (entry_of u2 k)
+  pub going : (k : Key) → has is_key cs k ≡ is_going t m.told k
+  pub wants : (k : Key) → has is_key ws k ≡ has is_key (wanted (stage_of t m.told) (both_keys t m.told)) k
+  pub late : (k : Key) → has is_key xs k ≡ named_by_wanted (stage_of t m.told) (both_keys t m.told) k
+  pub came : (k : Key) → entry_of u2 k ≡ bared (has is_key xs k) (bared (has is_key ns k) (entry_of u0 k))
+  pub holds : (k : Key) → has is_key hs k ≡ has is_key (held (stage_of t m.told) (both_keys t m.told)) k
+  pub stood : (k : Key) → entry_of u3 k ≡ bared (named_by_held (stage_of t m.told) (both_keys t m.told) k) (entry_of u2 k)
   pub brought : (k : Key) → entry_of u4 k ≡ cond (has is_key ws k) (option_map back (entry_of u3 k)) (entry_of u3 k)
   pub ended : (k : Key) → entry_of u5 k ≡ cond (has is_key cs k) (left t m.told hs k) (entry_of u4 k)
 
-filter_same : (p q : Key → Bool) → ((k : Key) → p k ≡ q k) → (ks : List Key) → filter p ks ≡ filter q ks
-filter_same p q same [] = refl
-filter_same p q same (k ∷ ks) = ap (λ (l : List Key). cond (p k) (k ∷ l) l) (filter_same p q same ks) ∙ ap (λ (b : Bool). cond b (k ∷ filter q ks) (filter q ks)) (same k)
-
 module _ (t : TableValue) (m : ToldValue) (sound : IsSound t) (each : (k : Key) → list_any (is_key k) m.order ≡ is_some (told_at m k))
-    (u0 u1 u2 u3 u4 u5 : TableValue) (names listed set lost wants late holds last : List Key) (p : Passed t m u0 u1 u2 u3 u4 u5 names listed set lost wants late holds last) where
+    (u0 u2 u3 u4 u5 : TableValue) (names set wants late holds : List Key) (p : Passed t m u0 u2 u3 u4 u5 names set wants late holds) where
   told : (k : Key) → has is_key names k ≡ named_by_told t m sound each k
   told = names_are t m sound each names p.names
 
-  going : (k : Key) → has is_key set k ≡ is_going t m.told k
-  going = going_are t m sound each listed set p.listed p.set
-
-  lost_early : (k : Key) → lost_of (entry_of u0 k) ≡ lost_of (stage_of t m.told k).entry
-  lost_early k = ap lost_of (p.staged k) ∙ lost_bared (has_untold_user t m.told k) (stage_of t m.told k).entry
-
-  lost_named : (k : Key) → lost_of (entry_of u1 k) ≡ lost_of (stage_of t m.told k).entry
-  lost_named k = ap lost_of (p.named k) ∙ lost_bared (has is_key names k) (entry_of u0 k) ∙ lost_early k
-
-  lost_are : lost ≡ filter (is_lost u1) names
-  lost_are = p.lost ∙ filter_same (is_lost u0) (is_lost u1) (λ k. ap is_some (lost_early k) ∙ sym (ap is_some (lost_named k))) names
-
-  wants_are : (k : Key) → has is_key wants k ≡ has is_key (wanted (stage_of t m.told) (both_keys t m.told)) k
-  wants_are = wanted_ends t m sound each u1 lost_named names lost told lost_are wants p.wants
-
-  by_wanted : (k : Key) → has is_key late k ≡ named_by_wanted (stage_of t m.told) (both_keys t m.told) k
-  by_wanted = late_are t m sound each u1 lost_named wants late wants_are p.late
-
-  holds_are : (k : Key) → has is_key holds k ≡ has is_key (held (stage_of t m.told) (both_keys t m.told)) k
-  holds_are = held_ends t m sound each set going names late told by_wanted holds p.holds
-
-  by_held : (k : Key) → has is_key last k ≡ named_by_held (stage_of t m.told) (both_keys t m.told) k
-  by_held = last_are t m sound each set going holds last holds_are p.last
-
   -- all names together
-  all_named : (k : Key) → (((has_untold_user t m.told k || has is_key names k) || has is_key late k) || has is_key last k) ≡ named (stage_of t m.told) (both_keys t m.told) k
+  all_named : (k : Key) → (((has_untold_user t m.told k || has is_key names k) || has is_key late k) || named_by_held (stage_of t m.told) (both_keys t m.told) k) ≡ named (stage_of t m.told) (both_keys t m.told) k
   all_named k =
-      ap (λ b. ((has_untold_user t m.told k || has is_key names k) || has is_key late k) || b) (by_held k)
-      ∙ ap (λ b. ((has_untold_user t m.told k || has is_key names k) || b) || named_by_held (stage_of t m.told) (both_keys t m.told) k) (by_wanted k)
+      ap (λ b. ((has_untold_user t m.told k || has is_key names k) || b) || named_by_held (stage_of t m.told) (both_keys t m.told) k) (p.late k)
       ∙ ap (λ b. (b || named_by_wanted (stage_of t m.told) (both_keys t m.told) k) || named_by_held (stage_of t m.told) (both_keys t m.told) k) firm
       ∙ turned (named_by_firm (stage_of t m.told) (both_keys t m.told) k) (named_by_wanted (stage_of t m.told) (both_keys t m.told) k) (named_by_held (stage_of t m.told) (both_keys t m.told) k)
     where
@@ -98,16 +65,19 @@ module _ (t : TableValue) (m : ToldValue) (sound : IsSound t) (each : (k : Key) 
 
   stood_is : (k : Key) → entry_of u3 k ≡ bared (named (stage_of t m.told) (both_keys t m.told) k) (stage_of t m.told k).entry
   stood_is k =
-      p.stood k ∙ ap (bared (has is_key last k)) (p.came k ∙ ap (bared (has is_key late k)) (p.named k ∙ ap (bared (has is_key names k)) (p.staged k) ∙ bared_twice (has is_key names k) (has_untold_user t m.told k) (stage_of t m.told k).entry)
+      p.stood k
+      ∙ ap (bared (named_by_held (stage_of t m.told) (both_keys t m.told) k)) (p.came k
+      ∙ ap (λ (o : Option Entry). bared (has is_key late k) (bared (has is_key names k) o)) (p.staged k)
+      ∙ ap (bared (has is_key late k)) (bared_twice (has is_key names k) (has_untold_user t m.told k) (stage_of t m.told k).entry)
       ∙ bared_twice (has is_key late k) (has_untold_user t m.told k || has is_key names k) (stage_of t m.told k).entry)
-      ∙ bared_twice (has is_key last k) ((has_untold_user t m.told k || has is_key names k) || has is_key late k) (stage_of t m.told k).entry
+      ∙ bared_twice (named_by_held (stage_of t m.told) (both_keys t m.told) k) ((has_untold_user t m.told k || has is_key names k) || has is_key late k) (stage_of t m.told k).entry
       ∙ ap (λ b. bared b (stage_of t m.told k).entry) (all_named k)
 
   -- each key has what is said of it
   pub finally : (k : Key) → entry_of u5 k ≡ final (stage_of t m.told) (both_keys t m.told) k
   finally k =
       p.ended k ∙ ap (λ (o : Option Entry). cond (has is_key set k) (left t m.told holds k) o) (p.brought k)
-      ∙ ap (λ (b : Bool). cond b (left t m.told holds k) (cond (has is_key wants k) (option_map back (entry_of u3 k)) (entry_of u3 k))) (going k)
+      ∙ ap (λ (b : Bool). cond b (left t m.told holds k) (cond (has is_key wants k) (option_map back (entry_of u3 k)) (entry_of u3 k))) (p.going k)
       ∙ by (stage_of t m.told k).candidate refl
     where
       goes : (b : Bool) → (stage_of t m.told k).candidate ≡ true → cond b (option_map (against Held (theirs_at m.told k)) (entry_of t k)) (Some (Known (theirs_at m.told k) None None)) ≡ cond b (option_map (against Held (theirs_at m.told k)) (stage_of t m.told k).entry) (Some (Known (theirs_at m.told k) None None))
@@ -125,5 +95,5 @@ module _ (t : TableValue) (m : ToldValue) (sound : IsSound t) (each : (k : Key) 
           → cond c (left t m.told holds k) (cond (has is_key wants k) (option_map back (entry_of u3 k)) (entry_of u3 k))
           ≡ cond c (cond (has is_key (held (stage_of t m.told) (both_keys t m.told)) k) (option_map (against Held (theirs_at m.told k)) (stage_of t m.told k).entry) (Some (Known (theirs_at m.told k) None None)))
           (cond (has is_key (wanted (stage_of t m.told) (both_keys t m.told)) k) (option_map back (stage_of t m.told k).entry) (bared (named (stage_of t m.told) (both_keys t m.told) k) (stage_of t m.told k).entry))
-      by true e = ap (λ (b : Bool). cond b (option_map (against Held (theirs_at m.told k)) (entry_of t k)) (Some (Known (theirs_at m.told k) None None))) (holds_are k) ∙ goes (has is_key (held (stage_of t m.told) (both_keys t m.told)) k) e
-      by false e = ap (λ (b : Bool). cond b (option_map back (entry_of u3 k)) (entry_of u3 k)) (wants_are k) ∙ rest (has is_key (wanted (stage_of t m.told) (both_keys t m.told)) k) refl
+      by true e = ap (λ (b : Bool). cond b (option_map (against Held (theirs_at m.told k)) (entry_of t k)) (Some (Known (theirs_at m.told k) None None))) (p.holds k) ∙ goes (has is_key (held (stage_of t m.told) (both_keys t m.told)) k) e
+      by false e = ap (λ (b : Bool). cond b (option_map back (entry_of u3 k)) (entry_of u3 k)) (p.wants k) ∙ rest (has is_key (wanted (stage_of t m.told) (both_keys t m.told)) k) refl

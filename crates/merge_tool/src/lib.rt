@@ -18,10 +18,9 @@ mod staging;
 mod wanting;
 mod writing;
 
-pub use clash::clash_test;
-pub use holding::{held, held_names};
 pub use law::{conflicts_of_merges, merged_is_sound, untold_stays};
-pub use naming::name_all;
+pub use clash::clash_test;
+pub use holding::hold;
 pub use staging::Staging;
-pub use wanting::{lost_names, wanted};
+pub use wanting::{Wanted, want};
 pub use writing::{bring_back, let_go};
