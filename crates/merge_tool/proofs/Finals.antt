@@ -24,7 +24,7 @@ use Rattle.merge_tool.proofs.WantedEnds.{lost_same, wanted_ends, late_are}
 use Rattle.merge_tool.proofs.HeldEnds.{stays, going_are, held_ends, last_are}
 
 -- What the passes found and made, in their order.
-pub record Passed (t : TableValue) (m : ToldValue) (u0 u2 u3 u4 u5 : TableValue) (ns cs ws xs hs : List Key) : Type 0 where
+pub record Passed (t : TableValue) (m : ToldValue) (u0 u2 u3 u5 : TableValue) (ns cs ws xs hs : List Key) : Type 0 where
   pub staged : (k : Key) → entry_of u0 k ≡ early t m.told k
   pub names : ns ≡ flat_map (firm_refs t m.told) m.order
   pub going : (k : Key) → has is_key cs k ≡ is_going t m.told k
@@ -33,11 +33,10 @@ pub record Passed (t : TableValue) (m : ToldValue) (u0 u2 u3 u4 u5 : TableValue)
   pub came : (k : Key) → entry_of u2 k ≡ bared (has is_key xs k) (bared (has is_key ns k) (entry_of u0 k))
   pub holds : (k : Key) → has is_key hs k ≡ has is_key (held (stage_of t m.told) (both_keys t m.told)) k
   pub stood : (k : Key) → entry_of u3 k ≡ bared (named_by_held (stage_of t m.told) (both_keys t m.told) k) (entry_of u2 k)
-  pub brought : (k : Key) → entry_of u4 k ≡ cond (has is_key ws k) (option_map back (entry_of u3 k)) (entry_of u3 k)
-  pub ended : (k : Key) → entry_of u5 k ≡ cond (has is_key cs k) (left t m.told hs k) (entry_of u4 k)
+  pub ended : (k : Key) → entry_of u5 k ≡ cond (has is_key cs k) (left t m.told hs k) (cond (has is_key ws k) (option_map back (entry_of u3 k)) (entry_of u3 k))
 
 module _ (t : TableValue) (m : ToldValue) (sound : IsSound t) (each : (k : Key) → list_any (is_key k) m.order ≡ is_some (told_at m k))
-    (u0 u2 u3 u4 u5 : TableValue) (names set wants late holds : List Key) (p : Passed t m u0 u2 u3 u4 u5 names set wants late holds) where
+    (u0 u2 u3 u5 : TableValue) (names set wants late holds : List Key) (p : Passed t m u0 u2 u3 u5 names set wants late holds) where
   told : (k : Key) → has is_key names k ≡ named_by_told t m sound each k
   told = names_are t m sound each names p.names
 
@@ -76,7 +75,7 @@ module _ (t : TableValue) (m : ToldValue) (sound : IsSound t) (each : (k : Key) 
   -- each key has what is said of it
   pub finally : (k : Key) → entry_of u5 k ≡ final (stage_of t m.told) (both_keys t m.told) k
   finally k =
-      p.ended k ∙ ap (λ (o : Option Entry). cond (has is_key set k) (left t m.told holds k) o) (p.brought k)
+      p.ended k
       ∙ ap (λ (b : Bool). cond b (left t m.told holds k) (cond (has is_key wants k) (option_map back (entry_of u3 k)) (entry_of u3 k))) (p.going k)
       ∙ by (stage_of t m.told k).candidate refl
     where

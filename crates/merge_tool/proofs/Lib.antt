@@ -16,3 +16,4 @@ pub mod Untolds
 pub mod WantedEnds
 pub mod HeldEnds
 pub mod Finals
+pub mod Plans

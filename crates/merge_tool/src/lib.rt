@@ -13,14 +13,11 @@ mod clash;
 mod entries;
 mod holding;
 mod law;
+mod merge;
 mod naming;
 mod staging;
 mod wanting;
 mod writing;
 
 pub use law::{conflicts_of_merges, merged_is_sound, untold_stays};
-pub use clash::clash_test;
-pub use holding::hold;
-pub use staging::Staging;
-pub use wanting::{Wanted, want};
-pub use writing::{bring_back, let_go};
+pub use merge::{Merge, MergeTool};
