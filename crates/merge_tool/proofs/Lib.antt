@@ -16,3 +16,5 @@ pub mod Cases
 pub mod Untolds
 pub mod WantedEnds
 pub mod HeldEnds
+pub mod Finals
+pub mod Plans

@@ -1,5 +1,5 @@
 -- The walk from what is told ends with the wanted objects of the whole table.
-use Rattle.std.proofs.Common.{◌≡◌, Bool, true, false, List, Option, Some, None, is_some, cond, refl, sym, ◌∙◌, ap, subst, ◌↔◌, inl, inr, ◌⊎◌, filter}
+use Rattle.std.proofs.Common.{◌≡◌, Bool, true, false, List, [], ◌∷◌, Option, Some, None, is_some, cond, refl, sym, ◌∙◌, ap, subst, ◌↔◌, inl, inr, ◌⊎◌, filter}
 use Rattle.std.specs.List.{list_any, flat_map}
 use Rattle.std.proofs.lemmas.Bool.{and_parts, and_from, true≢false}
 use Rattle.std.specs.FinMap as fin
@@ -16,19 +16,24 @@ use Rattle.dataset.specs.Sound.{IsSound}
 use Rattle.closure.specs.Closure.{has, Chain}
 use Rattle.closure.proofs.Least.{kept, kept_from}
 use Rattle.closure.proofs.Chains.{chain_maps, chain_of, of_chain}
-use Rattle.tool_api.specs.Staged.{stage_of, lost_of, refers_by, refs_by}
+use Rattle.tool_api.specs.Staged.{stage_of, lost_of, refers_by, refs_by, bared}
 use Rattle.tool_api.specs.Merged.{both_keys, lost_content, named_by_firm, named_by_wanted, wanted, wanted_start, wanted_leads}
 use Rattle.merge_tool.specs.Walks.{is_lost, lost_refs, lost_links}
-use Rattle.merge_tool.specs.Passes.{has_untold_user}
+use Rattle.merge_tool.specs.Passes.{has_untold_user, early, firm_refs}
 use Rattle.merge_tool.proofs.Fitting.{fits, not_lost_by}
 use Rattle.merge_tool.proofs.Cases.{used_there}
-use Rattle.merge_tool.proofs.Untolds.{at_from, flat_is, same_bool, named_by_told, told_firm, firm_parts}
+use Rattle.merge_tool.proofs.Bareds.{lost_bared}
+use Rattle.merge_tool.proofs.Untolds.{at_from, names_are, flat_is, same_bool, named_by_told, told_firm, firm_parts}
 
 no_mine : (o : Option Entry) → is_some (mine_at o) ≡ true → lost_of o ≡ None
 no_mine None h = refl
 no_mine (Some Incomplete) h = refl
 no_mine (Some (Known b None f)) h = absurd (true≢false (sym h))
 no_mine (Some (Known b (Some c) f)) h = refl
+
+filter_same : (p q : Key → Bool) → ((k : Key) → p k ≡ q k) → (ks : List Key) → filter p ks ≡ filter q ks
+filter_same p q same [] = refl
+filter_same p q same (k ∷ ks) = ap (λ (l : List Key). cond (p k) (k ∷ l) l) (filter_same p q same ks) ∙ ap (λ (b : Bool). cond b (k ∷ filter q ks) (filter q ks)) (same k)
 
 module _ (t : TableValue) (m : ToldValue) (sound : IsSound t) (each : (k : Key) → list_any (is_key k) m.order ≡ is_some (told_at m k)) where
   -- of the firm entries only those that are told of can name a lost object
@@ -93,3 +98,15 @@ module _ (t : TableValue) (m : ToldValue) (sound : IsSound t) (each : (k : Key) 
     pub late_are : (marks late : List Key) → ((k : Key) → has is_key marks k ≡ has is_key (wanted (stage_of t m.told) (both_keys t m.told)) k) → late ≡ flat_map (lost_refs u) marks → (k : Key) → has is_key late k ≡ named_by_wanted (stage_of t m.told) (both_keys t m.told) k
     late_are marks late same are k = ap (λ (ks : List Key). has is_key ks k) are
         ∙ flat_is (lost_content (stage_of t m.told) (both_keys t m.told)) (lost_refs u) marks (wanted (stage_of t m.told) (both_keys t m.told)) refs_are same k
+
+  -- the first names leave the lost ones as they were staged
+  module _ (u v : TableValue) (names lost : List Key) (is_early : (k : Key) → entry_of u k ≡ early t m.told k) (names_by : names ≡ flat_map (firm_refs t m.told) m.order) (named : (k : Key) → entry_of v k ≡ bared (has is_key names k) (entry_of u k)) where
+    lost_early : (k : Key) → lost_of (entry_of u k) ≡ lost_of (stage_of t m.told k).entry
+    lost_early k = ap lost_of (is_early k) ∙ lost_bared (has_untold_user t m.told k) (stage_of t m.told k).entry
+
+    pub lost_named : (k : Key) → lost_of (entry_of v k) ≡ lost_of (stage_of t m.told k).entry
+    lost_named k = ap lost_of (named k) ∙ lost_bared (has is_key names k) (entry_of u k) ∙ lost_early k
+
+    pub wants_are : (starts marks : List Key) → lost ≡ filter (is_lost u) names → starts ≡ lost → ((k : Key) → (has is_key marks k ≡ true) ↔ Chain (has is_key starts) (λ j. has is_key (lost_links v j)) k) → (k : Key) → has is_key marks k ≡ has is_key (wanted (stage_of t m.told) (both_keys t m.told)) k
+    wants_are starts marks are same ends = wanted_ends v lost_named names starts (names_are t m sound each names names_by)
+        (same ∙ are ∙ filter_same (is_lost u) (is_lost v) (λ k. ap is_some (lost_early k) ∙ sym (ap is_some (lost_named k))) names) marks ends

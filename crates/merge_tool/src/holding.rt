@@ -3,14 +3,20 @@ ghost use Rattle.std.specs.Prelude.{◌≡◌, ◌++◌, ◌∷◌, [], ◌↔�
 ghost use Rattle.std.specs.List.{flat_map};
 ghost use Rattle.osm_base.specs.Rank.{is_key};
 ghost use Rattle.osm_base.specs.declared.key.Key.{Key};
+ghost use Rattle.osm_table.specs.Table.{entry_of};
+ghost use Rattle.dataset.specs.Draft.{drafted};
+ghost use Rattle.dataset.specs.Sound.{IsSound};
+ghost use Rattle.tool_api.specs.Staged.{stage_of, bared};
+ghost use Rattle.tool_api.specs.Merged.{both_keys, held, named_by_wanted, named_by_held};
 ghost use Rattle.closure.specs.Closure.{has, Chain};
 ghost use Rattle.merge_tool.specs.Walks.{mine_refs, going_links};
-ghost use Rattle.merge_tool.specs.Passes.{has_untold_user, held_starts};
+ghost use Rattle.merge_tool.specs.Passes.{has_untold_user, held_starts, is_going, firm_refs};
 
 use crate::entries::mine;
+use crate::naming::name_all;
 use crate::staging::{has_untold_user, push_all};
 use closure::{Links, reach};
-use dataset::DataSet;
+use dataset::{DataSet, Draft};
 use indexmap::IndexSet;
 use osm_base::Key;
 use osm_table::ToldMap;
@@ -119,13 +125,42 @@ fn held_starts(
     Ok(starts)
 }
 
-/// The candidates that are held: those at the ends of chains of candidates, to whose first one of the names refers or an
-/// object that isn't told of. One look-up for each name, each user of a candidate, and each object to which a held one
-/// refers; none where there is no candidate.
+/// Finds the candidates that are held, by the names of firm and of wanted objects, and sees to it that what these refer to
+/// is there. One look-up for each name, each user of a candidate, and each object to which a held one refers; none where
+/// there is no candidate.
 ///
 /// # Errors
 /// No memory was left.
-pub fn held(
+pub fn hold(
+    ds: &DataSet,
+    told: &ToldMap,
+    draft: &mut Draft,
+    candidates: &IndexSet<Key>,
+    names: &[Key],
+    late: &[Key],
+) -> Result<IndexSet<Key>, AllocError>
+    requires sound { IsSound ds.now }
+    requires candidates { (k : Key) → has is_key candidates.now.keys k ≡ is_going ds.now told.now.told k }
+    requires names { names.now ≡ flat_map (firm_refs ds.now told.now.told) told.now.order }
+    requires late { (k : Key) → has is_key late.now k ≡ named_by_wanted (stage_of ds.now told.now.told) (both_keys ds.now told.now.told) k }
+    ensures held { IfOk result (λ h. (k : Key) → has is_key h.keys k ≡ has is_key (held (stage_of ds.now told.now.told) (both_keys ds.now told.now.told)) k) }
+    ensures entries { IfOk result (λ h. (k : Key) → entry_of (drafted draft.new ds.now) k ≡ bared (named_by_held (stage_of ds.now told.now.told) (both_keys ds.now told.now.told) k) (entry_of (drafted draft.old ds.now) k)) }
+    ensures number { IfOk result (λ h. draft.new.next ≡ draft.old.next) }
+{
+    told.sound();
+    let keys = held_walk(ds, told, candidates, names, late)?;
+    let last = held_names(ds, &keys)?;
+    let mut lost = Vec::new(ds.alloc());
+    name_all(ds, draft, &last, &mut lost)?;
+    Ok(keys)
+}
+
+/// The candidates at the ends of chains of candidates, to whose first one of the names refers or an object that isn't told
+/// of.
+///
+/// # Errors
+/// No memory was left.
+fn held_walk(
     ds: &DataSet,
     told: &ToldMap,
     candidates: &IndexSet<Key>,
@@ -142,12 +177,12 @@ pub fn held(
 ///
 /// # Errors
 /// No memory was left.
-pub fn held_names(ds: &DataSet, held: &IndexSet<Key>) -> Result<Vec<Key>, AllocError>
-    ensures { IfOk result (λ names. names.items ≡ flat_map (mine_refs ds.now) held.now.keys) }
+fn held_names(ds: &DataSet, keys: &IndexSet<Key>) -> Result<Vec<Key>, AllocError>
+    ensures { IfOk result (λ names. names.items ≡ flat_map (mine_refs ds.now) keys.now.keys) }
 {
     let mut names = Vec::new(ds.alloc());
-    for i in 0..held.len() {
-        push_all(mine(ds.entry(held[i])), &mut names)?;
+    for i in 0..keys.len() {
+        push_all(mine(ds.entry(keys[i])), &mut names)?;
     }
     Ok(names)
 }

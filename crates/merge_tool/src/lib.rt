@@ -13,15 +13,11 @@ mod clash;
 mod entries;
 mod holding;
 mod law;
+mod merge;
 mod naming;
 mod staging;
 mod wanting;
 mod writing;
 
-pub use clash::clash_test;
-pub use holding::{held, held_names};
 pub use law::{conflicts_of_merges, edits_stay, merged_is_sound, untold_stays};
-pub use naming::name_all;
-pub use staging::Staging;
-pub use wanting::{lost_names, wanted};
-pub use writing::{bring_back, let_go};
+pub use merge::{Merge, MergeTool};

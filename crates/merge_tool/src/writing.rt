@@ -17,11 +17,29 @@ use osm_base::Key;
 use osm_table::{SharedEntry, ToldMap, Why};
 use std::alloc::AllocError;
 
-/// Brings lost objects back, each as its known side.
+/// Brings the wanted objects back, and lets the candidates go, but for those that are held.
 ///
 /// # Errors
 /// No memory was left.
-pub fn bring_back(ds: &DataSet, draft: &mut Draft, wanted: &IndexSet<Key>) -> Result<(), AllocError>
+pub fn write(
+    ds: &DataSet,
+    told: &ToldMap,
+    draft: &mut Draft,
+    candidates: &IndexSet<Key>,
+    wanted: &IndexSet<Key>,
+    held: &IndexSet<Key>,
+) -> Result<(), AllocError>
+    requires going { (k : Key) → has is_key candidates.now.keys k ≡ is_going ds.now told.now.told k }
+    ensures entries { OnOk result ((q : Key) → entry_of (drafted draft.new ds.now) q ≡ (if has is_key candidates.now.keys q then left ds.now told.now.told held.now.keys q else (if has is_key wanted.now.keys q then option_map back (entry_of (drafted draft.old ds.now) q) else entry_of (drafted draft.old ds.now) q))) }
+    ensures number { OnOk result (draft.new.next ≡ draft.old.next) }
+{
+    bring_back(ds, draft, wanted)?;
+    let_go(ds, told, draft, candidates, held)?;
+    Ok(())
+}
+
+/// Brings lost objects back, each as its known side.
+fn bring_back(ds: &DataSet, draft: &mut Draft, wanted: &IndexSet<Key>) -> Result<(), AllocError>
     ensures entries { OnOk result ((q : Key) → entry_of (drafted draft.new ds.now) q ≡ (if has is_key wanted.now.keys q then option_map back (entry_of (drafted draft.old ds.now) q) else entry_of (drafted draft.old ds.now) q)) }
     ensures number { OnOk result (draft.new.next ≡ draft.old.next) }
 {
@@ -46,17 +64,14 @@ fn bring_one(ds: &DataSet, draft: &mut Draft, key: Key) -> Result<(), AllocError
 }
 
 /// Lets the candidates go, but for those that are held.
-///
-/// # Errors
-/// No memory was left.
-pub fn let_go(
+fn let_go(
     ds: &DataSet,
     told: &ToldMap,
     draft: &mut Draft,
     candidates: &IndexSet<Key>,
     held: &IndexSet<Key>,
 ) -> Result<(), AllocError>
-    requires going { (k : Key) → has is_key candidates.now.keys k ≡ true → is_going ds.now told.now.told k ≡ true }
+    requires going { (k : Key) → has is_key candidates.now.keys k ≡ is_going ds.now told.now.told k }
     ensures entries { OnOk result ((q : Key) → entry_of (drafted draft.new ds.now) q ≡ (if has is_key candidates.now.keys q then left ds.now told.now.told held.now.keys q else entry_of (drafted draft.old ds.now) q)) }
     ensures number { OnOk result (draft.new.next ≡ draft.old.next) }
 {
