@@ -7,3 +7,14 @@ pub mod Sounds
 pub mod Untold
 pub mod Conflicts
 pub mod Edits
+pub mod News
+pub mod Appends
+pub mod Bareds
+pub mod Puts
+pub mod Clashes
+pub mod Cases
+pub mod Untolds
+pub mod WantedEnds
+pub mod HeldEnds
+pub mod Finals
+pub mod Plans

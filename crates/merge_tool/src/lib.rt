@@ -1,6 +1,23 @@
 //! The tool that takes in downloads.
+//!
+//! `merge` of `tool_api` says what comes of a download: each object that is told of takes the outcome of its case, lost
+//! objects that are wanted come back, candidates that are held stay and all others go, and what living objects refer to is
+//! there. The tool looks at what is told, at what that names, and at what chains reach by the index; it passes over no
+//! table. One draft is built, in the order of the modules: `staging` takes the case of each key that is told of, and lists
+//! the names, the candidates and the clashes; `naming` lets names enter that aren't there, and lists the lost ones; `wanting`
+//! walks from these, `holding` from the names of both to the candidates, and `writing` puts what comes back, stays or goes.
+//! Where nothing that is told was known, the lists of the walks are empty, and only `staging` and `naming` cost.
 #![tactic(auto)]
 
+mod clash;
+mod entries;
+mod holding;
 mod law;
+mod merge;
+mod naming;
+mod staging;
+mod wanting;
+mod writing;
 
 pub use law::{conflicts_of_merges, edits_stay, merged_is_sound, untold_stays};
+pub use merge::{Merge, MergeTool};

@@ -1,0 +1,226 @@
+//! What a merge makes of one entry.
+ghost use Rattle.std.specs.Prelude.{◌≡◌, ◌&&◌, not, is_some, Some, IfOk};
+ghost use Rattle.std.specs.Option.{option_copied};
+ghost use Rattle.osm_table.specs.Table.{held_by};
+ghost use Rattle.osm_table.specs.Told.{told_of, entry_told};
+ghost use Rattle.dataset.specs.Exact.{mine_at};
+ghost use Rattle.merge_cases.specs.Case.{verdict_of};
+ghost use Rattle.tool_api.specs.Staged.{theirs_told, against, withdrawn, with_theirs, all_joined, staged, back, lost_of, is_dead};
+ghost use Rattle.merge_tool.specs.Passes.{Gives};
+
+use merge_cases::{Verdict, joined};
+use osm_base::Content;
+use osm_table::{Base, Conflict, Entry, EntryParts, Shared, SharedEntry, Why};
+use std::alloc::{AllocError, Global};
+
+/// What a case makes of an entry, None where it stays as it is. What is taken as it is told shares its block.
+///
+/// # Errors
+/// No memory was left.
+pub fn staged(
+    alloc: Global,
+    verdict: Verdict,
+    old: Option<&SharedEntry>,
+    news: &SharedEntry,
+) -> Result<Option<SharedEntry>, AllocError>
+    requires case { verdict ≡ verdict_of (option_copied old) (told_of news.now) }
+    requires told { entry_told (told_of news.now) ≡ news.now }
+    ensures { IfOk result (λ new. Gives (option_copied old.entry) (staged verdict (option_copied old.entry) (theirs_told (told_of news.now))) new) }
+{
+    match verdict {
+        Verdict::Stay => Ok(None),
+        Verdict::Clash => Ok(None),
+        Verdict::Candidate => Ok(None),
+        Verdict::Mention => Ok(Some(news.copy()?)),
+        Verdict::Take => Ok(Some(news.copy()?)),
+        Verdict::Settle => Ok(Some(news.copy()?)),
+        Verdict::Keep => Ok(Some(shared(alloc, withdrawn(alloc, theirs(news)?)?)?)),
+        Verdict::Join => match old {
+            None => Ok(None),
+            Some(old) => Ok(Some(shared(alloc, with_theirs(alloc, theirs(news)?, old)?)?)),
+        },
+        Verdict::Dispute => match old {
+            None => Ok(None),
+            Some(old) => Ok(Some(against(alloc, Why::Changed, news, old)?)),
+        },
+    }
+}
+
+fn shared(alloc: Global, entry: Entry) -> Result<SharedEntry, AllocError>
+    ensures { IfOk result (λ shared. shared ≡ entry) }
+{
+    SharedEntry::new(alloc, entry)
+}
+
+/// What is told, as a base.
+#[tactic(auto, using(crate::proofs::News::theirs_known))]
+fn theirs(news: &SharedEntry) -> Result<Base, AllocError>
+    ensures { IfOk result (λ base. base ≡ theirs_told (told_of news.now)) }
+{
+    match news.parts() {
+        EntryParts::Incomplete => Ok(Base::New),
+        EntryParts::Known { base, .. } => base.copy(),
+    }
+}
+
+fn content_of(base: &Base) -> Result<Option<Content>, AllocError>
+    ensures { IfOk result (λ content. content ≡ held_by base.now) }
+{
+    copied(base.content())
+}
+
+fn copied(content: Option<&Content>) -> Result<Option<Content>, AllocError>
+    ensures { IfOk result (λ copy. copy ≡ option_copied content.entry) }
+{
+    match content {
+        None => Ok(None),
+        Some(content) => Ok(Some(content.copy()?)),
+    }
+}
+
+/// An object that came back.
+fn withdrawn(alloc: Global, theirs: Base) -> Result<Entry, AllocError>
+    ensures { IfOk result (λ entry. entry ≡ withdrawn theirs) }
+{
+    let mine = content_of(&theirs)?;
+    let conflict = Conflict {
+        why: Why::Withdrawn,
+        theirs: theirs.copy()?,
+    };
+    Ok(Entry::Known {
+        base: theirs,
+        mine,
+        conflict: Some(Shared::new(alloc, conflict)?),
+    })
+}
+
+/// An entry in conflict with what is told.
+///
+/// # Errors
+/// No memory was left.
+pub fn against(
+    alloc: Global,
+    why: Why,
+    news: &SharedEntry,
+    old: &SharedEntry,
+) -> Result<SharedEntry, AllocError>
+    ensures { IfOk result (λ new. new ≡ against why (theirs_told (told_of news.now)) old.now) }
+{
+    match old.parts() {
+        EntryParts::Incomplete => old.copy(),
+        EntryParts::Known { base, mine, .. } => {
+            let conflict = Conflict {
+                why,
+                theirs: theirs(news)?,
+            };
+            shared(
+                alloc,
+                Entry::Known {
+                    base: base.copy()?,
+                    mine: copied(mine)?,
+                    conflict: Some(Shared::new(alloc, conflict)?),
+                },
+            )
+        }
+    }
+}
+
+fn all_joined(
+    alloc: Global,
+    base: Option<&Content>,
+    mine: Option<&Content>,
+    theirs: Option<&Content>,
+) -> Result<Option<Content>, AllocError>
+    ensures { IfOk result (λ content. content ≡ all_joined (option_copied base.entry) (option_copied mine.entry) (option_copied theirs.entry)) }
+{
+    match (base, mine, theirs) {
+        (Some(base), Some(mine), Some(theirs)) => joined(alloc, base, mine, theirs),
+        _ => Ok(None),
+    }
+}
+
+/// Mine joined with theirs.
+fn with_theirs(alloc: Global, theirs: Base, old: &SharedEntry) -> Result<Entry, AllocError>
+    ensures { IfOk result (λ new. new ≡ with_theirs theirs old.now) }
+{
+    match old.parts() {
+        EntryParts::Incomplete => Ok(Entry::Incomplete),
+        EntryParts::Known { base, mine, .. } => {
+            let mine = all_joined(alloc, base.content(), mine, theirs.content())?;
+            Ok(Entry::Known {
+                base: theirs,
+                mine,
+                conflict: None,
+            })
+        }
+    }
+}
+
+/// A lost object that is wanted, as its known side.
+///
+/// # Errors
+/// No memory was left.
+pub fn back(alloc: Global, entry: &SharedEntry) -> Result<SharedEntry, AllocError>
+    ensures { IfOk result (λ new. new ≡ back entry.now) }
+{
+    match entry.parts() {
+        EntryParts::Incomplete => entry.copy(),
+        EntryParts::Known { base, conflict, .. } => match conflict {
+            None => shared(alloc, withdrawn(alloc, base.copy()?)?),
+            Some(conflict) => shared(alloc, withdrawn(alloc, conflict.theirs.copy()?)?),
+        },
+    }
+}
+
+/// The content of an entry that lives.
+pub fn mine(entry: Option<&SharedEntry>) -> Option<&Content>
+    ensures { option_copied result ≡ mine_at (option_copied entry.entry) }
+{
+    match entry {
+        None => None,
+        Some(entry) => entry.mine(),
+    }
+}
+
+/// What the known side holds, where the entry doesn't live.
+pub fn lost(entry: Option<&SharedEntry>) -> Option<&Content>
+    ensures { option_copied result ≡ lost_of (option_copied entry.entry) }
+{
+    match entry {
+        None => None,
+        Some(entry) => lost_content(entry),
+    }
+}
+
+/// Whether an object was lost here: the known side holds something, and the entry doesn't live.
+pub fn is_lost(entry: Option<&SharedEntry>) -> bool
+    ensures { result ≡ is_some (lost_of (option_copied entry.entry)) }
+{
+    lost(entry).is_some()
+}
+
+fn lost_content(entry: &SharedEntry) -> Option<&Content>
+    ensures { option_copied result ≡ lost_of (Some entry.now) }
+{
+    match entry.parts() {
+        EntryParts::Known {
+            base,
+            mine: None,
+            conflict,
+        } => match conflict {
+            None => base.content(),
+            Some(conflict) => conflict.theirs.content(),
+        },
+        _ => None,
+    }
+}
+
+/// Whether an object is gone on both sides.
+pub fn is_gone(entry: &SharedEntry) -> bool
+    ensures { result ≡ (is_dead entry.now && not (is_some (lost_of (Some entry.now)))) }
+{
+    match entry.parts() {
+        EntryParts::Known { mine: None, .. } => lost_content(entry).is_none(),
+        _ => false,
+    }
+}

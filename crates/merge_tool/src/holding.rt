@@ -1,0 +1,188 @@
+//! The candidates that are held.
+ghost use Rattle.std.specs.Prelude.{◌≡◌, ◌++◌, ◌∷◌, [], ◌↔◌, true, IfOk, OnOk, filter};
+ghost use Rattle.std.specs.List.{flat_map};
+ghost use Rattle.osm_base.specs.Rank.{is_key};
+ghost use Rattle.osm_base.specs.declared.key.Key.{Key};
+ghost use Rattle.osm_table.specs.Table.{entry_of};
+ghost use Rattle.dataset.specs.Draft.{drafted};
+ghost use Rattle.dataset.specs.Sound.{IsSound};
+ghost use Rattle.tool_api.specs.Staged.{stage_of, bared};
+ghost use Rattle.tool_api.specs.Merged.{both_keys, held, named_by_wanted, named_by_held};
+ghost use Rattle.closure.specs.Closure.{has, Chain};
+ghost use Rattle.merge_tool.specs.Walks.{mine_refs, going_links};
+ghost use Rattle.merge_tool.specs.Passes.{has_untold_user, held_starts, is_going, firm_refs};
+
+use crate::entries::mine;
+use crate::naming::name_all;
+use crate::staging::{has_untold_user, push_all};
+use closure::{Links, reach};
+use dataset::{DataSet, Draft};
+use indexmap::IndexSet;
+use osm_base::Key;
+use osm_table::ToldMap;
+use std::alloc::AllocError;
+
+/// The candidates, with those to which they refer.
+#[derive(Clone, Copy)]
+pub struct CandidateLinks<'a> {
+    pub ds: &'a DataSet,
+    pub candidates: &'a IndexSet<Key>,
+}
+
+impl<'a> Links for CandidateLinks<'a> {
+    ghost use Rattle.merge_tool.specs.Walks.{going_links};
+
+    ghost next = { λ s k. going_links s.candidates.now.keys s.ds.now k };
+
+    fn append(&self, key: Key, out: &mut Vec<Key>) -> Result<(), AllocError> {
+        if is_among(self.candidates, key) {
+            let mut refs = Vec::new(self.ds.alloc());
+            push_all(mine(self.ds.entry(key)), &mut refs)?;
+            push_going(self.candidates, &refs, out)?;
+        }
+        Ok(())
+    }
+}
+
+/// Appends the candidates of these keys.
+fn push_going(
+    candidates: &IndexSet<Key>,
+    keys: &[Key],
+    out: &mut Vec<Key>,
+) -> Result<(), AllocError>
+    ensures { OnOk result (out.new.items ≡ out.old.items ++ filter (has is_key candidates.now.keys) keys.now) }
+{
+    for key in keys {
+        push_if_going(candidates, *key, out)?;
+    }
+    Ok(())
+}
+
+fn push_if_going(candidates: &IndexSet<Key>, key: Key, out: &mut Vec<Key>) -> Result<(), AllocError>
+    ensures { OnOk result (out.new.items ≡ out.old.items ++ filter (has is_key candidates.now.keys) (key ∷ [])) }
+{
+    if is_among(candidates, key) {
+        out.push(key)?;
+    }
+    Ok(())
+}
+
+/// Whether a key is one of these.
+#[tactic(auto, using(closure::proofs::KeyLaws::has_same))]
+pub fn is_among(keys: &IndexSet<Key>, key: Key) -> bool
+    ensures { result ≡ has is_key keys.now.keys key }
+{
+    keys.contains(&key)
+}
+
+/// Appends those of these keys to which an object refers that isn't told of.
+fn push_used(
+    ds: &DataSet,
+    told: &ToldMap,
+    keys: &IndexSet<Key>,
+    out: &mut Vec<Key>,
+) -> Result<(), AllocError>
+    ensures { OnOk result (out.new.items ≡ out.old.items ++ filter (has_untold_user ds.now told.now.told) keys.now.keys) }
+{
+    for i in 0..keys.len() {
+        push_if_used(ds, told, keys[i], out)?;
+    }
+    Ok(())
+}
+
+fn push_if_used(
+    ds: &DataSet,
+    told: &ToldMap,
+    key: Key,
+    out: &mut Vec<Key>,
+) -> Result<(), AllocError>
+    ensures { OnOk result (out.new.items ≡ out.old.items ++ filter (has_untold_user ds.now told.now.told) (key ∷ [])) }
+{
+    if has_untold_user(ds, told, key) {
+        out.push(key)?;
+    }
+    Ok(())
+}
+
+/// The candidates to which one of the names refers, or an object that isn't told of. Nothing is looked at where there is
+/// no candidate.
+fn held_starts(
+    ds: &DataSet,
+    told: &ToldMap,
+    candidates: &IndexSet<Key>,
+    names: &[Key],
+    late: &[Key],
+) -> Result<Vec<Key>, AllocError>
+    ensures { IfOk result (λ starts. starts.items ≡ held_starts ds.now told.now.told candidates.now.keys names.now late.now) }
+{
+    let mut starts = Vec::new(ds.alloc());
+    if candidates.is_empty() {
+        return Ok(starts);
+    }
+    push_going(candidates, names, &mut starts)?;
+    push_going(candidates, late, &mut starts)?;
+    push_used(ds, told, candidates, &mut starts)?;
+    Ok(starts)
+}
+
+/// Finds the candidates that are held, by the names of firm and of wanted objects, and sees to it that what these refer to
+/// is there. One look-up for each name, each user of a candidate, and each object to which a held one refers; none where
+/// there is no candidate.
+///
+/// # Errors
+/// No memory was left.
+pub fn hold(
+    ds: &DataSet,
+    told: &ToldMap,
+    draft: &mut Draft,
+    candidates: &IndexSet<Key>,
+    names: &[Key],
+    late: &[Key],
+) -> Result<IndexSet<Key>, AllocError>
+    requires sound { IsSound ds.now }
+    requires candidates { (k : Key) → has is_key candidates.now.keys k ≡ is_going ds.now told.now.told k }
+    requires names { names.now ≡ flat_map (firm_refs ds.now told.now.told) told.now.order }
+    requires late { (k : Key) → has is_key late.now k ≡ named_by_wanted (stage_of ds.now told.now.told) (both_keys ds.now told.now.told) k }
+    ensures held { IfOk result (λ h. (k : Key) → has is_key h.keys k ≡ has is_key (held (stage_of ds.now told.now.told) (both_keys ds.now told.now.told)) k) }
+    ensures entries { IfOk result (λ h. (k : Key) → entry_of (drafted draft.new ds.now) k ≡ bared (named_by_held (stage_of ds.now told.now.told) (both_keys ds.now told.now.told) k) (entry_of (drafted draft.old ds.now) k)) }
+    ensures number { IfOk result (λ h. draft.new.next ≡ draft.old.next) }
+{
+    told.sound();
+    let keys = held_walk(ds, told, candidates, names, late)?;
+    let last = held_names(ds, &keys)?;
+    let mut lost = Vec::new(ds.alloc());
+    name_all(ds, draft, &last, &mut lost)?;
+    Ok(keys)
+}
+
+/// The candidates at the ends of chains of candidates, to whose first one of the names refers or an object that isn't told
+/// of.
+///
+/// # Errors
+/// No memory was left.
+fn held_walk(
+    ds: &DataSet,
+    told: &ToldMap,
+    candidates: &IndexSet<Key>,
+    names: &[Key],
+    late: &[Key],
+) -> Result<IndexSet<Key>, AllocError>
+    ensures { IfOk result (λ marks. (k : Key) → (has is_key marks.keys k ≡ true) ↔ Chain (has is_key (held_starts ds.now told.now.told candidates.now.keys names.now late.now)) (λ j. has is_key (going_links candidates.now.keys ds.now j)) k) }
+{
+    let starts = held_starts(ds, told, candidates, names, late)?;
+    reach(ds.alloc(), &starts, &CandidateLinks { ds, candidates })
+}
+
+/// To what these candidates refer, each as often as it stands.
+///
+/// # Errors
+/// No memory was left.
+fn held_names(ds: &DataSet, keys: &IndexSet<Key>) -> Result<Vec<Key>, AllocError>
+    ensures { IfOk result (λ names. names.items ≡ flat_map (mine_refs ds.now) keys.now.keys) }
+{
+    let mut names = Vec::new(ds.alloc());
+    for i in 0..keys.len() {
+        push_all(mine(ds.entry(keys[i])), &mut names)?;
+    }
+    Ok(names)
+}

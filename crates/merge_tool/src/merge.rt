@@ -1,0 +1,99 @@
+//! Takes in a download.
+ghost use Rattle.std.specs.Prelude.{◌≡◌, IfOk, filter};
+ghost use Rattle.std.specs.List.{flat_map};
+ghost use Rattle.osm_base.specs.declared.key.Key.{Key};
+ghost use Rattle.osm_table.specs.Table.{entry_of};
+ghost use Rattle.dataset.specs.Draft.{drafted};
+ghost use Rattle.dataset.specs.Sound.{IsSound};
+ghost use Rattle.tool_api.specs.Staged.{stage_of};
+ghost use Rattle.tool_api.specs.Merged.{merge, both_keys, final};
+ghost use Rattle.tool_api.specs.Planned.{Plans};
+ghost use Rattle.merge_tool.specs.Passes.{early, firm_refs, is_going};
+
+use crate::clash::clash_test;
+use crate::holding::hold;
+use crate::staging::Staging;
+use crate::wanting::want;
+use crate::writing::write;
+use closure::set_of;
+use dataset::{DataSet, Draft};
+use osm_base::{Key, Keys};
+use osm_table::ToldMap;
+use std::alloc::AllocError;
+use tool_api::{Command, Job, Plan, Undoable, Verb, room_test};
+
+/// What a merge makes of the table, from the outcome of each case: what is named enters or is wanted, what is wanted comes
+/// back and names more, what these name is held, and all other candidates go.
+fn merged(
+    ds: &DataSet,
+    told: &ToldMap,
+    staged: Draft,
+    names: &[Key],
+    candidates: &[Key],
+) -> Result<Draft, AllocError>
+    requires sound { IsSound ds.now }
+    requires entries { (k : Key) → entry_of (drafted staged ds.now) k ≡ early ds.now told.now.told k }
+    requires names { names.now ≡ flat_map (firm_refs ds.now told.now.told) told.now.order }
+    requires candidates { candidates.now ≡ filter (is_going ds.now told.now.told) told.now.order }
+    ensures entries { IfOk result (λ draft. (k : Key) → entry_of (drafted draft ds.now) k ≡ final (stage_of ds.now told.now.told) (both_keys ds.now told.now.told) k) }
+    ensures number { IfOk result (λ draft. draft.next ≡ staged.next) }
+{
+    told.sound();
+    let mut draft = staged;
+    let candidates = set_of(ds.alloc(), candidates)?;
+    let wanted = want(ds, told, &mut draft, names)?;
+    let held = hold(ds, told, &mut draft, &candidates, names, &wanted.names)?;
+    write(ds, told, &mut draft, &candidates, &wanted.keys, &held)?;
+    Ok(draft)
+}
+
+fn merge_plan(ds: &DataSet, told: &ToldMap, limit: u64) -> Result<Plan, AllocError>
+    requires sound { IsSound ds.now }
+    ensures { IfOk result (Plans ds.now (merge ds.now limit told.now)) }
+{
+    let Staging {
+        draft,
+        names,
+        candidates,
+        clashes,
+    } = Staging::of(ds, told)?;
+    if let Some(refusal) = clash_test(ds, told, clashes)? {
+        return Ok(Plan::Refused(refusal));
+    }
+    let draft = merged(ds, told, draft, &names, &candidates)?;
+    if let Some(refusal) = room_test(ds, &draft, limit)? {
+        return Ok(Plan::Refused(refusal));
+    }
+    told.sound();
+    Ok(Plan::Change {
+        draft,
+        made: Keys::new(ds.alloc()),
+    })
+}
+
+/// Takes in what downloads tell.
+#[derive(Drop)]
+pub struct Merge {}
+
+impl Command for Merge {
+    ghost use Rattle.tool_api.specs.declared.verb.Verb.TheVariants as verb;
+
+    ghost kind = { verb.Merge };
+
+    fn new() -> Merge {
+        Merge {}
+    }
+
+    fn verb(&self) -> Verb {
+        Verb::Merge
+    }
+
+    fn plan(&self, ds: &DataSet, job: &Job, limit: u64) -> Result<Plan, AllocError> {
+        match job {
+            Job::Merge { told } => merge_plan(ds, told, limit),
+            _ => unreachable!(),
+        }
+    }
+}
+
+pub type MergeTool = Undoable<Merge>;

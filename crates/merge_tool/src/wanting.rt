@@ -1,0 +1,127 @@
+//! The lost objects that are wanted.
+ghost use Rattle.std.specs.Prelude.{◌≡◌, ◌++◌, ◌∷◌, [], ◌↔◌, true, IfOk, OnOk, filter};
+ghost use Rattle.std.specs.List.{flat_map};
+ghost use Rattle.osm_base.specs.Rank.{is_key};
+ghost use Rattle.osm_base.specs.declared.key.Key.{Key};
+ghost use Rattle.osm_table.specs.Table.{entry_of};
+ghost use Rattle.dataset.specs.Draft.{drafted};
+ghost use Rattle.dataset.specs.Sound.{IsSound};
+ghost use Rattle.tool_api.specs.Staged.{stage_of, bared};
+ghost use Rattle.tool_api.specs.Merged.{both_keys, wanted, named_by_wanted};
+ghost use Rattle.closure.specs.Closure.{has, Chain};
+ghost use Rattle.merge_tool.specs.Passes.{early, firm_refs};
+ghost use Rattle.merge_tool.specs.Walks.{is_lost, lost_refs, lost_links};
+
+use crate::entries::{is_lost, lost};
+use crate::naming::name_all;
+use crate::staging::push_all;
+use closure::{Links, reach};
+use dataset::{DataSet, Draft};
+use indexmap::IndexSet;
+use osm_base::Key;
+use osm_table::ToldMap;
+use std::alloc::AllocError;
+
+/// The lost objects, with the lost ones to which they would refer.
+#[derive(Clone, Copy)]
+pub struct LostLinks<'a> {
+    pub ds: &'a DataSet,
+    pub draft: &'a Draft,
+}
+
+impl<'a> Links for LostLinks<'a> {
+    ghost use Rattle.dataset.specs.Draft.{drafted};
+    ghost use Rattle.merge_tool.specs.Walks.{lost_links};
+
+    ghost next = { λ s k. lost_links (drafted s.draft.now s.ds.now) k };
+
+    fn append(&self, key: Key, out: &mut Vec<Key>) -> Result<(), AllocError> {
+        let mut refs = Vec::new(self.ds.alloc());
+        push_all(lost(self.draft.entry(self.ds, key)), &mut refs)?;
+        push_lost(self.ds, self.draft, &refs, out)
+    }
+}
+
+/// Appends the lost ones of these keys.
+fn push_lost(
+    ds: &DataSet,
+    draft: &Draft,
+    keys: &[Key],
+    out: &mut Vec<Key>,
+) -> Result<(), AllocError>
+    ensures { OnOk result (out.new.items ≡ out.old.items ++ filter (is_lost (drafted draft.now ds.now)) keys.now) }
+{
+    for key in keys {
+        push_if_lost(ds, draft, *key, out)?;
+    }
+    Ok(())
+}
+
+fn push_if_lost(ds: &DataSet, draft: &Draft, key: Key, out: &mut Vec<Key>) -> Result<(), AllocError>
+    ensures { OnOk result (out.new.items ≡ out.old.items ++ filter (is_lost (drafted draft.now ds.now)) (key ∷ [])) }
+{
+    if is_lost(draft.entry(ds, key)) {
+        out.push(key)?;
+    }
+    Ok(())
+}
+
+/// The lost objects that come back, and to what they refer, each as often as it stands.
+#[derive(Drop)]
+pub struct Wanted {
+    pub keys: IndexSet<Key>,
+    pub names: Vec<Key>,
+}
+
+/// Sees to it that what is named is there, finds the lost objects that come back for that, and sees to it that what these
+/// name is there. Two look-ups at most for each name, and one for each object that comes back.
+///
+/// # Errors
+/// No memory was left.
+pub fn want(
+    ds: &DataSet,
+    told: &ToldMap,
+    draft: &mut Draft,
+    names: &[Key],
+) -> Result<Wanted, AllocError>
+    requires sound { IsSound ds.now }
+    requires entries { (k : Key) → entry_of (drafted draft.old ds.now) k ≡ early ds.now told.now.told k }
+    requires names { names.now ≡ flat_map (firm_refs ds.now told.now.told) told.now.order }
+    ensures wanted { IfOk result (λ w. (k : Key) → has is_key w.keys.keys k ≡ has is_key (wanted (stage_of ds.now told.now.told) (both_keys ds.now told.now.told)) k) }
+    ensures names { IfOk result (λ w. (k : Key) → has is_key w.names.items k ≡ named_by_wanted (stage_of ds.now told.now.told) (both_keys ds.now told.now.told) k) }
+    ensures entries { IfOk result (λ w. (k : Key) → entry_of (drafted draft.new ds.now) k ≡ bared (has is_key w.names.items k) (bared (has is_key names.now k) (entry_of (drafted draft.old ds.now) k))) }
+    ensures number { IfOk result (λ w. draft.new.next ≡ draft.old.next) }
+{
+    told.sound();
+    let mut lost = Vec::new(ds.alloc());
+    name_all(ds, draft, names, &mut lost)?;
+    let keys = lost_walk(ds, draft, &lost)?;
+    let late = lost_names(ds, draft, &keys)?;
+    name_all(ds, draft, &late, &mut lost)?;
+    Ok(Wanted { keys, names: late })
+}
+
+/// The lost objects at the ends of chains of lost ones. One look-up for each of them, and two at
+/// most for each object to which they would refer.
+///
+/// # Errors
+/// No memory was left.
+fn lost_walk(ds: &DataSet, draft: &Draft, starts: &[Key]) -> Result<IndexSet<Key>, AllocError>
+    ensures { IfOk result (λ marks. (k : Key) → (has is_key marks.keys k ≡ true) ↔ Chain (has is_key starts.now) (λ j. has is_key (lost_links (drafted draft.now ds.now) j)) k) }
+{
+    reach(ds.alloc(), starts, &LostLinks { ds, draft })
+}
+
+/// To what these lost objects would refer, each as often as it stands.
+///
+/// # Errors
+/// No memory was left.
+fn lost_names(ds: &DataSet, draft: &Draft, keys: &IndexSet<Key>) -> Result<Vec<Key>, AllocError>
+    ensures { IfOk result (λ names. names.items ≡ flat_map (lost_refs (drafted draft.now ds.now)) keys.now.keys) }
+{
+    let mut names = Vec::new(ds.alloc());
+    for i in 0..keys.len() {
+        push_all(lost(draft.entry(ds, keys[i])), &mut names)?;
+    }
+    Ok(names)
+}

@@ -1,0 +1,117 @@
+//! What is written at the end: what comes back, is held or goes.
+ghost use Rattle.std.specs.Prelude.{◌≡◌, ◌∷◌, [], if◌then◌else◌, true, Some, IfOk, OnOk};
+ghost use Rattle.std.specs.Option.{option_map};
+ghost use Rattle.osm_base.specs.Rank.{is_key};
+ghost use Rattle.osm_base.specs.declared.key.Key.{Key};
+ghost use Rattle.osm_table.specs.Table.{entry_of};
+ghost use Rattle.dataset.specs.Draft.{drafted};
+ghost use Rattle.closure.specs.Closure.{has};
+ghost use Rattle.tool_api.specs.Staged.{back};
+ghost use Rattle.merge_tool.specs.Passes.{is_going, left};
+
+use crate::entries::{against, back};
+use crate::holding::is_among;
+use dataset::{DataSet, Draft};
+use indexmap::IndexSet;
+use osm_base::Key;
+use osm_table::{SharedEntry, ToldMap, Why};
+use std::alloc::AllocError;
+
+/// Brings the wanted objects back, and lets the candidates go, but for those that are held.
+///
+/// # Errors
+/// No memory was left.
+pub fn write(
+    ds: &DataSet,
+    told: &ToldMap,
+    draft: &mut Draft,
+    candidates: &IndexSet<Key>,
+    wanted: &IndexSet<Key>,
+    held: &IndexSet<Key>,
+) -> Result<(), AllocError>
+    requires going { (k : Key) → has is_key candidates.now.keys k ≡ is_going ds.now told.now.told k }
+    ensures entries { OnOk result ((q : Key) → entry_of (drafted draft.new ds.now) q ≡ (if has is_key candidates.now.keys q then left ds.now told.now.told held.now.keys q else (if has is_key wanted.now.keys q then option_map back (entry_of (drafted draft.old ds.now) q) else entry_of (drafted draft.old ds.now) q))) }
+    ensures number { OnOk result (draft.new.next ≡ draft.old.next) }
+{
+    bring_back(ds, draft, wanted)?;
+    let_go(ds, told, draft, candidates, held)?;
+    Ok(())
+}
+
+/// Brings lost objects back, each as its known side.
+fn bring_back(ds: &DataSet, draft: &mut Draft, wanted: &IndexSet<Key>) -> Result<(), AllocError>
+    ensures entries { OnOk result ((q : Key) → entry_of (drafted draft.new ds.now) q ≡ (if has is_key wanted.now.keys q then option_map back (entry_of (drafted draft.old ds.now) q) else entry_of (drafted draft.old ds.now) q)) }
+    ensures number { OnOk result (draft.new.next ≡ draft.old.next) }
+{
+    for i in 0..wanted.len() {
+        bring_one(ds, draft, wanted[i])?;
+    }
+    Ok(())
+}
+
+fn bring_one(ds: &DataSet, draft: &mut Draft, key: Key) -> Result<(), AllocError>
+    ensures entries { OnOk result ((q : Key) → entry_of (drafted draft.new ds.now) q ≡ (if is_key q key then option_map back (entry_of (drafted draft.old ds.now) q) else entry_of (drafted draft.old ds.now) q)) }
+    ensures number { OnOk result (draft.new.next ≡ draft.old.next) }
+{
+    match draft.entry(ds, key) {
+        None => Ok(()),
+        Some(entry) => {
+            let entry = back(ds.alloc(), entry)?;
+            draft.put_shared(key, Some(entry))?;
+            Ok(())
+        }
+    }
+}
+
+/// Lets the candidates go, but for those that are held.
+fn let_go(
+    ds: &DataSet,
+    told: &ToldMap,
+    draft: &mut Draft,
+    candidates: &IndexSet<Key>,
+    held: &IndexSet<Key>,
+) -> Result<(), AllocError>
+    requires going { (k : Key) → has is_key candidates.now.keys k ≡ is_going ds.now told.now.told k }
+    ensures entries { OnOk result ((q : Key) → entry_of (drafted draft.new ds.now) q ≡ (if has is_key candidates.now.keys q then left ds.now told.now.told held.now.keys q else entry_of (drafted draft.old ds.now) q)) }
+    ensures number { OnOk result (draft.new.next ≡ draft.old.next) }
+{
+    for i in 0..candidates.len() {
+        let_one_go(ds, told, draft, held, candidates[i])?;
+    }
+    Ok(())
+}
+
+fn let_one_go(
+    ds: &DataSet,
+    told: &ToldMap,
+    draft: &mut Draft,
+    held: &IndexSet<Key>,
+    key: Key,
+) -> Result<(), AllocError>
+    requires going { is_going ds.now told.now.told key ≡ true }
+    ensures entries { OnOk result ((q : Key) → entry_of (drafted draft.new ds.now) q ≡ (if is_key q key then left ds.now told.now.told held.now.keys q else entry_of (drafted draft.old ds.now) q)) }
+    ensures number { OnOk result (draft.new.next ≡ draft.old.next) }
+{
+    let entry = left(ds, told, held, key)?;
+    draft.put_shared(key, Some(entry))?;
+    Ok(())
+}
+
+/// What is left of a candidate: it stays in conflict with what is told where it is held, else it goes.
+fn left(
+    ds: &DataSet,
+    told: &ToldMap,
+    held: &IndexSet<Key>,
+    key: Key,
+) -> Result<SharedEntry, AllocError>
+    requires going { is_going ds.now told.now.told key ≡ true }
+    ensures { IfOk result (λ entry. Some entry ≡ left ds.now told.now.told held.now.keys key) }
+{
+    let news = told.get(key).unwrap();
+    if is_among(held, key) {
+        let old = ds.entry(key).unwrap();
+        against(ds.alloc(), Why::Held, news, old)
+    } else {
+        news.copy()
+    }
+}
