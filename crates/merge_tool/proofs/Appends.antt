@@ -1,7 +1,7 @@
 -- One key more of a pass that appends.
 use Rattle.std.proofs.Common.{◌<◌, length, drop, get_or, drop-cons, ◌≡◌, ◌↔◌, ◌||◌, ℕ, zero, suc, true, false, List, [], ◌∷◌, ◌++◌, take, slice_get, Some, sym, refl, ap, subst, ◌∙◌, append_assoc, Bool, filter}
 use Rattle.std.specs.Prelude.{Result, Ok, Err, IfOk}
-use Rattle.std.specs.List.{flat_map, list_any}
+use Rattle.std.specs.List.{flat_map}
 use Rattle.std.proofs.lemmas.Grind.{flat_map-append}
 use Rattle.std.proofs.lemmas.List.Elements.{filter-append}
 use Rattle.std.proofs.lemmas.List.Folds.{list_any-append}

@@ -1,10 +1,9 @@
 -- The least of the keys that clash.
-use Rattle.std.proofs.Common.{◌≡◌, ◌&&◌, zero, Bool, true, false, cond, List, [], ◌∷◌, Option, Some, None, is_some, slice_get, refl, sym, ap, ◌∙◌}
+use Rattle.std.proofs.Common.{◌≡◌, ◌&&◌, Bool, true, false, cond, List, [], ◌∷◌, Option, Some, None, is_some, slice_get, refl, sym, ap, ◌∙◌}
 use Rattle.std.specs.Option.{option_map}
 use Rattle.std.specs.List.{filter, find, list_any}
 use Rattle.std.specs.FinMap as fin
 use Rattle.osm_base.specs.Rank.{is_key}
-use Rattle.osm_base.specs.RisingKeys.{is_in}
 use Rattle.osm_base.specs.Order.{ranked}
 use Rattle.osm_base.proofs.RisingKeys.{in_filter}
 use Rattle.osm_base.proofs.RankedKeys.{rises_ranked, named_ranked}

@@ -1,27 +1,25 @@
 -- What the passes of a merge leave at each key.
-use Rattle.std.proofs.Common.{◌≡◌, ◌||◌, ◌++◌, Bool, true, false, List, [], ◌∷◌, Option, Some, None, is_some, cond, refl, sym, ◌∙◌, ap, subst, ◌↔◌, inl, inr, ◌⊎◌, filter}
+use Rattle.std.proofs.Common.{◌≡◌, ◌||◌, Bool, true, false, List, Option, Some, None, is_some, cond, refl, sym, ◌∙◌, ap, inl, inr, ◌⊎◌}
 use Rattle.std.specs.List.{list_any, flat_map}
 use Rattle.std.specs.Option.{option_map}
-use Rattle.std.proofs.lemmas.Bool.{or_cases, or_left, or_right, true≢false}
+use Rattle.std.proofs.lemmas.Bool.{or_cases, or_left, or_right}
 use Rattle.osm_base.specs.Rank.{is_key}
 use Rattle.osm_base.specs.declared.key.Key.{Key}
-use Rattle.osm_base.specs.declared.content.Content.{Content}
 use Rattle.osm_table.specs.declared.entry.Why.TheVariants.{Held}
 use Rattle.osm_table.specs.declared.entry.Entry.{Entry}
 use Rattle.osm_table.specs.declared.entry.Entry.TheVariants.{Known}
 use Rattle.osm_table.specs.Table.{TableValue, entry_of}
 use Rattle.osm_table.specs.Told.{ToldValue, told_at}
 use Rattle.dataset.specs.Sound.{IsSound}
-use Rattle.closure.specs.Closure.{has, Chain}
+use Rattle.closure.specs.Closure.{has}
 use Rattle.tool_api.specs.Staged.{stage_of, theirs_at, lost_of, against, back, bared}
 use Rattle.tool_api.specs.Merged.{both_keys, named_by_firm, named_by_wanted, named_by_held, wanted, held, named, final}
-use Rattle.merge_tool.specs.Walks.{is_lost, lost_refs, lost_links, mine_refs, going_links}
-use Rattle.merge_tool.specs.Passes.{early, firm_refs, is_going, has_untold_user, held_starts, left}
+use Rattle.merge_tool.specs.Passes.{early, firm_refs, is_going, has_untold_user, left}
 use Rattle.merge_tool.proofs.Stand.{wanted_lost}
-use Rattle.merge_tool.proofs.Bareds.{lost_bared, bared_twice, bared_lost}
+use Rattle.merge_tool.proofs.Bareds.{bared_twice, bared_lost}
 use Rattle.merge_tool.proofs.Untolds.{same_bool, named_by_told, names_are, told_firm, untold_firm, firm_parts}
-use Rattle.merge_tool.proofs.WantedEnds.{lost_same, wanted_ends, late_are}
-use Rattle.merge_tool.proofs.HeldEnds.{stays, going_are, held_ends, last_are}
+use Rattle.merge_tool.proofs.WantedEnds.{lost_same}
+use Rattle.merge_tool.proofs.HeldEnds.{stays}
 
 -- What the passes found and made, in their order.
 pub record Passed (t : TableValue) (m : ToldValue) (u0 u2 u3 u5 : TableValue) (ns cs ws xs hs : List Key) : Type 0 where

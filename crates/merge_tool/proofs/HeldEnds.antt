@@ -1,23 +1,21 @@
 -- The walk over candidates ends with the held ones.
-use Rattle.std.proofs.Common.{◌≡◌, ◌&&◌, ◌||◌, ◌++◌, Bool, true, false, List, [], Option, Some, None, is_some, cond, refl, sym, ◌∙◌, ap, subst, ◌↔◌, inl, inr, ◌⊎◌, filter}
+use Rattle.std.proofs.Common.{◌≡◌, ◌&&◌, ◌||◌, ◌++◌, Bool, true, false, List, [], Option, Some, None, is_some, cond, refl, sym, ◌∙◌, ap, ◌↔◌, inl, inr, ◌⊎◌, filter}
 use Rattle.std.specs.List.{list_any, flat_map}
 use Rattle.std.proofs.lemmas.Bool.{or_cases, or_left, or_right, and_parts, and_from, true≢false}
-use Rattle.std.specs.FinMap as fin
 use Rattle.osm_base.specs.Rank.{is_key}
 use Rattle.osm_base.proofs.RisingKeys.{one_key, key_itself, in_filter}
 use Rattle.osm_base.specs.declared.key.Key.{Key}
-use Rattle.osm_base.specs.declared.content.Content.{Content}
 use Rattle.osm_table.specs.declared.entry.Entry.{Entry}
 use Rattle.osm_table.specs.declared.told.Told.{Told}
 use Rattle.osm_table.specs.Table.{TableValue, entry_of}
 use Rattle.osm_table.specs.Told.{ToldValue, told_at}
 use Rattle.dataset.specs.Exact.{mine_at}
 use Rattle.dataset.specs.Sound.{IsSound}
-use Rattle.closure.specs.Closure.{has, Chain, least, rounds, by_chains}
+use Rattle.closure.specs.Closure.{has, Chain}
 use Rattle.closure.proofs.Least.{kept, kept_from}
 use Rattle.closure.proofs.Chains.{some_of, any_of, chain_maps, chain_of, of_chain, each_in}
 use Rattle.closure.proofs.Walk.{has_append, has_first, has_second}
-use Rattle.tool_api.specs.Staged.{stage_of, theirs_at, verdict_at, is_candidate, refers_by, refs_by}
+use Rattle.tool_api.specs.Staged.{stage_of, theirs_at, verdict_at, refers_by}
 use Rattle.tool_api.specs.Merged.{both_keys, candidate_content, named_by_firm, named_by_wanted, named_by_held, held, held_start, held_leads}
 use Rattle.merge_tool.specs.Walks.{mine_refs, going_links}
 use Rattle.merge_tool.specs.Passes.{has_untold_user, held_starts, is_going}

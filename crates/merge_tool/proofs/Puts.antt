@@ -1,5 +1,5 @@
 -- One key more of a pass that puts entries.
-use Rattle.std.proofs.Common.{◌≡◌, ◌||◌, ℕ, zero, suc, Bool, true, false, List, [], ◌∷◌, ◌++◌, take, filter, slice_get, length, Option, Some, None, is_some, cond, refl, sym, ap, subst, ◌∙◌}
+use Rattle.std.proofs.Common.{◌≡◌, ◌||◌, ℕ, zero, suc, Bool, true, false, List, [], ◌∷◌, take, filter, slice_get, Option, Some, is_some, cond, refl, sym, ap, ◌∙◌}
 use Rattle.std.specs.FinMap as fin
 use Rattle.std.specs.Option.{option_map}
 use Rattle.osm_base.specs.Rank.{is_key}
@@ -7,14 +7,14 @@ use Rattle.osm_base.proofs.RisingKeys.{one_key, key_itself}
 use Rattle.osm_base.specs.declared.key.Key.{Key}
 use Rattle.osm_table.specs.declared.entry.Entry.{Entry}
 use Rattle.osm_table.specs.declared.entry.Entry.TheVariants.{Incomplete}
-use Rattle.osm_table.specs.Table.{TableValue, entry_of, with_entry}
+use Rattle.osm_table.specs.Table.{TableValue, entry_of}
 use Rattle.dataset.specs.Draft.{DraftValue, drafted}
 use Rattle.tool_api.proofs.Looks.{put_placed, entry_placed}
 use Rattle.closure.specs.Closure.{has}
 use Rattle.tool_api.specs.Staged.{lost_of, bared, back}
 use Rattle.merge_tool.specs.Walks.{is_lost}
 use Rattle.merge_tool.specs.Passes.{noted, is_there}
-use Rattle.merge_tool.proofs.Appends.{has_taken, taken_all, taken_more}
+use Rattle.merge_tool.proofs.Appends.{has_taken}
 use Rattle.merge_tool.proofs.Stand.{bared_none}
 use Rattle.merge_tool.proofs.Bareds.{there_bared, bared_lost, bared_gone, lost_bared, bared_twice, back_twice}
 

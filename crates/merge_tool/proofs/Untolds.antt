@@ -1,7 +1,7 @@
 -- Of which objects a merge has to look at the references.
-use Rattle.std.proofs.Common.{◌≡◌, ◌||◌, Bool, true, false, not, List, [], ◌++◌, Option, Some, None, is_some, cond, refl, sym, ◌∙◌, ap, subst, ◌↔◌, inl, inr, ◌⊎◌, ◌∷◌, filter}
+use Rattle.std.proofs.Common.{◌≡◌, ◌||◌, Bool, true, false, not, List, [], Option, Some, None, is_some, cond, refl, sym, ◌∙◌, ap, inl, inr, ◌⊎◌, ◌∷◌}
 use Rattle.std.specs.List.{list_any, flat_map}
-use Rattle.std.proofs.lemmas.Bool.{or_cases, true≢false}
+use Rattle.std.proofs.lemmas.Bool.{true≢false}
 use Rattle.std.specs.FinMap as fin
 use Rattle.osm_base.specs.Rank.{is_key}
 use Rattle.osm_base.proofs.RisingKeys.{one_key, key_itself}
@@ -17,8 +17,8 @@ use Rattle.dataset.proofs.Listed.{user_uses}
 use Rattle.closure.specs.Closure.{has}
 use Rattle.closure.proofs.Chains.{some_of, any_of}
 use Rattle.closure.proofs.Walk.{has_append, has_second}
-use Rattle.tool_api.specs.Staged.{stage_of, staged, lost_of, is_candidate, refers_by, refs_by}
-use Rattle.tool_api.specs.Merged.{both_keys, firm_content, lost_content, named_by_firm}
+use Rattle.tool_api.specs.Staged.{stage_of, staged, is_candidate, refers_by, refs_by}
+use Rattle.tool_api.specs.Merged.{both_keys, firm_content, named_by_firm}
 use Rattle.merge_tool.specs.Passes.{firm_refs, has_untold_user}
 use Rattle.merge_tool.proofs.Rows.{theirs_by, verdict_by}
 use Rattle.merge_tool.proofs.Fitting.{fits}

@@ -1,8 +1,7 @@
 -- The walk from what is told ends with the wanted objects of the whole table.
-use Rattle.std.proofs.Common.{◌≡◌, Bool, true, false, List, [], ◌∷◌, Option, Some, None, is_some, cond, refl, sym, ◌∙◌, ap, subst, ◌↔◌, inl, inr, ◌⊎◌, filter}
+use Rattle.std.proofs.Common.{◌≡◌, Bool, true, false, List, [], ◌∷◌, Option, Some, None, is_some, cond, refl, sym, ◌∙◌, ap, ◌↔◌, inl, inr, ◌⊎◌, filter}
 use Rattle.std.specs.List.{list_any, flat_map}
 use Rattle.std.proofs.lemmas.Bool.{and_parts, and_from, true≢false}
-use Rattle.std.specs.FinMap as fin
 use Rattle.osm_base.specs.Rank.{is_key}
 use Rattle.osm_base.proofs.RisingKeys.{one_key, key_itself}
 use Rattle.osm_base.specs.declared.key.Key.{Key}
@@ -16,7 +15,7 @@ use Rattle.dataset.specs.Sound.{IsSound}
 use Rattle.closure.specs.Closure.{has, Chain}
 use Rattle.closure.proofs.Least.{kept, kept_from}
 use Rattle.closure.proofs.Chains.{chain_maps, chain_of, of_chain}
-use Rattle.tool_api.specs.Staged.{stage_of, lost_of, refers_by, refs_by, bared}
+use Rattle.tool_api.specs.Staged.{stage_of, lost_of, refers_by, bared}
 use Rattle.tool_api.specs.Merged.{both_keys, lost_content, named_by_firm, named_by_wanted, wanted, wanted_start, wanted_leads}
 use Rattle.merge_tool.specs.Walks.{is_lost, lost_refs, lost_links}
 use Rattle.merge_tool.specs.Passes.{has_untold_user, early, firm_refs}

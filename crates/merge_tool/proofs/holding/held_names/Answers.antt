@@ -1,4 +1,4 @@
-use Rattle.std.proofs.Common.{add-one, ◌∙◌, ap, ◌++◌, List, []}
+use Rattle.std.proofs.Common.{add-one, ◌∙◌, ap, ◌++◌, []}
 use Rattle.dataset.specs.Exact.{mine_at}
 use Rattle.tool_api.specs.Staged.{refs_by}
 use Rattle.merge_tool.specs.Walks.{mine_refs}

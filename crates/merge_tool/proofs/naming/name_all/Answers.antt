@@ -1,4 +1,4 @@
-use Rattle.std.proofs.Common.{add-one, arith, ◌∙◌, ◌<◌, ap, sym, ◌++◌, List, length}
+use Rattle.std.proofs.Common.{add-one, arith, ◌∙◌, ◌<◌, ap, ◌++◌, List, length}
 use Rattle.std.proofs.lemmas.Option.{slice_get-get_or}
 use Rattle.osm_base.specs.declared.key.Key.{Key}
 use Rattle.dataset.specs.Draft.{drafted}

@@ -1,4 +1,4 @@
-use Rattle.std.proofs.Common.{add-one, ◌∙◌, ap, ◌++◌, List, []}
+use Rattle.std.proofs.Common.{add-one, ◌∙◌, ap, ◌++◌, []}
 use Rattle.dataset.specs.Draft.{drafted}
 use Rattle.tool_api.specs.Staged.{lost_of, refs_by}
 use Rattle.merge_tool.specs.Walks.{lost_refs}

@@ -1,6 +1,5 @@
-use Rattle.std.proofs.Common.{Some, ap, ◌∙◌, sym}
+use Rattle.std.proofs.Common.{Some, ap, ◌∙◌}
 use Rattle.std.specs.Option.{option_map}
-use Rattle.dataset.specs.Draft.{drafted}
 use Rattle.tool_api.specs.Staged.{back}
 use Rattle.merge_tool.proofs.Puts.{put_mapped}
 use Rattle.merge_tool.proofs.writing.bring_one.Goals as goal
