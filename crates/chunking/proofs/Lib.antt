@@ -1,2 +1,3 @@
 mod Pieces
+mod Runs
 mod Texts
