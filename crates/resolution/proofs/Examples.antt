@@ -86,8 +86,9 @@ body_in_parts : (resolved (choice.Parts side.Mine []) (Known base (Some (dot 1 1
     × (resolved (choice.Parts side.Theirs []) (Known base (Some (dot 1 1 elsewhere)) (Some changed)) ≡ Known newer (Some (dot 5 9 there)) None)
 body_in_parts = (refl, refl)
 
-not_clashing : unclashing ((98 ∷ []) ∷ (97 ∷ []) ∷ (99 ∷ []) ∷ []) old mine theirs ≡ (98 ∷ []) ∷ (99 ∷ []) ∷ []
-not_clashing = refl
+not_clashing : (unclashing ((97 ∷ []) ∷ (98 ∷ []) ∷ (99 ∷ []) ∷ []) old mine theirs ≡ Some (98 ∷ []))
+    × (unclashing ((97 ∷ []) ∷ []) old mine theirs ≡ None)
+not_clashing = (refl, refl)
 
 -- a mix needs both sides, parts the base too
 choices : (can_choose (choice.Mix side.Mine side.Theirs) base (Some mine) changed ≡ true)

@@ -4,7 +4,7 @@
 -- `a=1,b=1`, of which mine has `a=2,b=1` and theirs `a=5,b=9`, the choice of parts makes `a=2,b=9`, and where the key `a`
 -- is listed `a=5,b=9`: only `a` clashes.
 use Rattle.std.specs.Prelude.{ℕ, Bool, true, false, not, if◌then◌else◌, List, Option, Some, None}
-use Rattle.std.specs.List.{filter}
+use Rattle.std.specs.List.{find}
 use Rattle.std.specs.Option.{is_none}
 use Rattle.osm_base.specs.Content.{tags_of}
 use Rattle.osm_base.specs.declared.content.Content.{Content}
@@ -90,6 +90,6 @@ can_choose choice.Theirs base mine conflict = true
 can_choose (choice.Mix tags body) base mine conflict = can_mix mine conflict
 can_choose (choice.Parts body listed) base mine conflict = if is_none (held_by base) then false else can_mix mine conflict
 
--- the listed keys whose tags don't clash, in their order
-abbrev pub unclashing : List (List ℕ) → Content → Content → Content → List (List ℕ)
-unclashing listed base mine theirs = filter (λ key. not (is_clash (tag_pick (tags_of base) (tags_of mine) (tags_of theirs) key))) listed
+-- the first listed key whose tag doesn't clash
+abbrev pub unclashing : List (List ℕ) → Content → Content → Content → Option (List ℕ)
+unclashing listed base mine theirs = find (λ key. not (is_clash (tag_pick (tags_of base) (tags_of mine) (tags_of theirs) key))) listed

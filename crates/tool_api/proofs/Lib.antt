@@ -4,6 +4,7 @@ pub mod Distincts
 pub mod Ends
 pub mod Examples
 mod MergeExamples
+mod ResolveExamples
 mod ConflictExamples
 mod PieceExamples
 pub mod Lasts

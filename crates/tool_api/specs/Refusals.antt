@@ -3,7 +3,7 @@
 -- For example a way w5 in conflict, which is named, is refused as `refused 4 w5`.
 use Rattle.std.specs.Prelude.{ℕ}
 use Rattle.tool_api.specs.declared.refusal.Refusal.{Refusal}
-use Rattle.tool_api.specs.declared.refusal.Refusal.TheVariants.{Absent, IncompleteObject, DeletedObject, InConflict, InUse, WrongKind, Unfit, OutOfRange, NamedTwice, NotInWay, NothingToSplit, NotJoined, TagClash, MemberClash, VersionClash, TableFull}
+use Rattle.tool_api.specs.declared.refusal.Refusal.TheVariants.{Absent, IncompleteObject, DeletedObject, InConflict, InUse, WrongKind, Unfit, OutOfRange, NamedTwice, NotInWay, NothingToSplit, NotJoined, TagClash, MemberClash, NoConflict, NotMixed, VersionClash, TableFull, NotClashing}
 
 -- the number in a reply
 abbrev pub number_of : Refusal → ℕ
@@ -21,5 +21,8 @@ number_of (NothingToSplit key) = 11
 number_of (NotJoined key) = 12
 number_of (TagClash key) = 13
 number_of (MemberClash key) = 14
+number_of (NoConflict key) = 15
+number_of (NotMixed key) = 16
 number_of (VersionClash key version) = 17
 number_of TableFull = 18
+number_of (NotClashing key) = 29

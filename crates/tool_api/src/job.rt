@@ -5,6 +5,7 @@ ghost use Rattle.tool_api.specs.Plain.{verb_of};
 use crate::verb::Verb;
 use osm_base::{Coord, Key, Keys, Members, Refs, Tags};
 use osm_table::ToldMap;
+use resolution::Choice;
 
 /// One command with its arguments. What it does is `plain` in specs/.
 #[derive(Drop)]
@@ -39,6 +40,8 @@ pub enum Job {
     Reverse { way: Key },
     /// What a download tells is taken in.
     Merge { told: ToldMap },
+    /// An object in conflict is settled by a choice.
+    Resolve { key: Key, choice: Choice },
 }
 
 impl Job {
@@ -62,6 +65,7 @@ impl Job {
             Job::Combine { .. } => Verb::Combine,
             Job::Reverse { .. } => Verb::Reverse,
             Job::Merge { .. } => Verb::Merge,
+            Job::Resolve { .. } => Verb::Resolve,
         }
     }
 }

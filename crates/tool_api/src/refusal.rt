@@ -35,11 +35,18 @@ pub enum Refusal {
     TagClash(Text),
     /// The relation's members don't name the ways as one run.
     MemberClash(Key),
+    /// The object isn't in conflict.
+    NoConflict(Key),
+    /// The conflict can't be settled by parts of both sides: only one side changed the object, or one of the contents that
+    /// are asked for isn't there.
+    NotMixed(Key),
     /// The download tells a version of the object otherwise than it is known: gone where it lives, or living where it is
     /// gone.
     VersionClash(Key, u32),
     /// The table would have more objects than the limit, or no number is left.
     TableFull,
+    /// The two sides' values of the tag with that key don't clash.
+    NotClashing(Text),
 }
 
 impl Refusal {
@@ -62,8 +69,11 @@ impl Refusal {
             Refusal::NotJoined(_) => 12,
             Refusal::TagClash(_) => 13,
             Refusal::MemberClash(_) => 14,
+            Refusal::NoConflict(_) => 15,
+            Refusal::NotMixed(_) => 16,
             Refusal::VersionClash(_, _) => 17,
             Refusal::TableFull => 18,
+            Refusal::NotClashing(_) => 29,
         }
     }
 }

@@ -16,6 +16,7 @@ pub enum Verb {
     Combine,
     Reverse,
     Merge,
+    Resolve,
 }
 
 impl Verb {
@@ -35,6 +36,7 @@ impl Verb {
             Verb::Combine => "Combine",
             Verb::Reverse => "Reverse",
             Verb::Merge => "Merge",
+            Verb::Resolve => "Resolve",
         }
     }
 }
