@@ -2,19 +2,16 @@
 ghost use Rattle.std.specs.Prelude.{◌≡◌, ◌≤◌, OnOk, OnErr, length};
 ghost use Rattle.std.specs.Io.KnownBytes.{Appends};
 ghost use Rattle.osm_base.specs.Meta.{empty_meta};
-ghost use Rattle.osm_outside.specs.Outside.{AppendsFront, HasCause};
+ghost use Rattle.osm_outside.specs.Outside.{AppendsFront, HasCauseOf};
 ghost use Rattle.chunking.specs.Chunks.{changes_text, chunk_count, chunks, counted_text, upload_line};
-ghost use Rattle.chunking.specs.Sent.{Passes, WriteCause};
+ghost use Rattle.chunking.specs.declared.fault.ChunkFault.TheVariants.{Write};
 
 use crate::fault::ChunkFault;
 use crate::lines::{write_item, write_upload_line};
 use osm_base::Meta;
-use osm_outside::{Failed, Sink};
+use osm_outside::{Sink, pass_full};
 use std::alloc::Global;
 use upload_order::{Change, Changes};
-
-/// A piece of text goes to the sink once it has so many bytes.
-const FULL: usize = 32_768;
 
 /// Writes the changes in chunks of a size, the last of which may be shorter. The text goes to the sink in pieces of some tens
 /// of KiB.
@@ -25,7 +22,7 @@ pub fn write_chunks<K: Sink>(changes: &Changes, size: u32, sink: &mut K) -> Resu
     requires { (1 ≤ size) × (size ≤ 10000) }
     ensures ok { OnOk result (Appends (K.taken sink.old) (K.taken sink.new) (chunks changes.now size)) }
     ensures err { OnErr result (AppendsFront (K.taken sink.old) (K.taken sink.new) (chunks changes.now size)) }
-    ensures cause { WriteCause (K.faults sink.old) (K.faults sink.new) result }
+    ensures cause { HasCauseOf Write (K.faults sink.old) (K.faults sink.new) result }
 {
     let list = changes.as_slice();
     let count = count_of(list, size as usize);
@@ -44,7 +41,7 @@ fn send_counted<K: Sink>(
     requires { 1 ≤ size }
     ensures ok { OnOk result (Appends (K.taken sink.old) (K.taken sink.new) (counted_text size count changes.now)) }
     ensures err { OnErr result (AppendsFront (K.taken sink.old) (K.taken sink.new) (counted_text size count changes.now)) }
-    ensures cause { WriteCause (K.faults sink.old) (K.faults sink.new) result }
+    ensures cause { HasCauseOf Write (K.faults sink.old) (K.faults sink.new) result }
 {
     send_first(alloc, changes, count, sink)?;
     send_changes(alloc, changes, size, count, sink)
@@ -66,7 +63,7 @@ fn send_first<K: Sink>(
 ) -> Result<(), ChunkFault>
     ensures ok { OnOk result (Appends (K.taken sink.old) (K.taken sink.new) (upload_line (length changes.now) count)) }
     ensures err { OnErr result (AppendsFront (K.taken sink.old) (K.taken sink.new) (upload_line (length changes.now) count)) }
-    ensures cause { WriteCause (K.faults sink.old) (K.faults sink.new) result }
+    ensures cause { HasCauseOf Write (K.faults sink.old) (K.faults sink.new) result }
 {
     let mut text = Vec::new(alloc);
     write_upload_line(changes.len() as u64, count, &mut text)?;
@@ -84,7 +81,7 @@ fn send_changes<K: Sink>(
     requires { 1 ≤ size }
     ensures ok { OnOk result (Appends (K.taken sink.old) (K.taken sink.new) (changes_text size count 0 changes.now)) }
     ensures err { OnErr result (AppendsFront (K.taken sink.old) (K.taken sink.new) (changes_text size count 0 changes.now)) }
-    ensures cause { WriteCause (K.faults sink.old) (K.faults sink.new) result }
+    ensures cause { HasCauseOf Write (K.faults sink.old) (K.faults sink.new) result }
 {
     let unknown = Meta::empty(alloc)?;
     send_items(alloc, changes, size, count, &unknown, sink)
@@ -102,7 +99,7 @@ fn send_items<K: Sink>(
     requires size { 1 ≤ size }
     ensures ok { OnOk result (Appends (K.taken sink.old) (K.taken sink.new) (changes_text size count 0 changes.now)) }
     ensures err { OnErr result (AppendsFront (K.taken sink.old) (K.taken sink.new) (changes_text size count 0 changes.now)) }
-    ensures cause { WriteCause (K.faults sink.old) (K.faults sink.new) result }
+    ensures cause { HasCauseOf Write (K.faults sink.old) (K.faults sink.new) result }
 {
     let mut piece = Vec::new(alloc);
     for at in 0..changes.len() {
@@ -110,19 +107,6 @@ fn send_items<K: Sink>(
         pass_full(sink, &mut piece)?;
     }
     sink.put(&piece)?;
-    Ok(())
-}
-
-/// Sends the piece where it is full, and leaves it empty then.
-fn pass_full<K: Sink>(sink: &mut K, piece: &mut Vec<u8>) -> Result<(), Failed>
-    ensures ok { OnOk result (Passes (K.taken sink.old) (K.taken sink.new) piece.old.items piece.new.items) }
-    ensures err { OnErr result (AppendsFront (K.taken sink.old) (K.taken sink.new) piece.old.items) }
-    ensures cause { HasCause (K.faults sink.old) (K.faults sink.new) result }
-{
-    if piece.len() >= FULL {
-        sink.put(piece)?;
-        piece.clear();
-    }
     Ok(())
 }
 

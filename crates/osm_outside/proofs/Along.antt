@@ -32,18 +32,22 @@ along-front old mid new text left all along more = record {
   appended = Appends-trans old mid new along.written more.front along.appended more.appended;
 }
 
+-- the text of the items from i on begins with that of the item at i
+pub item_next : {X : Type 0} (f : X → List ℕ) (xs : List X) (i : ℕ) (x d : X) → i < length xs → x ≡ get_or xs i d → flat_map f (drop i xs) ≡ f x ++ flat_map f (drop (i + 1) xs)
+item_next f xs i x d h e = at_drop_more (flat_map f) xs i d h ∙ ap (λ y. f y ++ flat_map f (drop (i + 1) xs)) (sym e)
+
 -- One item more of a list is written. Of an owning item d is the item itself, of a plain one a value of zeros.
 pub item_more : {X : Type 0} (f : X → List ℕ) (old mid new : Option (List ℕ)) (all : List ℕ) (xs : List X) (i : ℕ) (x d : X) → i < length xs → x ≡ get_or xs i d
     → Along old mid (flat_map f (drop i xs)) all → Appends mid new (f x) → Along old new (flat_map f (drop (i + 1) xs)) all
 item_more f old mid new all xs i x d h e along text =
     along-more old mid new (f x) (flat_map f (drop (i + 1) xs)) all
-    (subst (λ l. Along old mid l all) (at_drop_more (flat_map f) xs i d h ∙ ap (λ y. f y ++ flat_map f (drop (i + 1) xs)) (sym e)) along) text
+    (subst (λ l. Along old mid l all) (item_next f xs i x d h e) along) text
 
 pub item_front : {X : Type 0} (f : X → List ℕ) (old mid new : Option (List ℕ)) (all : List ℕ) (xs : List X) (i : ℕ) (x d : X) → i < length xs → x ≡ get_or xs i d
     → Along old mid (flat_map f (drop i xs)) all → AppendsFront mid new (f x) → AppendsFront old new all
 item_front f old mid new all xs i x d h e along text =
     along-front old mid new (f x) (flat_map f (drop (i + 1) xs)) all
-    (subst (λ l. Along old mid l all) (at_drop_more (flat_map f) xs i d h ∙ ap (λ y. f y ++ flat_map f (drop (i + 1) xs)) (sym e)) along) text
+    (subst (λ l. Along old mid l all) (item_next f xs i x d h e) along) text
 
 -- the first of two texts was written in part
 pub front_of_first : (old new : Option (List ℕ)) (x y : List ℕ) → AppendsFront old new x → AppendsFront old new (x ++ y)

@@ -1,5 +1,5 @@
 -- What the calls of a shelf and a sink say.
-use Rattle.std.specs.Prelude.{◌≡◌, ℕ, ◌+◌, ◌-◌, ◌^◌, ◌≤◌, min, Bool, true, false, List, [], ◌∷◌, ◌++◌, Result, Ok, Err, None, Some, OnErr, if◌then◌else◌}
+use Rattle.std.specs.Prelude.{◌≡◌, ℕ, ◌+◌, ◌-◌, ◌^◌, ◌≤◌, min, Bool, true, false, List, [], ◌∷◌, ◌++◌, Result, Ok, Err, None, Some, IsErrOf, OnErr, if◌then◌else◌}
 use Rattle.std.specs.declared.option.Option.{Option}
 use Rattle.std.specs.Str.{bytes_eq}
 use Rattle.std.specs.Io.KnownBytes.{Appends}
@@ -22,6 +22,11 @@ pub record HasCause {T E : Type 0} (before now : ℕ) (result : Result T E) : Ty
   pub later : before ≤ now
   pub failed : OnErr result (Rose before now)
 
+-- A count of faults never falls, and where the call failed for this fault, it rose.
+pub record HasCauseOf {T E : Type 0} (fault : E) (before now : ℕ) (result : Result T E) : Type 0 where
+  pub later : before ≤ now
+  pub failed : IsErrOf result fault → Rose before now
+
 -- what the last `begin` answered, where it answered
 abbrev pub answered : {E : Type 0} → Result Bool E → Bool
 answered (Ok found) = found
@@ -38,3 +43,9 @@ pub record AppendsFront (old new : Option (List ℕ)) (text : List ℕ) : Type 0
   pub back : List ℕ
   pub whole : text ≡ front ++ back
   pub appended : Appends old new front
+
+-- A front of the piece went to the sink, and the rest of it is left.
+pub record Passes (old new : Option (List ℕ)) (before after : List ℕ) : Type 0 where
+  pub sent : List ℕ
+  pub whole : before ≡ sent ++ after
+  pub appended : Appends old new sent

@@ -7,7 +7,10 @@
 //! their bytes and fail by call number, and owns to each fault of [`HostShelf`] and [`HostSink`],
 //! the real files and the real output, of which no proof knows the content.
 //!
-//! It stands on std alone. Crates above that write in a loop take the lemmas of `proofs/Along`.
+//! A long text goes to a sink in pieces ([`pass_full`]).
+//!
+//! It stands on std alone. Crates above that write in a loop take the lemmas of `proofs/Along`,
+//! those that write in pieces the ones of `proofs/Pieces`.
 #![tactic(auto)]
 
 mod calls;
@@ -15,6 +18,7 @@ mod files;
 mod host;
 mod memory;
 mod outside;
+mod passing;
 mod tally;
 
 pub use calls::Calls;
@@ -22,3 +26,4 @@ pub use files::Files;
 pub use host::{HostShelf, HostSink};
 pub use memory::{MemoryShelf, MemorySink};
 pub use outside::{Failed, Shelf, Sink};
+pub use passing::pass_full;
