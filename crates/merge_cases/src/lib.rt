@@ -17,7 +17,7 @@ mod law;
 mod pick;
 mod verdict;
 
-pub use cases::decide;
+pub use cases::{decide, is_withdrawal};
 pub use join_tests::joins;
 pub use joining::{TagRule, joined, picked, picked_by, with_body};
 pub use law::each_tag_is_picked;
