@@ -150,7 +150,8 @@ fn is_withdrawn(conflict: Option<&Conflict>) -> bool
     }
 }
 
-fn is_withdrawal(why: Why) -> bool
+/// Whether the conflict is that the object came back.
+pub fn is_withdrawal(why: Why) -> bool
     ensures { result ≡ is_withdrawal why }
 {
     match why {

@@ -55,6 +55,13 @@ impl TagKeys {
         self.keys[i].as_bytes()
     }
 
+    /// The keys, in order.
+    pub fn as_slice(&self) -> &[Text]
+        ensures { result.now ≡ self.now }
+    {
+        self.keys.as_slice()
+    }
+
     /// Whether the key is listed. It walks the list.
     pub fn has(&self, key: &[u8]) -> bool
         ensures { result ≡ is_listed self.now key.now }

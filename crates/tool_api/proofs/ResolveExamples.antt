@@ -1,5 +1,5 @@
 -- Conflicts that are resolved: worked examples of the tests.
-use Rattle.std.proofs.Common.{◌≡◌, ◌×◌, ℕ, pos, [], ◌∷◌, Option, Some, None, refl}
+use Rattle.std.proofs.Common.{◌≡◌, ℕ, pos, [], ◌∷◌, Option, Some, None, refl}
 use Rattle.osm_base.specs.Content.{node}
 use Rattle.osm_base.specs.Meta.{empty_meta}
 use Rattle.osm_base.specs.declared.coord.Coord.{Coord}

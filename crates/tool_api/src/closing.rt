@@ -27,7 +27,8 @@ use std::alloc::AllocError;
 /// The last number that a new object may have: ids are from -10^18 on.
 const LAST_NUMBER: u64 = 1_000_000_000_000_000_000;
 
-fn in_conflict(found: Option<&SharedEntry>) -> bool
+/// Whether an object is in conflict.
+pub fn in_conflict(found: Option<&SharedEntry>) -> bool
     ensures { result ≡ in_conflict (option_copied found.entry) }
 {
     let Some(entry) = found else {
@@ -91,7 +92,8 @@ fn is_content(before: Option<&Content>, after: &Content) -> bool
     }
 }
 
-fn makes_unfit(before: Option<&Content>, after: Option<&Content>) -> bool
+/// Whether the content after a job differs from the one before it, and doesn't fit into the limits of API 0.6.
+pub fn makes_unfit(before: Option<&Content>, after: Option<&Content>) -> bool
     ensures { result ≡ makes_unfit (option_copied before.entry) (option_copied after.entry) }
 {
     match after {

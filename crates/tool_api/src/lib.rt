@@ -33,7 +33,7 @@ mod verb;
 pub use checks::{
     complete_test, is_named, list_tests, reference_tests, target_test, target_tests, twice_test,
 };
-pub use closing::{closed, room_test};
+pub use closing::{closed, in_conflict, makes_unfit, room_test};
 pub use command::Command;
 pub use contents::{content_of, is_relation, refs_at};
 pub use deletion::delete_all;
