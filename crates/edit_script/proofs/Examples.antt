@@ -40,77 +40,77 @@ no_file = refl
 
 -- A node's longitude stands before its latitude.
 node_read : line_of (codes "node x1.5 y-2 T") ≡ Some (Asks (act.Job (job.AddNode [] (record { lon = pos 15000000; lat = negsuc 19999999; on_map = refl }))))
-unfolding kind_of_line form add_form add_node place_words tags_word tags_text coord_text size_text whole_text pointed_text part_text number_text place_at
+unfolding kind_of_line form look_form add_form add_node place_words tags_word tags_text coord_text size_text whole_text pointed_text part_text number_text place_at
 node_read = refl
 
 node_swapped : line_of (codes "node y1 x2 T") ≡ None
-unfolding kind_of_line form add_form add_node place_words coord_text size_text whole_text pointed_text part_text number_text
+unfolding kind_of_line form look_form add_form add_node place_words coord_text size_text whole_text pointed_text part_text number_text
 node_swapped = refl
 
 node_off_the_map : line_of (codes "node x181 y0 T") ≡ None
-unfolding kind_of_line form add_form add_node place_words coord_text size_text whole_text pointed_text part_text number_text place_at
+unfolding kind_of_line form look_form add_form add_node place_words coord_text size_text whole_text pointed_text part_text number_text place_at
 node_off_the_map = refl
 
 way_read : line_of (codes "way T Nn1,n-2") ≡ Some (Asks (act.Job (job.AddWay [] (pos 1 ∷ negsuc 1 ∷ []))))
-unfolding kind_of_line form add_form add_way tags_word tags_text refs_word refs_text ref_into ref_text id_text number_text
+unfolding kind_of_line form look_form add_form add_way tags_word tags_text refs_word refs_text ref_into ref_text id_text number_text
 way_read = refl
 
 -- A reference has no location.
 no_location : line_of (codes "way T Nn1x1y2") ≡ None
-unfolding kind_of_line form add_form add_way tags_word tags_text refs_word
+unfolding kind_of_line form look_form add_form add_way tags_word tags_text refs_word
 no_location = refl
 
 relation_read : line_of (codes "relation T M") ≡ Some (Asks (act.Job (job.AddRelation [] [])))
-unfolding kind_of_line form add_form add_relation tags_word tags_text members_word members_text
+unfolding kind_of_line form look_form add_form add_relation tags_word tags_text members_word members_text
 relation_read = refl
 
 tags_read : line_of (codes "tag n1,w2 T") ≡ Some (Asks (act.Job (job.SetTags (node 1 ∷ way 2 ∷ []) [])))
-unfolding kind_of_line form add_form change_form set_tags keys_word tags_word tags_text key_text id_text kind_letter number_text
+unfolding kind_of_line form look_form add_form change_form set_tags keys_word tags_word tags_text key_text id_text kind_letter number_text
 tags_read = refl
 
 -- A distance may be any that a coordinate text spells.
 move_read : line_of (codes "move n1 0.0000001 -999") ≡ Some (Asks (act.Job (job.Shift (node 1 ∷ []) (pos 1) (negsuc 9989999999))))
-unfolding kind_of_line form add_form change_form shift keys_word key_text id_text kind_letter number_text coord_text size_text whole_text pointed_text part_text
+unfolding kind_of_line form look_form add_form change_form shift keys_word key_text id_text kind_letter number_text coord_text size_text whole_text pointed_text part_text
 move_read = refl
 
 place_read : line_of (codes "place n1 x2 y3") ≡ Some (Asks (act.Job (job.Place (node 1) (record { lon = pos 20000000; lat = pos 30000000; on_map = refl }))))
-unfolding kind_of_line form add_form change_form place place_words key_text id_text kind_letter number_text coord_text size_text whole_text pointed_text part_text place_at
+unfolding kind_of_line form look_form add_form change_form place place_words key_text id_text kind_letter number_text coord_text size_text whole_text pointed_text part_text place_at
 place_read = refl
 
 nodes_read : line_of (codes "nodes w1 N") ≡ Some (Asks (act.Job (job.SetNodes (way 1) [])))
-unfolding kind_of_line form add_form change_form set_nodes refs_word refs_text key_text id_text kind_letter number_text
+unfolding kind_of_line form look_form add_form change_form set_nodes refs_word refs_text key_text id_text kind_letter number_text
 nodes_read = refl
 
 members_read : line_of (codes "members r1 M") ≡ Some (Asks (act.Job (job.SetMembers (record { kind = Relation; id = pos 1 }) [])))
-unfolding kind_of_line form add_form change_form set_members members_word members_text key_text id_text kind_letter number_text
+unfolding kind_of_line form look_form add_form change_form set_members members_word members_text key_text id_text kind_letter number_text
 members_read = refl
 
 -- Leading zeros are taken.
 delete_read : line_of (codes "delete n007") ≡ Some (Asks (act.Job (job.Delete (node 7 ∷ []))))
-unfolding kind_of_line form add_form change_form delete_form delete keys_word key_text id_text kind_letter number_text
+unfolding kind_of_line form look_form add_form change_form delete_form delete keys_word key_text id_text kind_letter number_text
 delete_read = refl
 
 -- Behind a comma stands a key.
 comma_last : line_of (codes "delete n1,") ≡ None
-unfolding kind_of_line form add_form change_form delete_form delete keys_word key_text id_text kind_letter number_text
+unfolding kind_of_line form look_form add_form change_form delete_form delete keys_word key_text id_text kind_letter number_text
 comma_last = refl
 
 split_read : line_of (codes "split w1 n2") ≡ Some (Asks (act.Job (job.Split (way 1) (node 2 ∷ []))))
-unfolding kind_of_line form add_form change_form delete_form way_form split keys_word key_text id_text kind_letter number_text
+unfolding kind_of_line form look_form add_form change_form delete_form way_form split keys_word key_text id_text kind_letter number_text
 split_read = refl
 
 -- At least two ways are combined.
 combine_read : line_of (codes "combine w1,w2") ≡ Some (Asks (act.Job (job.Combine (way 1 ∷ way 2 ∷ []))))
-unfolding kind_of_line form add_form change_form delete_form way_form combine keys_word key_text id_text kind_letter number_text
+unfolding kind_of_line form look_form add_form change_form delete_form way_form combine keys_word key_text id_text kind_letter number_text
 combine_read = refl
 
 combine_one : line_of (codes "combine w1") ≡ None
-unfolding kind_of_line form add_form change_form delete_form way_form combine keys_word key_text id_text kind_letter number_text
+unfolding kind_of_line form look_form add_form change_form delete_form way_form combine keys_word key_text id_text kind_letter number_text
 combine_one = refl
 
 -- The kind of a key isn't tested.
 reverse_read : line_of (codes "reverse n1") ≡ Some (Asks (act.Job (job.Reverse (node 1))))
-unfolding kind_of_line form add_form change_form delete_form way_form reverse key_text id_text kind_letter number_text
+unfolding kind_of_line form look_form add_form change_form delete_form way_form reverse key_text id_text kind_letter number_text
 reverse_read = refl
 
 undo_read : line_of (codes "undo 007") ≡ Some (Asks (act.Undo 7))
@@ -127,7 +127,7 @@ undo_too_often = refl
 
 -- Runs of blanks separate words.
 blanks_between : line_of (codes "delete \t n1") ≡ Some (Asks (act.Job (job.Delete (node 1 ∷ []))))
-unfolding kind_of_line form add_form change_form delete_form delete keys_word key_text id_text kind_letter number_text
+unfolding kind_of_line form look_form add_form change_form delete_form delete keys_word key_text id_text kind_letter number_text
 blanks_between = refl
 
 -- No blank stands at an end of the line.
@@ -158,7 +158,7 @@ unfolding kind_of_line form
 one_cr = refl
 
 two_crs : line_of (codes "print\r\r") ≡ None
-unfolding kind_of_line form add_form change_form delete_form way_form
+unfolding kind_of_line form look_form add_form change_form delete_form way_form
 two_crs = refl
 
 -- Lines that are skipped are counted, and the last needs no LF.

@@ -1,22 +1,19 @@
 -- The lines of a script: one definition for each form, found by the first word of the line.
 --
 -- For example `combine w1,w2` combines these ways, and `combine w1` is outside the grammar. A form reads the words behind
--- the first one, and so may have parts that can be left out.
+-- the first one, and so may have parts that can be left out: `resolve n1 mine` and `resolve n1 mix theirs mine` are both lines.
 use Rattle.std.specs.Prelude.{ℕ, nat_le, if◌then◌else◌, codes, List, [], ◌∷◌, length, Option, Some, None}
 use Rattle.std.specs.Str.{bytes_eq}
 use Rattle.osm_base.specs.Coord.{coord_text}
 use Rattle.osm_base.specs.Number.{key_text}
 use Rattle.opl_text.specs.Text.{unescaped}
 use Rattle.opl_text.specs.Time.{◌>>=◌}
+use Rattle.resolution.specs.declared.choice.Choice.{Choice}
+use Rattle.resolution.specs.declared.choice.Choice.TheVariants as choice
 use Rattle.tool_api.specs.declared.job.Job.TheVariants as job
 use Rattle.edit_script.specs.declared.step.Act.{Act}
 use Rattle.edit_script.specs.declared.step.Act.TheVariants as act
-use Rattle.edit_script.specs.Items.{one_word, two_words, three_words, keys_word, tags_word, refs_word, members_word, place_words, count_word}
-
--- a verb with no word behind it
-abbrev pub alone : Act → List (List ℕ) → Option Act
-alone act [] = Some act
-alone act (word ∷ words) = None
+use Rattle.edit_script.specs.Items.{alone, one_word, two_words, three_words, keys_word, tags_word, refs_word, members_word, place_words, count_word, size_word, side_word, tag_keys_word}
 
 -- `download FILE`: no word is empty, and so no name that one spells
 unfoldable pub download : List (List ℕ) → Option Act
@@ -38,6 +35,13 @@ redo words = do
   count ← one_word words
   n ← count_word count
   Some (act.Redo n)
+
+-- `upload SIZE`
+unfoldable pub upload : List (List ℕ) → Option Act
+upload words = do
+  number ← one_word words
+  size ← size_word number
+  Some (act.Upload size)
 
 -- `node x.. y.. T..`
 unfoldable pub add_node : List (List ℕ) → Option Act
@@ -147,6 +151,43 @@ reverse words = do
   way ← key_text named
   Some (act.Job (job.Reverse way))
 
+-- `mix S S`: whose tags, then whose body
+unfoldable pub mix : List (List ℕ) → Option Choice
+mix words = do
+  (first, second) ← two_words words
+  tags ← side_word first
+  body ← side_word second
+  Some (choice.Mix tags body)
+
+-- `parts S K..`: whose body, then the keys of the tags that are theirs
+unfoldable pub parts : List (List ℕ) → Option Choice
+parts words = do
+  (first, second) ← two_words words
+  body ← side_word first
+  theirs ← tag_keys_word second
+  Some (choice.Parts body theirs)
+
+-- a choice by its first word
+unfoldable pub choice_form : List ℕ → List (List ℕ) → Option Choice
+choice_form word words =
+    if bytes_eq word (codes "mine") then alone choice.Mine words
+    else (if bytes_eq word (codes "theirs") then alone choice.Theirs words
+    else (if bytes_eq word (codes "mix") then mix words
+    else (if bytes_eq word (codes "parts") then parts words
+    else None)))
+
+abbrev pub choice_of : List (List ℕ) → Option Choice
+choice_of [] = None
+choice_of (word ∷ words) = choice_form word words
+
+-- `resolve KEY` and a choice
+unfoldable pub resolve : List (List ℕ) → Option Act
+resolve [] = None
+resolve (named ∷ words) = do
+  key ← key_text named
+  choice ← choice_of words
+  Some (act.Job (job.Resolve key choice))
+
 -- a way is cut, joined or reversed
 unfoldable pub way_form : List ℕ → List (List ℕ) → Option Act
 way_form verb words =
@@ -171,7 +212,8 @@ change_form verb words =
     else (if bytes_eq verb (codes "place") then place words
     else (if bytes_eq verb (codes "nodes") then set_nodes words
     else (if bytes_eq verb (codes "members") then set_members words
-    else delete_form verb words))))
+    else (if bytes_eq verb (codes "resolve") then resolve words
+    else delete_form verb words)))))
 
 -- an object is added
 unfoldable pub add_form : List ℕ → List (List ℕ) → Option Act
@@ -181,6 +223,16 @@ add_form verb words =
     else (if bytes_eq verb (codes "relation") then add_relation words
     else change_form verb words))
 
+-- the table is looked at, or sent
+unfoldable pub look_form : List ℕ → List (List ℕ) → Option Act
+look_form verb words =
+    if bytes_eq verb (codes "print") then alone act.Print words
+    else (if bytes_eq verb (codes "count") then alone act.Count words
+    else (if bytes_eq verb (codes "conflicts") then alone act.Conflicts words
+    else (if bytes_eq verb (codes "rehearse") then alone act.Rehearse words
+    else (if bytes_eq verb (codes "upload") then upload words
+    else add_form verb words))))
+
 -- a step without a job, or a job
 unfoldable pub form : List ℕ → List (List ℕ) → Option Act
 form verb words =
@@ -189,9 +241,7 @@ form verb words =
     else (if bytes_eq verb (codes "end") then alone act.End words
     else (if bytes_eq verb (codes "undo") then undo words
     else (if bytes_eq verb (codes "redo") then redo words
-    else (if bytes_eq verb (codes "print") then alone act.Print words
-    else (if bytes_eq verb (codes "count") then alone act.Count words
-    else add_form verb words))))))
+    else look_form verb words))))
 
 -- What the words of a line ask for; none where they are no line of the grammar.
 abbrev pub act_of : List (List ℕ) → Option Act

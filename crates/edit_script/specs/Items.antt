@@ -1,8 +1,10 @@
 -- The words of a line, and what each of them spells.
 --
--- For example `place n-1 x2.5 y0` has the words `place`, `n-1`, `x2.5` and `y0`.
-use Rattle.std.specs.Prelude.{ℕ, ℤ, Bool, ◌==◌, ◌&&◌, nat_le, nat_lt, if◌then◌else◌, List, [], ◌∷◌, length, filter, Option, Some, None}
+-- For example `place n-1 x2.5 y0` has the words `place`, `n-1`, `x2.5` and `y0`. The word `Kname,old%20%name` has the keys
+-- `name` and `old name`, `K` has none, and `Kname,name` spells nothing.
+use Rattle.std.specs.Prelude.{ℕ, ℤ, Bool, ◌==◌, ◌&&◌, nat_le, nat_lt, if◌then◌else◌, codes, List, [], ◌∷◌, length, filter, Option, Some, None}
 use Rattle.std.specs.List.{list_any}
+use Rattle.std.specs.Str.{bytes_eq}
 use Rattle.osm_base.specs.Coord.{coord_text}
 use Rattle.osm_base.specs.Number.{key_text, number_text}
 use Rattle.osm_base.specs.Place.{place_at}
@@ -10,11 +12,15 @@ use Rattle.osm_base.specs.Tags.{Pair}
 use Rattle.osm_base.specs.declared.coord.Coord.{Coord}
 use Rattle.osm_base.specs.declared.key.Key.{Key}
 use Rattle.osm_base.specs.declared.members.Member.{Member}
+use Rattle.opl_text.specs.Text.{unescaped}
 use Rattle.opl_text.specs.Time.{◌>>=◌}
 use Rattle.opl_line.specs.Cut.{split}
 use Rattle.opl_line.specs.Field.{is, tags_text, refs_text, members_text}
 use Rattle.opl_line.specs.Line.{is_blank}
 use Rattle.opl_line.specs.Spelling.{ok_of}
+use Rattle.resolution.specs.Keys.{are_tag_keys}
+use Rattle.resolution.specs.declared.choice.Side.{Side}
+use Rattle.resolution.specs.declared.choice.Side.TheVariants as side
 
 abbrev pub has_byte : List ℕ → Bool
 has_byte piece = nat_lt 0 (length piece)
@@ -22,6 +28,11 @@ has_byte piece = nat_lt 0 (length piece)
 -- the words of a line: what stands between its blanks
 abbrev pub words_of : List ℕ → List (List ℕ)
 words_of line = filter has_byte (split is_blank line)
+
+-- a thing, where no word is left
+abbrev pub alone : {A : Type 0} → A → List (List ℕ) → Option A
+alone thing [] = Some thing
+alone thing (word ∷ words) = None
 
 -- the words, where they are one, two or three
 abbrev pub one_word : List (List ℕ) → Option (List ℕ)
@@ -89,8 +100,40 @@ place_words x y = do
   lat ← coord_text lat_text
   place_at lon lat
 
--- 1 to 7 digits of a number from 1 to 1,000,000
-unfoldable pub count_word : List ℕ → Option ℕ
-count_word word = do
+-- 1 to 7 digits of a number from 1 to the most
+unfoldable pub number_word : (most : ℕ) → List ℕ → Option ℕ
+number_word most word = do
   n ← number_text 7 word
-  if nat_le 1 n && nat_le n 1000000 then Some n else None
+  if nat_le 1 n && nat_le n most then Some n else None
+
+-- how often something is undone or redone
+abbrev pub count_word : List ℕ → Option ℕ
+count_word word = number_word 1000000 word
+
+-- how many changes a chunk has
+abbrev pub size_word : List ℕ → Option ℕ
+size_word word = number_word 10000 word
+
+-- `mine` or `theirs`
+unfoldable pub side_word : List ℕ → Option Side
+side_word word =
+    if bytes_eq word (codes "mine") then Some side.Mine
+    else (if bytes_eq word (codes "theirs") then Some side.Theirs
+    else None)
+
+-- nothing, or texts with `,` between them
+abbrev pub texts_of : List ℕ → List (List ℕ)
+texts_of [] = []
+texts_of (byte ∷ bytes) = split (is 44) (byte ∷ bytes)
+
+-- keys of tags, of which none is empty and none stands twice
+unfoldable pub tag_keys_of : List (List ℕ) → Option (List (List ℕ))
+tag_keys_of texts = do
+  keys ← all_of unescaped texts
+  if are_tag_keys keys then Some keys else None
+
+-- `K` and keys of tags
+unfoldable pub tag_keys_word : List ℕ → Option (List (List ℕ))
+tag_keys_word word = do
+  text ← behind 75 word
+  tag_keys_of (texts_of text)

@@ -1,6 +1,6 @@
 -- The reply line of a step.
 --
--- For example `7 ok w-1,w-2`, `8 refused 5 n1 w5` and `9 skipped`, each with its LF.
+-- For example `7 ok w-1,w-2`, `8 refused 5 n1 w5`, `9 refused 23 2 n4` and `10 skipped`, each with its LF.
 use Rattle.std.specs.Prelude.{ℕ, List, [], ◌∷◌, ◌++◌, codes, decimal}
 use Rattle.osm_base.specs.Number.{key_written}
 use Rattle.osm_base.specs.declared.key.Key.{Key}
@@ -11,9 +11,9 @@ use Rattle.opl_file.specs.declared.fault.FileFault.{FileFault}
 use Rattle.opl_file.specs.declared.fault.FileFault.TheVariants.{Line, Twice, LineTooLong, FileTooLong}
 use Rattle.tool_api.specs.Refusals as refusals
 use Rattle.tool_api.specs.declared.refusal.Refusal.{Refusal}
-use Rattle.tool_api.specs.declared.refusal.Refusal.TheVariants.{Absent, IncompleteObject, DeletedObject, InConflict, InUse, WrongKind, Unfit, OutOfRange, NamedTwice, NotInWay, NothingToSplit, NotJoined, TagClash, MemberClash, VersionClash, TableFull}
+use Rattle.tool_api.specs.declared.refusal.Refusal.TheVariants.{Absent, IncompleteObject, DeletedObject, InConflict, InUse, WrongKind, Unfit, OutOfRange, NamedTwice, NotInWay, NothingToSplit, NotJoined, TagClash, MemberClash, NoConflict, NotMixed, VersionClash, TableFull, NotClashing}
 use Rattle.edit_script.specs.declared.reply.StepRefusal.{StepRefusal}
-use Rattle.edit_script.specs.declared.reply.StepRefusal.TheVariants.{Tool, NoFile, BadFile, NothingToUndo, NothingToRedo}
+use Rattle.edit_script.specs.declared.reply.StepRefusal.TheVariants.{Tool, NoFile, BadFile, NothingToUndo, NothingToRedo, OpenConflicts, IncompleteRef, CyclicNew}
 use Rattle.edit_script.specs.declared.reply.StepReply.{StepReply}
 use Rattle.edit_script.specs.declared.reply.StepReply.TheVariants.{Done, Refused, Skipped}
 
@@ -24,10 +24,24 @@ number_of NoFile = 19
 number_of (BadFile fault) = 20
 number_of NothingToUndo = 21
 number_of NothingToRedo = 22
+number_of (OpenConflicts count first) = 23
+number_of (IncompleteRef key of) = 24
+number_of (CyclicNew keys) = 25
 
--- a key behind a space
+-- a number, a key or a text behind a space
+abbrev pub number_behind : ℕ → List ℕ
+number_behind number = 32 ∷ decimal number
+
 abbrev pub key_behind : Key → List ℕ
 key_behind key = 32 ∷ key_written key
+
+abbrev pub text_behind : List ℕ → List ℕ
+text_behind text = 32 ∷ escaped text
+
+-- one word of keys behind a space, if there are any
+abbrev pub keys_behind : List Key → List ℕ
+keys_behind [] = []
+keys_behind (key ∷ keys) = 32 ∷ listed key_written (key ∷ keys)
 
 -- what the refusal of a job carries: the objects, the tag's key, or the object and its version
 abbrev pub job_carried : Refusal → List ℕ
@@ -43,10 +57,13 @@ job_carried (NamedTwice key) = key_behind key
 job_carried (NotInWay key) = key_behind key
 job_carried (NothingToSplit key) = key_behind key
 job_carried (NotJoined key) = key_behind key
-job_carried (TagClash text) = 32 ∷ escaped text
+job_carried (TagClash text) = text_behind text
 job_carried (MemberClash key) = key_behind key
-job_carried (VersionClash key version) = key_behind key ++ (32 ∷ decimal version)
+job_carried (NoConflict key) = key_behind key
+job_carried (NotMixed key) = key_behind key
+job_carried (VersionClash key version) = key_behind key ++ number_behind version
 job_carried TableFull = []
+job_carried (NotClashing text) = text_behind text
 
 abbrev pub fault_text : FileFault → List ℕ
 fault_text (Line line fault) = codes " line " ++ (decimal line ++ (codes " fault " ++ decimal (line_fault.number_of fault)))
@@ -61,17 +78,15 @@ carried NoFile = []
 carried (BadFile fault) = fault_text fault
 carried NothingToUndo = []
 carried NothingToRedo = []
+carried (OpenConflicts count first) = number_behind count ++ key_behind first
+carried (IncompleteRef key of) = key_behind key ++ key_behind of
+carried (CyclicNew keys) = keys_behind keys
 
 abbrev pub refusal_text : StepRefusal → List ℕ
 refusal_text why = codes " refused " ++ (decimal (number_of why) ++ carried why)
 
--- the keys that were made, if any
-abbrev pub made_text : List Key → List ℕ
-made_text [] = []
-made_text (key ∷ keys) = 32 ∷ listed key_written (key ∷ keys)
-
 abbrev pub reply_text : StepReply → List ℕ
-reply_text (Done made) = codes " ok" ++ made_text made
+reply_text (Done made) = codes " ok" ++ keys_behind made
 reply_text (Refused why) = refusal_text why
 reply_text Skipped = codes " skipped"
 

@@ -1,17 +1,18 @@
 //! The lines of a script: one function for each form, found by the first word of the line.
 ghost use Rattle.std.specs.Prelude.{IfOk};
 ghost use Rattle.edit_script.specs.Answers.{Gives};
-ghost use Rattle.edit_script.specs.Forms.{download, add_node, add_way, add_relation, set_tags, shift, place, set_nodes, set_members, delete, erase, purge, split, combine, reverse, undo, redo, alone, way_form, delete_form, change_form, add_form, form, act_of};
+ghost use Rattle.edit_script.specs.Forms.{download, add_node, add_way, add_relation, set_tags, shift, place, set_nodes, set_members, delete, erase, purge, split, combine, reverse, undo, redo, upload, mix, parts, choice_form, choice_of, resolve, way_form, delete_form, change_form, add_form, look_form, form, act_of};
 ghost use Rattle.edit_script.specs.Items.{words_of};
 ghost use Rattle.edit_script.specs.Order.{IsMeant};
 
 use crate::fault::Unread;
 use crate::items::{
-    coord_word, count_word, key_word, keys_word, members_word, next_word, one_word, place_words,
-    refs_word, tags_word, three_words, two_words,
+    alone, coord_word, count_word, key_word, keys_word, members_word, next_word, one_word,
+    place_words, refs_word, side_word, size_word, tag_keys_word, tags_word, three_words, two_words,
 };
 use crate::step::Act;
 use opl_text::{Pool, read_escaped};
+use resolution::Choice;
 use tool_api::Job;
 
 /// What the words of a line ask for.
@@ -41,10 +42,27 @@ fn form(pool: &mut Pool, verb: &[u8], words: &[u8]) -> Result<Act, Unread>
         undo(words)
     } else if verb == b"redo".as_slice() {
         redo(words)
-    } else if verb == b"print".as_slice() {
+    } else {
+        look_form(pool, verb, words)
+    }
+}
+
+/// The table is looked at, or sent.
+#[tactic(auto, unfolding(crate::specs::Forms::look_form))]
+fn look_form(pool: &mut Pool, verb: &[u8], words: &[u8]) -> Result<Act, Unread>
+    ensures value { Gives result (look_form verb.now (words_of words.now)) }
+    ensures meant { IfOk result IsMeant }
+{
+    if verb == b"print".as_slice() {
         alone(Act::Print, words)
     } else if verb == b"count".as_slice() {
         alone(Act::Count, words)
+    } else if verb == b"conflicts".as_slice() {
+        alone(Act::Conflicts, words)
+    } else if verb == b"rehearse".as_slice() {
+        alone(Act::Rehearse, words)
+    } else if verb == b"upload".as_slice() {
+        upload(words)
     } else {
         add_form(pool, verb, words)
     }
@@ -83,6 +101,8 @@ fn change_form(pool: &mut Pool, verb: &[u8], words: &[u8]) -> Result<Act, Unread
         set_nodes(pool, words)
     } else if verb == b"members".as_slice() {
         set_members(pool, words)
+    } else if verb == b"resolve".as_slice() {
+        resolve(pool, words)
     } else {
         delete_form(pool, verb, words)
     }
@@ -119,18 +139,6 @@ fn way_form(pool: &Pool, verb: &[u8], words: &[u8]) -> Result<Act, Unread>
         reverse(words)
     } else {
         Err(Unread::Outside)
-    }
-}
-
-/// A verb with no word behind it.
-fn alone(act: Act, words: &[u8]) -> Result<Act, Unread>
-    requires meant { IsMeant act }
-    ensures value { Gives result (alone act (words_of words.now)) }
-    ensures meant { IfOk result IsMeant }
-{
-    match next_word(words) {
-        None => Ok(act),
-        Some(_) => Err(Unread::Outside),
     }
 }
 
@@ -242,6 +250,70 @@ fn set_members(pool: &mut Pool, words: &[u8]) -> Result<Act, Unread>
     Ok(Act::Job(Job::SetMembers { key, members }))
 }
 
+/// `resolve KEY` and a choice.
+#[tactic(auto, unfolding(crate::specs::Forms::resolve))]
+fn resolve(pool: &mut Pool, words: &[u8]) -> Result<Act, Unread>
+    ensures value { Gives result (resolve (words_of words.now)) }
+    ensures meant { IfOk result IsMeant }
+{
+    let Some((first, rest)) = next_word(words) else {
+        return Err(Unread::Outside);
+    };
+    let key = key_word(first)?;
+    let choice = choice_of(pool, rest)?;
+    Ok(Act::Job(Job::Resolve { key, choice }))
+}
+
+/// What the words choose.
+fn choice_of(pool: &mut Pool, words: &[u8]) -> Result<Choice, Unread>
+    ensures { Gives result (choice_of (words_of words.now)) }
+{
+    match next_word(words) {
+        None => Err(Unread::Outside),
+        Some((first, rest)) => choice_form(pool, first, rest),
+    }
+}
+
+/// A choice by its first word.
+#[tactic(auto, unfolding(crate::specs::Forms::choice_form))]
+fn choice_form(pool: &mut Pool, word: &[u8], words: &[u8]) -> Result<Choice, Unread>
+    ensures { Gives result (choice_form word.now (words_of words.now)) }
+{
+    if word == b"mine".as_slice() {
+        alone(Choice::Mine, words)
+    } else if word == b"theirs".as_slice() {
+        alone(Choice::Theirs, words)
+    } else if word == b"mix".as_slice() {
+        mix(words)
+    } else if word == b"parts".as_slice() {
+        parts(pool, words)
+    } else {
+        Err(Unread::Outside)
+    }
+}
+
+/// `mix S S`.
+#[tactic(auto, unfolding(crate::specs::Forms::mix))]
+fn mix(words: &[u8]) -> Result<Choice, Unread>
+    ensures { Gives result (mix (words_of words.now)) }
+{
+    let (first, second) = two_words(words)?;
+    let tags = side_word(first)?;
+    let body = side_word(second)?;
+    Ok(Choice::Mix { tags, body })
+}
+
+/// `parts S K..`.
+#[tactic(auto, unfolding(crate::specs::Forms::parts))]
+fn parts(pool: &mut Pool, words: &[u8]) -> Result<Choice, Unread>
+    ensures { Gives result (parts (words_of words.now)) }
+{
+    let (first, second) = two_words(words)?;
+    let body = side_word(first)?;
+    let theirs = tag_keys_word(pool, second)?;
+    Ok(Choice::Parts { body, theirs })
+}
+
 /// `delete KEYS`.
 #[tactic(auto, unfolding(crate::specs::Forms::delete))]
 fn delete(pool: &Pool, words: &[u8]) -> Result<Act, Unread>
@@ -332,4 +404,15 @@ fn redo(words: &[u8]) -> Result<Act, Unread>
     let first = one_word(words)?;
     let n = count_word(first)?;
     Ok(Act::Redo { n })
+}
+
+/// `upload SIZE`.
+#[tactic(auto, unfolding(crate::specs::Forms::upload))]
+fn upload(words: &[u8]) -> Result<Act, Unread>
+    ensures value { Gives result (upload (words_of words.now)) }
+    ensures meant { IfOk result IsMeant }
+{
+    let first = one_word(words)?;
+    let size = size_word(first)?;
+    Ok(Act::Upload { size })
 }

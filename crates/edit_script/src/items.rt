@@ -1,17 +1,20 @@
 //! The words of a line, and what each of them spells.
 ghost use Rattle.std.specs.Prelude.{◌≡◌, ◌∷◌, ◌<◌, ◌≤◌, [], Some, MatchOption, MatchResult, IfOk};
+ghost use Rattle.opl_line.specs.Cut.{split};
+ghost use Rattle.opl_line.specs.Field.{is};
 ghost use Rattle.opl_line.specs.Line.{is_blank};
 ghost use Rattle.osm_base.specs.Number.{key_text};
 ghost use Rattle.osm_base.specs.Coord.{coord_text};
 ghost use Rattle.edit_script.specs.Answers.{Gives, IsRefused};
-ghost use Rattle.edit_script.specs.Items.{words_of, one_word, two_words, three_words, without_blanks, has_location, keys_word, tags_word, refs_word, members_word, place_words, count_word};
+ghost use Rattle.edit_script.specs.Items.{words_of, alone, one_word, two_words, three_words, without_blanks, has_location, keys_word, tags_word, refs_word, members_word, place_words, number_word, count_word, size_word, side_word, texts_of, tag_keys_of, tag_keys_word};
 
 use crate::fault::Unread;
 use opl_line::{cut, is_blank, read_members, read_refs, read_tags};
-use opl_text::Pool;
+use opl_text::{Pool, read_escaped};
 use osm_base::{
     Coord, Key, Keys, Members, Refs, Tags, coord_of, read_coord, read_digits, read_key,
 };
+use resolution::{Side, TagKeys};
 
 /// The first word of the bytes, and what stands behind it.
 pub fn next_word(bytes: &[u8]) -> Option<(&[u8], &[u8])>
@@ -25,6 +28,17 @@ pub fn next_word(bytes: &[u8]) -> Option<(&[u8], &[u8])>
     match after {
         None => Some((word, &[])),
         Some(behind) => Some((word, behind)),
+    }
+}
+
+/// The thing, where no word is left.
+pub fn alone<T: Drop>(thing: T, words: &[u8]) -> Result<T, Unread>
+    ensures value { Gives result (alone thing (words_of words.now)) }
+    ensures same { IfOk result (λ given. given ≡ thing) }
+{
+    match next_word(words) {
+        None => Ok(thing),
+        Some(_) => Err(Unread::Outside),
     }
 }
 
@@ -176,14 +190,89 @@ pub fn place_words(x: &[u8], y: &[u8]) -> Result<Coord, Unread>
     coord_of(lon, lat).ok_or(Unread::Outside)
 }
 
+/// A number from 1 to the most.
+#[tactic(auto, unfolding(crate::specs::Items::number_word))]
+fn number_word(word: &[u8], most: u64) -> Result<u64, Unread>
+    ensures value { Gives result (number_word most word.now) }
+    ensures some { IfOk result (λ n. 1 ≤ n) }
+    ensures fits { IfOk result (λ n. n ≤ most) }
+{
+    match read_digits(word, 7) {
+        Some(n) if 1 <= n && n <= most => Ok(n),
+        _ => Err(Unread::Outside),
+    }
+}
+
 /// How often something is undone or redone.
-#[tactic(auto, unfolding(crate::specs::Items::count_word))]
 pub fn count_word(word: &[u8]) -> Result<u64, Unread>
     ensures value { Gives result (count_word word.now) }
     ensures some { IfOk result (λ n. 1 ≤ n) }
 {
-    match read_digits(word, 7) {
-        Some(n) if 1 <= n && n <= 1_000_000 => Ok(n),
-        _ => Err(Unread::Outside),
+    number_word(word, 1_000_000)
+}
+
+/// How many changes a chunk has.
+pub fn size_word(word: &[u8]) -> Result<u32, Unread>
+    ensures value { Gives result (size_word word.now) }
+    ensures some { IfOk result (λ size. 1 ≤ size) }
+    ensures fits { IfOk result (λ size. size ≤ 10000) }
+{
+    let size = number_word(word, 10_000)?;
+    Ok(size as u32)
+}
+
+/// `mine` or `theirs`.
+#[tactic(auto, unfolding(crate::specs::Items::side_word))]
+pub fn side_word(word: &[u8]) -> Result<Side, Unread>
+    ensures { Gives result (side_word word.now) }
+{
+    if word == b"mine".as_slice() {
+        Ok(Side::Mine)
+    } else if word == b"theirs".as_slice() {
+        Ok(Side::Theirs)
+    } else {
+        Err(Unread::Outside)
     }
+}
+
+/// The keys of tags between commas.
+#[tactic(auto, unfolding(crate::specs::Items::tag_keys_of))]
+fn all_tag_keys(pool: &mut Pool, text: &[u8]) -> Result<TagKeys, Unread>
+    ensures { Gives result (tag_keys_of (split (is 44) text.now)) }
+{
+    let mut keys = TagKeys::new(pool.allocator());
+    let mut rest = text;
+    loop {
+        let (piece, after) = cut(rest, b',', b',');
+        let key = read_escaped(pool, piece)?;
+        if key.as_bytes().is_empty() || keys.has(key.as_bytes()) {
+            return Err(Unread::Outside);
+        }
+        keys.push(key)?;
+        match after {
+            None => return Ok(keys),
+            Some(next) => rest = next,
+        }
+    }
+}
+
+/// Nothing, or keys of tags with commas between them.
+fn tag_keys(pool: &mut Pool, text: &[u8]) -> Result<TagKeys, Unread>
+    ensures { Gives result (tag_keys_of (texts_of text.now)) }
+{
+    if text.is_empty() {
+        return Ok(TagKeys::new(pool.allocator()));
+    }
+    all_tag_keys(pool, text)
+}
+
+/// `K` and keys of tags.
+#[tactic(auto, unfolding(crate::specs::Items::tag_keys_word))]
+pub fn tag_keys_word(pool: &mut Pool, word: &[u8]) -> Result<TagKeys, Unread>
+    ensures { Gives result (tag_keys_word word.now) }
+{
+    let [b'K', text @ ..] = word else {
+        return Err(Unread::Outside);
+    };
+    tag_keys(pool, text)
 }

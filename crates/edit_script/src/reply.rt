@@ -3,11 +3,11 @@ ghost use Rattle.std.specs.Prelude.{◌≡◌, ◌++◌, ◌∷◌, OnOk, OnErr,
 ghost use Rattle.std.specs.List.{flat_map};
 ghost use Rattle.osm_base.specs.Extends.{Extends};
 ghost use Rattle.osm_base.specs.Number.{key_written};
-ghost use Rattle.edit_script.specs.Reply.{number_of, key_behind, job_carried, fault_text, carried, refusal_text, made_text, reply_text, reply_line};
+ghost use Rattle.edit_script.specs.Reply.{number_of, number_behind, key_behind, text_behind, keys_behind, job_carried, fault_text, carried, refusal_text, reply_text, reply_line};
 
 use opl_file::FileFault;
 use opl_text::write_escaped;
-use osm_base::{Key, Keys, write_digits, write_key};
+use osm_base::{Key, Keys, Text, write_digits, write_key};
 use std::alloc::AllocError;
 use tool_api::Refusal;
 
@@ -24,6 +24,12 @@ pub enum StepRefusal {
     NothingToUndo,
     /// Less was undone than is to be redone.
     NothingToRedo,
+    /// Nothing is sent: so many objects are in conflict, and this is the least of them.
+    OpenConflicts { count: u64, first: Key },
+    /// Nothing is sent: this object would be, and refers to one that is only known as referred to.
+    IncompleteRef { key: Key, of: Key },
+    /// Nothing is sent: these new relations refer to each other, so that none can be made first.
+    CyclicNew(Keys),
 }
 
 /// What a step replies.
@@ -48,6 +54,9 @@ impl StepRefusal {
             StepRefusal::BadFile(_) => 20,
             StepRefusal::NothingToUndo => 21,
             StepRefusal::NothingToRedo => 22,
+            StepRefusal::OpenConflicts { .. } => 23,
+            StepRefusal::IncompleteRef { .. } => 24,
+            StepRefusal::CyclicNew(_) => 25,
         }
     }
 }
@@ -75,7 +84,7 @@ fn write_text(reply: &StepReply, out: &mut Vec<u8>) -> Result<(), AllocError>
     match reply {
         StepReply::Done(made) => {
             out.extend_from_slice(b" ok")?;
-            write_made(made.as_slice(), out)
+            write_keys_behind(made.as_slice(), out)
         }
         StepReply::Refused(why) => write_refusal(why, out),
         StepReply::Skipped => {
@@ -87,8 +96,8 @@ fn write_text(reply: &StepReply, out: &mut Vec<u8>) -> Result<(), AllocError>
 
 /// Appends the keys behind a space, with commas between them; nothing where there are none.
 #[tactic(auto, using(osm_base::proofs::ExtendLaws::extends_steps))]
-fn write_made(keys: &[Key], out: &mut Vec<u8>) -> Result<(), AllocError>
-    ensures written { OnOk result (out.new.items ≡ out.old.items ++ made_text keys.now) }
+fn write_keys_behind(keys: &[Key], out: &mut Vec<u8>) -> Result<(), AllocError>
+    ensures written { OnOk result (out.new.items ≡ out.old.items ++ keys_behind keys.now) }
     ensures kept { OnErr result (Extends out.old.items out.new.items) }
 {
     let [first, others @ ..] = keys else {
@@ -120,6 +129,33 @@ fn write_key_behind(key: Key, out: &mut Vec<u8>) -> Result<(), AllocError>
 }
 
 #[tactic(auto, using(osm_base::proofs::ExtendLaws::extends_steps))]
+fn write_two_keys(first: Key, second: Key, out: &mut Vec<u8>) -> Result<(), AllocError>
+    ensures written { OnOk result (out.new.items ≡ out.old.items ++ (key_behind first ++ key_behind second)) }
+    ensures kept { OnErr result (Extends out.old.items out.new.items) }
+{
+    write_key_behind(first, out)?;
+    write_key_behind(second, out)
+}
+
+#[tactic(auto, using(osm_base::proofs::ExtendLaws::extends_steps))]
+fn write_number_behind(number: u64, out: &mut Vec<u8>) -> Result<(), AllocError>
+    ensures written { OnOk result (out.new.items ≡ out.old.items ++ number_behind number) }
+    ensures kept { OnErr result (Extends out.old.items out.new.items) }
+{
+    out.push(b' ')?;
+    write_digits(number, out)
+}
+
+#[tactic(auto, using(osm_base::proofs::ExtendLaws::extends_steps))]
+fn write_text_behind(text: &Text, out: &mut Vec<u8>) -> Result<(), AllocError>
+    ensures written { OnOk result (out.new.items ≡ out.old.items ++ text_behind text.now) }
+    ensures kept { OnErr result (Extends out.old.items out.new.items) }
+{
+    out.push(b' ')?;
+    write_escaped(text, out)
+}
+
+#[tactic(auto, using(osm_base::proofs::ExtendLaws::extends_steps))]
 fn write_refusal(why: &StepRefusal, out: &mut Vec<u8>) -> Result<(), AllocError>
     ensures written { OnOk result (out.new.items ≡ out.old.items ++ refusal_text why.now) }
     ensures kept { OnErr result (Extends out.old.items out.new.items) }
@@ -129,6 +165,7 @@ fn write_refusal(why: &StepRefusal, out: &mut Vec<u8>) -> Result<(), AllocError>
 }
 
 /// Appends what the refusal carries.
+#[tactic(auto, using(osm_base::proofs::ExtendLaws::extends_steps))]
 fn write_carried(why: &StepRefusal, out: &mut Vec<u8>) -> Result<(), AllocError>
     ensures written { OnOk result (out.new.items ≡ out.old.items ++ carried why.now) }
     ensures kept { OnErr result (Extends out.old.items out.new.items) }
@@ -136,7 +173,13 @@ fn write_carried(why: &StepRefusal, out: &mut Vec<u8>) -> Result<(), AllocError>
     match why {
         StepRefusal::Tool(refusal) => write_job_refusal(refusal, out),
         StepRefusal::BadFile(fault) => write_fault(*fault, out),
-        _ => Ok(()),
+        StepRefusal::OpenConflicts { count, first } => {
+            write_number_behind(*count, out)?;
+            write_key_behind(*first, out)
+        }
+        StepRefusal::IncompleteRef { key, of } => write_two_keys(*key, *of, out),
+        StepRefusal::CyclicNew(keys) => write_keys_behind(keys.as_slice(), out),
+        StepRefusal::NoFile | StepRefusal::NothingToUndo | StepRefusal::NothingToRedo => Ok(()),
     }
 }
 
@@ -158,18 +201,14 @@ fn write_job_refusal(refusal: &Refusal, out: &mut Vec<u8>) -> Result<(), AllocEr
         | Refusal::NotInWay(key)
         | Refusal::NothingToSplit(key)
         | Refusal::NotJoined(key)
-        | Refusal::MemberClash(key) => write_key_behind(*key, out),
-        Refusal::InUse(key, user) => {
-            write_key_behind(*key, out)?;
-            write_key_behind(*user, out)
-        }
-        Refusal::TagClash(text) => {
-            out.push(b' ')?;
-            write_escaped(text, out)
-        }
+        | Refusal::MemberClash(key)
+        | Refusal::NoConflict(key)
+        | Refusal::NotMixed(key) => write_key_behind(*key, out),
+        Refusal::InUse(key, user) => write_two_keys(*key, *user, out),
+        Refusal::TagClash(text) | Refusal::NotClashing(text) => write_text_behind(text, out),
         Refusal::VersionClash(key, version) => {
             write_key_behind(*key, out)?;
-            write_numbered(b" ", u64::from(*version), out)
+            write_number_behind(u64::from(*version), out)
         }
         Refusal::TableFull => Ok(()),
     }

@@ -33,6 +33,15 @@ pub enum Act {
     Print,
     /// Writes how many objects the table has.
     Count,
+    /// Writes the objects in conflict, each with what both sides have.
+    Conflicts,
+    /// Tries the upload on a server in memory.
+    Rehearse,
+    /// Writes the upload in chunks.
+    Upload {
+        /// How many changes a chunk has at most: 1 to 10,000.
+        size: u32,
+    },
 }
 
 /// A line of a script that does something.
@@ -51,6 +60,7 @@ impl Act {
     {
         match self {
             Act::Begin | Act::Undo { .. } | Act::Redo { .. } => !is_inside,
+            Act::Rehearse | Act::Upload { .. } => !is_inside,
             Act::End => is_inside,
             _ => true,
         }
