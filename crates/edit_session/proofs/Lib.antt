@@ -1,6 +1,5 @@
 pub mod Examples
 pub mod Fed
-pub mod Pieces
 pub mod Steps
 pub mod Opens
 pub mod Verbs

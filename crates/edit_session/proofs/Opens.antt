@@ -4,7 +4,7 @@ use Rattle.osm_table.specs.Table.{TableValue}
 use Rattle.tool_api.specs.declared.reply.Reply.{Reply}
 use Rattle.tool_api.specs.declared.reply.Reply.TheVariants as reply
 use Rattle.edit_script.specs.declared.step.Act.{Act}
-use Rattle.edit_script.specs.declared.step.Act.TheVariants.{Job, Download, Begin, End, Undo, Redo, Print, Count}
+use Rattle.edit_script.specs.declared.step.Act.TheVariants.{Job, Download, Begin, End, Undo, Redo, Print, Count, Conflicts, Rehearse, Upload}
 use Rattle.edit_script.specs.Order.{inside_after}
 use Rattle.edit_history.specs.declared.counts.Group.{Group}
 use Rattle.edit_history.specs.declared.counts.Group.TheVariants.{Outside, Running, Refused}
@@ -47,6 +47,9 @@ act_open limits found (Undo n) s going = either_open _ _ _ (is_open s.group) ref
 act_open limits found (Redo n) s going = either_open _ _ _ (is_open s.group) refl refl
 act_open limits found Print s going = refl
 act_open limits found Count s going = refl
+act_open limits found Conflicts s going = refl
+act_open limits found Rehearse s going = refl
+act_open limits found (Upload size) s going = refl
 
 given_up_open : (g : Group) → is_given_up g ≡ true → is_open g ≡ true
 given_up_open Outside e = absurd cc
@@ -62,6 +65,9 @@ skipped_open (Undo n) s given_up = refl
 skipped_open (Redo n) s given_up = refl
 skipped_open Print s given_up = refl
 skipped_open Count s given_up = refl
+skipped_open Conflicts s given_up = refl
+skipped_open Rehearse s given_up = refl
+skipped_open (Upload size) s given_up = refl
 
 turn_open_by : (limits : Limits) (found : Found) (act : Act) (s : State) (given_up : Bool) → is_given_up s.group ≡ given_up → is_open (if given_up then skipped_turn act s else act_turn limits found act s).state.group ≡ inside_after (is_open s.group) act
 turn_open_by limits found act s true e = skipped_open act s e

@@ -19,7 +19,7 @@ use Rattle.edit_session.specs.Load.{found_in}
 use Rattle.edit_session.specs.Session.{states_before, texts, output}
 use Rattle.edit_session.specs.Turn.{turn, step_turn, turn_text, step_text}
 use Rattle.edit_session.proofs.Opens.{turn_open}
-use Rattle.edit_session.proofs.Pieces.{along-stop}
+use Rattle.osm_outside.proofs.Pieces.{along-stop}
 use Rattle.edit_session.proofs.Verbs.{needed_there}
 
 steps-drop : (i : ℕ) (steps : List Step) (step : Step) → i < length steps → step ≡ get_or steps i step → drop i steps ≡ step ∷ drop (i + 1) steps

@@ -5,6 +5,7 @@ pub mod Groups
 pub mod Limits
 pub mod Load
 pub mod Needs
+pub mod Planned
 pub mod Printed
 pub mod Send
 pub mod Session

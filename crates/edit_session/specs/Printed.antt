@@ -1,25 +1,10 @@
 -- The text of `print`.
-use Rattle.std.specs.Prelude.{ℕ, List, [], ◌∷◌, ◌++◌, Option, None, Some, flat_map}
-use Rattle.osm_base.specs.Meta.{empty_meta}
+use Rattle.std.specs.Prelude.{ℕ, List, [], Option, None, Some, flat_map}
 use Rattle.osm_base.specs.declared.key.Key.{Key}
-use Rattle.osm_base.specs.declared.meta.Meta.{Meta}
-use Rattle.osm_base.specs.declared.content.Content.{Content}
-use Rattle.osm_table.specs.Table.{TableValue, entry_of, keys_by_rank, version_of}
-use Rattle.osm_table.specs.declared.entry.Base.{Base}
-use Rattle.osm_table.specs.declared.entry.Base.TheVariants.{New, Live, Gone}
+use Rattle.osm_table.specs.Table.{TableValue, entry_of, keys_by_rank}
 use Rattle.osm_table.specs.declared.entry.Entry.{Entry}
 use Rattle.osm_table.specs.declared.entry.Entry.TheVariants.{Incomplete, Known}
-use Rattle.opl_line.specs.Written.{written}
-
--- the metadata of a base, the empty ones where no server has the object
-abbrev pub meta_of : Base → Meta
-meta_of New = empty_meta
-meta_of (Live version content meta) = meta
-meta_of (Gone version meta) = meta
-
--- the line of a known object: its base's version and metadata, and mine, or a deleted object
-abbrev pub known_text : Key → Base → Option Content → List ℕ
-known_text key base mine = written key (version_of base) mine (meta_of base) ++ 10 ∷ []
+use Rattle.conflict.specs.Shown.{known_text}
 
 -- the line of an entry; what isn't known has none
 abbrev pub shown : Key → Option Entry → List ℕ

@@ -5,6 +5,8 @@
 use Rattle.std.specs.Prelude.{ℕ, nat_le, if◌then◌else◌, List, [], ◌++◌, length}
 use Rattle.osm_outside.specs.Outside.{Shelved}
 use Rattle.osm_table.specs.Table.{TableValue}
+use Rattle.chunking.specs.Chunks.{chunks}
+use Rattle.conflict.specs.Shown.{conflicts_text}
 use Rattle.download.specs.Tell.{told_of}
 use Rattle.tool_api.specs.declared.job.Job as jobs
 use Rattle.tool_api.specs.declared.job.Job.TheVariants.{Merge}
@@ -12,7 +14,7 @@ use Rattle.tool_api.specs.declared.reply.Reply.{Reply}
 use Rattle.tool_api.specs.declared.reply.Reply.TheVariants as reply
 use Rattle.tool_api.specs.Plain.{plain}
 use Rattle.edit_script.specs.declared.step.Act.{Act}
-use Rattle.edit_script.specs.declared.step.Act.TheVariants.{Job, Download, Begin, End, Undo, Redo, Print, Count}
+use Rattle.edit_script.specs.declared.step.Act.TheVariants.{Job, Download, Begin, End, Undo, Redo, Print, Count, Conflicts, Rehearse, Upload}
 use Rattle.edit_script.specs.declared.step.Step.{Step}
 use Rattle.edit_script.specs.declared.reply.StepReply.{StepReply}
 use Rattle.edit_script.specs.declared.reply.StepReply.TheVariants.{Done, Refused, Skipped}
@@ -30,6 +32,7 @@ use Rattle.edit_session.specs.declared.response.Response.{Response}
 use Rattle.edit_session.specs.Counted.{count_text}
 use Rattle.edit_session.specs.Groups.{is_given_up}
 use Rattle.edit_session.specs.Load.{found_in}
+use Rattle.edit_session.specs.Planned.{upload_answer, rehearse_answer, rehearsed_text}
 use Rattle.edit_session.specs.Printed.{table_text}
 
 -- What a step answers, and the state after it.
@@ -44,9 +47,13 @@ reply_alone reply = record { reply = reply; behind = behind.Nothing }
 abbrev pub done_turn : State → Turn
 done_turn s = record { answer = reply_alone (Done []); state = s }
 
+-- the state stays
+abbrev pub still_turn : Response → State → Turn
+still_turn answer s = record { answer = answer; state = s }
+
 -- done, and a text stands behind the reply
 abbrev pub look_turn : Behind → State → Turn
-look_turn text s = record { answer = record { reply = Done []; behind = text }; state = s }
+look_turn text s = still_turn (record { reply = Done []; behind = text }) s
 
 -- the reply of a tool as that of a step
 abbrev pub replied : Reply → StepReply
@@ -69,11 +76,11 @@ download_turn limit (Objects objects) s = job_turn limit (Merge (told_of objects
 
 -- n steps back, where there are so many
 abbrev pub undo_turn : ℕ → State → Turn
-undo_turn n s = if nat_le n (length s.past) then done_turn (went_back n s) else record { answer = reply_alone (Refused NothingToUndo); state = s }
+undo_turn n s = if nat_le n (length s.past) then done_turn (went_back n s) else still_turn (reply_alone (Refused NothingToUndo)) s
 
 -- n steps on, where there are so many
 abbrev pub redo_turn : ℕ → State → Turn
-redo_turn n s = if nat_le n (length s.undone) then done_turn (went_on n s) else record { answer = reply_alone (Refused NothingToRedo); state = s }
+redo_turn n s = if nat_le n (length s.undone) then done_turn (went_on n s) else still_turn (reply_alone (Refused NothingToRedo)) s
 
 -- an act, where no group was given up
 abbrev pub act_turn : Limits → Found → Act → State → Turn
@@ -85,11 +92,14 @@ act_turn limits found (Undo n) s = undo_turn n s
 act_turn limits found (Redo n) s = redo_turn n s
 act_turn limits found Print s = look_turn behind.Table s
 act_turn limits found Count s = look_turn behind.Counts s
+act_turn limits found Conflicts s = look_turn behind.Conflicts s
+act_turn limits found Rehearse s = still_turn (rehearse_answer s.now) s
+act_turn limits found (Upload size) s = still_turn (upload_answer size s.now) s
 
 -- in a group that was given up each act is skipped; its end ends the group
 abbrev pub skipped_turn : Act → State → Turn
 skipped_turn End s = record { answer = reply_alone Skipped; state = ended s }
-skipped_turn act s = record { answer = reply_alone Skipped; state = s }
+skipped_turn act s = still_turn (reply_alone Skipped) s
 
 -- What an act answers with what it found, and the state after it.
 abbrev pub turn : Limits → Found → Act → State → Turn
@@ -104,6 +114,9 @@ abbrev pub behind_text : Behind → TableValue → List ℕ
 behind_text behind.Nothing t = []
 behind_text behind.Table t = table_text t
 behind_text behind.Counts t = count_text t
+behind_text behind.Conflicts t = conflicts_text t
+behind_text (behind.Changes changes size) t = chunks changes size
+behind_text (behind.Rehearsed count) t = rehearsed_text count
 
 -- the reply line, and the text behind it
 abbrev pub response_text : ℕ → Response → TableValue → List ℕ

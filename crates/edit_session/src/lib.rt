@@ -28,6 +28,7 @@ mod session;
 mod status;
 mod stop;
 mod turns;
+mod uploading;
 
 pub use session::run_session;
 pub use status::Status;

@@ -54,6 +54,9 @@ pub fn find<S: Shelf>(
         Act::Redo { .. } => Ok(Found::Nothing),
         Act::Print => Ok(Found::Nothing),
         Act::Count => Ok(Found::Nothing),
+        Act::Conflicts => Ok(Found::Nothing),
+        Act::Rehearse => Ok(Found::Nothing),
+        Act::Upload { .. } => Ok(Found::Nothing),
         Act::Job(_) => Ok(Found::Nothing),
     }
 }

@@ -3,7 +3,8 @@ ghost use Rattle.std.specs.Prelude.{◌≡◌, ◌++◌, OnOk, OnErr};
 ghost use Rattle.std.specs.Option.{option_copied};
 ghost use Rattle.osm_base.specs.Extends.{Extends};
 ghost use Rattle.osm_base.specs.Meta.{empty_meta};
-ghost use Rattle.edit_session.specs.Printed.{known_text, entry_text, meta_of};
+ghost use Rattle.conflict.specs.Shown.{known_text, meta_of};
+ghost use Rattle.edit_session.specs.Printed.{entry_text};
 
 use dataset::DataSet;
 use opl_line::write_line;

@@ -6,9 +6,10 @@ ghost use Rattle.edit_session.specs.Turn.{reply_alone};
 use edit_script::StepReply;
 use osm_base::Keys;
 use std::alloc::Global;
+use upload_order::Changes;
 
 /// What stands behind the reply line of a step.
-#[derive(Clone, Copy, Debug, PartialEq, Eq)]
+#[derive(Drop)]
 pub enum Behind {
     /// No text.
     Nothing,
@@ -16,6 +17,12 @@ pub enum Behind {
     Table,
     /// How many objects the table has.
     Counts,
+    /// The objects in conflict.
+    Conflicts,
+    /// The changes of an upload, in chunks of so many.
+    Changes { changes: Changes, size: u32 },
+    /// How many changes a rehearsal accepted.
+    Rehearsed(u64),
 }
 
 /// The reply of a step, and what stands behind it.

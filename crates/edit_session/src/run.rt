@@ -1,19 +1,23 @@
 //! The steps of a script, run one after the other.
 ghost use Rattle.std.specs.Prelude.{◌≡◌, false, IfSome, OnOk, OnErr};
 ghost use Rattle.std.specs.Io.KnownBytes.{Appends};
-ghost use Rattle.osm_outside.specs.Outside.{AppendsFront};
+ghost use Rattle.osm_outside.specs.Outside.{AppendsFront, HasCauseOf};
 ghost use Rattle.edit_script.specs.Order.{IsOrderly};
 ghost use Rattle.edit_session.specs.Asked.{MayTake, MayRunAll};
 ghost use Rattle.edit_session.specs.Load.{AreTold};
+ghost use Rattle.edit_session.specs.Planned.{IsSized};
 ghost use Rattle.edit_history.specs.Moved.{Fits};
-ghost use Rattle.edit_session.specs.Send.{WriteCause, Plays};
+ghost use Rattle.edit_session.specs.Send.{Plays};
 ghost use Rattle.edit_session.specs.Session.{output, StopCause};
 ghost use Rattle.edit_session.specs.Turn.{turn, behind_text, response_text};
+ghost use Rattle.edit_session.specs.declared.sending.WriteError.TheVariants.{Fault};
 
 use crate::limits::Limits;
 use crate::loading::{Found, find};
 use crate::response::{Behind, Response};
-use crate::sending::{WriteError, send_count, send_reply, send_table};
+use crate::sending::{
+    WriteError, send_changes, send_conflicts, send_count, send_rehearsed, send_reply, send_table,
+};
 use crate::stop::Stop;
 use crate::turns::take_turn;
 use dataset::DataSet;
@@ -61,7 +65,7 @@ fn run_step<K: Sink>(
     requires fits { Fits (λ b. done (b.vtable, b.value)) (λ b. undone (b.vtable, b.value)) (λ b. kind (b.vtable, b.value)) history.old (MayTake step.now.act) }
     requires told { AreTold found }
     ensures plays { Plays (λ b. done (b.vtable, b.value)) (λ b. undone (b.vtable, b.value)) (λ b. kind (b.vtable, b.value)) history.old history.new (K.taken out.old) (K.taken out.new) result step.now.line (turn limits found step.now.act) }
-    ensures cause { WriteCause (K.faults out.old) (K.faults out.new) result }
+    ensures cause { HasCauseOf Fault (K.faults out.old) (K.faults out.new) result }
 {
     let response = take_turn(alloc, limits, history, &step.act, found)?;
     send_response(alloc, out, step.line, &response, history.ds())
@@ -76,28 +80,33 @@ fn send_response<K: Sink>(
     response: &Response,
     ds: &DataSet,
 ) -> Result<(), WriteError>
+    requires { IsSized response.now.behind }
     ensures ok { OnOk result (Appends (K.taken out.old) (K.taken out.new) (response_text line response.now ds.now)) }
     ensures err { OnErr result (AppendsFront (K.taken out.old) (K.taken out.new) (response_text line response.now ds.now)) }
-    ensures cause { WriteCause (K.faults out.old) (K.faults out.new) result }
+    ensures cause { HasCauseOf Fault (K.faults out.old) (K.faults out.new) result }
 {
     send_reply(alloc, out, line, &response.reply)?;
-    send_behind(alloc, out, response.behind, ds)
+    send_behind(alloc, out, &response.behind, ds)
 }
 
 // The text behind a reply.
 fn send_behind<K: Sink>(
     alloc: Global,
     out: &mut K,
-    behind: Behind,
+    behind: &Behind,
     ds: &DataSet,
 ) -> Result<(), WriteError>
-    ensures ok { OnOk result (Appends (K.taken out.old) (K.taken out.new) (behind_text behind ds.now)) }
-    ensures err { OnErr result (AppendsFront (K.taken out.old) (K.taken out.new) (behind_text behind ds.now)) }
-    ensures cause { WriteCause (K.faults out.old) (K.faults out.new) result }
+    requires { IsSized behind.now }
+    ensures ok { OnOk result (Appends (K.taken out.old) (K.taken out.new) (behind_text behind.now ds.now)) }
+    ensures err { OnErr result (AppendsFront (K.taken out.old) (K.taken out.new) (behind_text behind.now ds.now)) }
+    ensures cause { HasCauseOf Fault (K.faults out.old) (K.faults out.new) result }
 {
     match behind {
         Behind::Nothing => Ok(()),
         Behind::Table => send_table(alloc, out, ds),
         Behind::Counts => send_count(alloc, out, ds),
+        Behind::Conflicts => send_conflicts(alloc, out, ds),
+        Behind::Changes { changes, size } => send_changes(out, changes, *size),
+        Behind::Rehearsed(count) => send_rehearsed(alloc, out, *count),
     }
 }

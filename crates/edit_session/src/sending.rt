@@ -1,21 +1,28 @@
 //! Text that goes to the sink.
-ghost use Rattle.std.specs.Prelude.{◌≡◌, OnOk, OnErr};
+ghost use Rattle.std.specs.Prelude.{◌≡◌, ◌++◌, ◌≤◌, OnOk, OnErr, flat_map};
 ghost use Rattle.std.specs.Io.KnownBytes.{Appends};
-ghost use Rattle.osm_outside.specs.Outside.{AppendsFront, HasCause};
+ghost use Rattle.osm_outside.specs.Outside.{AppendsFront, HasCauseOf};
+ghost use Rattle.osm_base.specs.Extends.{Extends};
 ghost use Rattle.osm_base.specs.Meta.{empty_meta};
+ghost use Rattle.chunking.specs.Chunks.{chunks};
+ghost use Rattle.conflict.specs.Shown.{conflict_text, conflicts_text};
 ghost use Rattle.edit_script.specs.Reply.{reply_line};
+ghost use Rattle.edit_session.specs.Planned.{rehearsed_text};
 ghost use Rattle.edit_session.specs.Printed.{entries_text, table_text};
+ghost use Rattle.edit_session.specs.Stop.{write_error_of};
 ghost use Rattle.edit_session.specs.Counted.{count_text};
-ghost use Rattle.edit_session.specs.Send.{WriteCause, Passes};
 ghost use Rattle.edit_session.specs.declared.sending.WriteError.TheVariants.{Fault, Memory};
 
 use crate::counting::write_count;
 use crate::printing::write_entry;
+use chunking::{ChunkFault, write_chunks};
+use conflict::{conflicts, write_conflict};
 use dataset::DataSet;
 use edit_script::{StepReply, write_reply};
-use osm_base::{Key, Meta};
-use osm_outside::{Failed, Sink};
+use osm_base::{Key, Meta, write_digits};
+use osm_outside::{Failed, Sink, pass_full};
 use std::alloc::{AllocError, AllocFailed, Global};
+use upload_order::Changes;
 
 /// Why a text wasn't written to its end.
 #[derive(Clone, Copy, Debug, PartialEq, Eq)]
@@ -31,6 +38,17 @@ impl From<Failed> for WriteError {
 
     fn from(_: Failed) -> WriteError {
         WriteError::Fault
+    }
+}
+
+impl From<ChunkFault> for WriteError {
+    ghost from_gives = { λ fault e. e ≡ write_error_of fault };
+
+    fn from(fault: ChunkFault) -> WriteError {
+        match fault {
+            ChunkFault::Write => WriteError::Fault,
+            ChunkFault::Memory => WriteError::Memory,
+        }
     }
 }
 
@@ -62,7 +80,7 @@ pub fn send_reply<K: Sink>(
 ) -> Result<(), WriteError>
     ensures ok { OnOk result (Appends (K.taken out.old) (K.taken out.new) (reply_line line reply.now)) }
     ensures err { OnErr result (AppendsFront (K.taken out.old) (K.taken out.new) (reply_line line reply.now)) }
-    ensures cause { WriteCause (K.faults out.old) (K.faults out.new) result }
+    ensures cause { HasCauseOf Fault (K.faults out.old) (K.faults out.new) result }
 {
     let mut text = Vec::new(alloc);
     write_reply(line, reply, &mut text)?;
@@ -77,16 +95,13 @@ pub fn send_reply<K: Sink>(
 pub fn send_count<K: Sink>(alloc: Global, out: &mut K, ds: &DataSet) -> Result<(), WriteError>
     ensures ok { OnOk result (Appends (K.taken out.old) (K.taken out.new) (count_text ds.now)) }
     ensures err { OnErr result (AppendsFront (K.taken out.old) (K.taken out.new) (count_text ds.now)) }
-    ensures cause { WriteCause (K.faults out.old) (K.faults out.new) result }
+    ensures cause { HasCauseOf Fault (K.faults out.old) (K.faults out.new) result }
 {
     let mut text = Vec::new(alloc);
     write_count(ds, &mut text)?;
     out.put(&text)?;
     Ok(())
 }
-
-// A piece of text goes to the sink once it has so many bytes.
-const FULL: usize = 32_768;
 
 /// Sends the text of `print`, in pieces of some tens of KiB.
 ///
@@ -95,7 +110,7 @@ const FULL: usize = 32_768;
 pub fn send_table<K: Sink>(alloc: Global, out: &mut K, ds: &DataSet) -> Result<(), WriteError>
     ensures ok { OnOk result (Appends (K.taken out.old) (K.taken out.new) (table_text ds.now)) }
     ensures err { OnErr result (AppendsFront (K.taken out.old) (K.taken out.new) (table_text ds.now)) }
-    ensures cause { WriteCause (K.faults out.old) (K.faults out.new) result }
+    ensures cause { HasCauseOf Fault (K.faults out.old) (K.faults out.new) result }
 {
     let unknown = Meta::empty(alloc)?;
     let keys = ds.ordered()?;
@@ -112,7 +127,7 @@ fn send_entries<K: Sink>(
     requires { unknown.now ≡ empty_meta }
     ensures ok { OnOk result (Appends (K.taken out.old) (K.taken out.new) (entries_text ds.now keys.now)) }
     ensures err { OnErr result (AppendsFront (K.taken out.old) (K.taken out.new) (entries_text ds.now keys.now)) }
-    ensures cause { WriteCause (K.faults out.old) (K.faults out.new) result }
+    ensures cause { HasCauseOf Fault (K.faults out.old) (K.faults out.new) result }
 {
     let mut piece = Vec::new(alloc);
     for key in keys {
@@ -123,15 +138,74 @@ fn send_entries<K: Sink>(
     Ok(())
 }
 
-// Sends the piece where it is full, and leaves it empty then.
-fn pass_full<K: Sink>(out: &mut K, piece: &mut Vec<u8>) -> Result<(), Failed>
-    ensures ok { OnOk result (Passes (K.taken out.old) (K.taken out.new) piece.old.items piece.new.items) }
-    ensures err { OnErr result (AppendsFront (K.taken out.old) (K.taken out.new) piece.old.items) }
-    ensures cause { HasCause (K.faults out.old) (K.faults out.new) result }
+/// Sends the text of `conflicts`, in pieces of some tens of KiB.
+///
+/// # Errors
+/// The sink failed, or no memory was left. A front of the text may have been written.
+pub fn send_conflicts<K: Sink>(alloc: Global, out: &mut K, ds: &DataSet) -> Result<(), WriteError>
+    ensures ok { OnOk result (Appends (K.taken out.old) (K.taken out.new) (conflicts_text ds.now)) }
+    ensures err { OnErr result (AppendsFront (K.taken out.old) (K.taken out.new) (conflicts_text ds.now)) }
+    ensures cause { HasCauseOf Fault (K.faults out.old) (K.faults out.new) result }
 {
-    if piece.len() >= FULL {
-        out.put(piece)?;
-        piece.clear();
+    let keys = conflicts(ds)?;
+    send_each(alloc, out, ds, keys.as_slice())
+}
+
+fn send_each<K: Sink>(
+    alloc: Global,
+    out: &mut K,
+    ds: &DataSet,
+    keys: &[Key],
+) -> Result<(), WriteError>
+    ensures ok { OnOk result (Appends (K.taken out.old) (K.taken out.new) (flat_map (conflict_text ds.now) keys.now)) }
+    ensures err { OnErr result (AppendsFront (K.taken out.old) (K.taken out.new) (flat_map (conflict_text ds.now) keys.now)) }
+    ensures cause { HasCauseOf Fault (K.faults out.old) (K.faults out.new) result }
+{
+    let mut piece = Vec::new(alloc);
+    for key in keys {
+        write_conflict(ds, *key, &mut piece)?;
+        pass_full(out, &mut piece)?;
     }
+    out.put(&piece)?;
+    Ok(())
+}
+
+/// Sends the changes of an upload in chunks of a size, in pieces of some tens of KiB.
+///
+/// # Errors
+/// The sink failed, or no memory was left. A front of the text may have been written.
+pub fn send_changes<K: Sink>(out: &mut K, changes: &Changes, size: u32) -> Result<(), WriteError>
+    requires { (1 ≤ size) × (size ≤ 10000) }
+    ensures ok { OnOk result (Appends (K.taken out.old) (K.taken out.new) (chunks changes.now size)) }
+    ensures err { OnErr result (AppendsFront (K.taken out.old) (K.taken out.new) (chunks changes.now size)) }
+    ensures cause { HasCauseOf Fault (K.faults out.old) (K.faults out.new) result }
+{
+    write_chunks(changes, size, out)?;
+    Ok(())
+}
+
+/// Sends how many changes a rehearsal accepted.
+///
+/// # Errors
+/// The sink failed, or no memory was left. A front of the text may have been written.
+pub fn send_rehearsed<K: Sink>(alloc: Global, out: &mut K, count: u64) -> Result<(), WriteError>
+    ensures ok { OnOk result (Appends (K.taken out.old) (K.taken out.new) (rehearsed_text count)) }
+    ensures err { OnErr result (AppendsFront (K.taken out.old) (K.taken out.new) (rehearsed_text count)) }
+    ensures cause { HasCauseOf Fault (K.faults out.old) (K.faults out.new) result }
+{
+    let mut text = Vec::new(alloc);
+    write_rehearsed(count, &mut text)?;
+    out.put(&text)?;
+    Ok(())
+}
+
+#[tactic(auto, using(osm_base::proofs::ExtendLaws::extends_steps))]
+fn write_rehearsed(count: u64, out: &mut Vec<u8>) -> Result<(), AllocError>
+    ensures written { OnOk result (out.new.items ≡ out.old.items ++ rehearsed_text count) }
+    ensures kept { OnErr result (Extends out.old.items out.new.items) }
+{
+    out.extend_from_slice(b"rehearse accepted ")?;
+    write_digits(count, out)?;
+    out.push(b'\n')?;
     Ok(())
 }

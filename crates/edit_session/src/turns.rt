@@ -1,17 +1,19 @@
 //! What a step does to the history, and what it answers.
-ghost use Rattle.std.specs.Prelude.{◌≡◌, ◌≤◌, true, false};
+ghost use Rattle.std.specs.Prelude.{◌≡◌, ◌≤◌, true, false, IfOk};
 ghost use Rattle.tool_api.specs.declared.verb.Verb.TheVariants as verbs;
 ghost use Rattle.tool_api.specs.Plain.{IsWellFormed, verb_of};
 ghost use Rattle.edit_history.specs.declared.counts.Group.TheVariants as groups;
 ghost use Rattle.edit_session.specs.Asked.{MayTake, MayWork, IsGivenUp};
 ghost use Rattle.edit_session.specs.Groups.{is_given_up};
 ghost use Rattle.edit_session.specs.Load.{AreTold};
+ghost use Rattle.edit_session.specs.Planned.{IsSized};
 ghost use Rattle.edit_history.specs.Moved.{Alone, Fits, Moved};
 ghost use Rattle.edit_session.specs.Turn.{turn, job_turn, download_turn, refused_turn, undo_turn, redo_turn, skipped_turn};
 
 use crate::limits::Limits;
 use crate::loading::Found;
 use crate::response::{Behind, Response};
+use crate::uploading::{answer_rehearsal, answer_upload};
 use download::tell;
 use edit_history::{Group, History};
 use edit_script::{Act, StepRefusal, StepReply};
@@ -41,7 +43,8 @@ pub fn take_turn(
 ) -> Result<Response, AllocError>
     requires fits { Fits (λ b. done (b.vtable, b.value)) (λ b. undone (b.vtable, b.value)) (λ b. kind (b.vtable, b.value)) history.old (MayTake act.now) }
     requires told { AreTold found }
-    ensures { Moved (λ b. done (b.vtable, b.value)) (λ b. undone (b.vtable, b.value)) (λ b. kind (b.vtable, b.value)) history.old history.new result (turn limits found act.now) }
+    ensures moved { Moved (λ b. done (b.vtable, b.value)) (λ b. undone (b.vtable, b.value)) (λ b. kind (b.vtable, b.value)) history.old history.new result (turn limits found act.now) }
+    ensures sized { IfOk result (λ response. IsSized response.behind) }
 {
     if is_given_up(history.group()) {
         return skip(history, act);
@@ -61,6 +64,9 @@ pub fn take_turn(
         Act::Redo { n } => redo(alloc, history, *n),
         Act::Print => Ok(Response::look(alloc, Behind::Table)),
         Act::Count => Ok(Response::look(alloc, Behind::Counts)),
+        Act::Conflicts => Ok(Response::look(alloc, Behind::Conflicts)),
+        Act::Rehearse => answer_rehearsal(history.ds()),
+        Act::Upload { size } => answer_upload(history.ds(), *size),
     }
 }
 
@@ -79,6 +85,9 @@ fn skip(history: &mut History, act: &Act) -> Result<Response, AllocError>
         Act::Redo { .. } => Ok(Response::alone(StepReply::Skipped)),
         Act::Print => Ok(Response::alone(StepReply::Skipped)),
         Act::Count => Ok(Response::alone(StepReply::Skipped)),
+        Act::Conflicts => Ok(Response::alone(StepReply::Skipped)),
+        Act::Rehearse => Ok(Response::alone(StepReply::Skipped)),
+        Act::Upload { .. } => Ok(Response::alone(StepReply::Skipped)),
         Act::Job(_) => Ok(Response::alone(StepReply::Skipped)),
         Act::Download { .. } => Ok(Response::alone(StepReply::Skipped)),
     }

@@ -3,8 +3,8 @@ use Rattle.std.proofs.lemmas.Result.{err_from_is_err_and}
 use Rattle.osm_base.specs.declared.key.Kind.TheVariants.{Node}
 use Rattle.osm_base.specs.declared.key.Key.{Key}
 use Rattle.edit_session.specs.Printed.{entry_text, entries_text}
-use Rattle.osm_outside.proofs.Along.{along-front}
-use Rattle.edit_session.proofs.Pieces.{along-stop, piece_more, piece_front, piece_end}
+use Rattle.osm_outside.proofs.Along.{along-front, item_next}
+use Rattle.osm_outside.proofs.Pieces.{along-stop, piece_more, piece_front, piece_end}
 use Rattle.edit_session.proofs.sending.send_entries.Goals as goal
 
 -- what stands at an index past the end
@@ -19,16 +19,16 @@ returns-in_err-write_entry-clause-err g c =
 pub returns-in_err-pass_full-clause-err : goal.returns-in_err-pass_full-clause-err
 returns-in_err-pass_full-clause-err g c =
     let p = err_from_is_err_and c.from_residual-in_err-pass_full.result c.from_residual-in_err-pass_full.ensures.1 in
-    rw p.1 (piece_front (entry_text c.args.ds.now) _ _ _ _ c.args.keys.now c.loop-key.key-index (get_or c.args.keys.now c.loop-key.key-index none) none _ _
-    (omega arith) refl c.loop-key.invariant.text c.in_ok-write_entry.ensures.written c.in_err-pass_full.ensures.err)
+    rw p.1 (piece_front _ _ _ _ _ _ _ _ (item_next (entry_text c.args.ds.now) c.args.keys.now c.loop-key.key-index (get_or c.args.keys.now c.loop-key.key-index none) none (omega arith) refl)
+    c.loop-key.invariant.text c.in_ok-write_entry.ensures.written _ c.in_err-pass_full.ensures.err)
 
 pub loop-key-preserved : goal.loop-key-preserved
 loop-key-preserved g c =
     let passed = c.in_ok-pass_full.ensures in
     record {
       later = omega (arith, passed.cause.later);
-      text = piece_more (entry_text c.args.ds.now) _ _ _ _ c.args.keys.now c.loop-key.key-index (get_or c.args.keys.now c.loop-key.key-index none) none _ _ _
-          (omega arith) refl c.loop-key.invariant.text c.in_ok-write_entry.ensures.written passed.ok;
+      text = piece_more _ _ _ _ _ _ _ _ (item_next (entry_text c.args.ds.now) c.args.keys.now c.loop-key.key-index (get_or c.args.keys.now c.loop-key.key-index none) none (omega arith) refl)
+          c.loop-key.invariant.text c.in_ok-write_entry.ensures.written _ _ passed.ok;
     }
 
 pub returns-in_err-put-clause-err : goal.returns-in_err-put-clause-err
