@@ -1,5 +1,5 @@
 -- The world that has the bases of a table, and what these refer to.
-use Rattle.std.specs.Prelude.{ℤ, pos, Bool, true, false, ◌&&◌, if◌then◌else◌, Option, Some, None, List, [], ◌∷◌, ◌++◌, flat_map}
+use Rattle.std.specs.Prelude.{refl, ℤ, pos, Bool, true, false, ◌&&◌, if◌then◌else◌, Option, Some, None, List, [], ◌∷◌, ◌++◌, flat_map}
 use Rattle.std.specs.List.{list_any}
 use Rattle.std.specs.Option.{option_map_or}
 use Rattle.std.specs.FinMap as fin
@@ -19,7 +19,7 @@ use Rattle.upload_order.specs.World.{World, WorldEntry}
 
 -- a node at 0 0, a way without references, a relation without members, all without tags
 abbrev pub empty_content : Kind → Content
-empty_content kind.Node = Node [] (record { lon = pos 0; lat = pos 0 })
+empty_content kind.Node = Node [] (record { lon = pos 0; lat = pos 0; on_map = refl })
 empty_content kind.Way = Way [] []
 empty_content kind.Relation = Relation [] []
 

@@ -1,7 +1,9 @@
 //! The objects of a world.
-ghost use Rattle.std.specs.Prelude.{◌≡◌, OnOk, OnErr};
+ghost use Rattle.std.specs.Prelude.{◌≡◌, ◌<◌, Some, OnOk, OnErr};
 ghost use Rattle.std.specs.Option.{option_copied};
 ghost use Rattle.std.specs.FinMap as fin;
+ghost use Rattle.indexmap.specs.IndexMap.{spare, Updates};
+ghost use Rattle.osm_base.specs.KeyEq.{eq};
 ghost use Rattle.upload_order.specs.World.{user_among};
 
 use crate::entry::WorldEntry;
@@ -73,9 +75,18 @@ impl Objects {
         let come = pairs_of(alloc, key, Some(&entry))?;
         self.entries.reserve(1)?;
         self.index.change(&gone, &come)?;
-        match self.entries.insert(key, entry) {
-            Ok(_) => Ok(()),
-            Err(_) => unreachable!(),
-        }
+        set(&mut self.entries, key, entry);
+        Ok(())
+    }
+}
+
+/// Sets what stands of a key, where there is room.
+fn set(entries: &mut IndexMap<Key, WorldEntry>, key: Key, entry: WorldEntry)
+    requires { 0 < spare entries.old }
+    ensures { Updates eq entries.old entries.new key (Some entry) }
+{
+    match entries.insert(key, entry) {
+        Ok(_) => {}
+        Err(_) => unreachable!(),
     }
 }
