@@ -1,0 +1,141 @@
+-- The index of a world's objects: what it lends, and that it stays exact.
+use Rattle.std.proofs.Common.{◌≡◌, ℕ, ◌+◌, ◌≤◌, ◌&&◌, ◌||◌, Bool, true, false, cond, Option, Some, None, List, [], ◌∷◌, map, refl, sym, ◌∙◌, ap, arith, inl, inr}
+use Rattle.std.specs.Option.{option_map, option_map_or, unwrap_or}
+use Rattle.std.specs.Prelude.{T, nat_lt, is_some, slice_get}
+use Rattle.std.specs.List.{list_any, find, filter}
+use Rattle.std.proofs.lemmas.Bool.{lt-ltb}
+use Rattle.std.proofs.lemmas.List.Sums.{sum_by-cons}
+use Rattle.std.specs.FinMap as fin
+use Rattle.osm_base.specs.Rank.{rank_cmp, is_key}
+use Rattle.osm_base.specs.RankLaws.{rank_total}
+use Rattle.osm_base.specs.Content.{refs_of, refers}
+use Rattle.osm_base.specs.RisingKeys.{rises, is_in}
+use Rattle.osm_base.specs.declared.key.Key.{Key}
+use Rattle.osm_base.specs.declared.content.Content.{Content}
+use Rattle.osm_base.proofs.ByRank.{sorted_filter}
+use Rattle.osm_base.proofs.RisingKeys.{one_key}
+use Rattle.ref_index.specs.declared.pair.Pair.{Pair}
+use Rattle.ref_index.specs.Bag.{Bag, count, times, is_pair, pair_cmp}
+use Rattle.ref_index.proofs.Agreement.{pair_parts}
+use Rattle.dataset.specs.Exact.{times_key}
+use Rattle.upload_order.specs.First.{first}
+use Rattle.upload_order.specs.World.{WorldEntry, content_in, entry_refers, user_among}
+use Rattle.upload_order.proofs.Basics.{decide, at_key_put, at_other}
+use Rattle.upload_order.proofs.Entries.{IsIn, has_listed}
+use Rattle.server_world.specs.Codes.{Objects}
+use Rattle.server_world.specs.Indexed.{refs_in, pairs_of, IsIndexed}
+
+-- a key is among others where it stands there at least once
+any_step : (b c : Bool) (n : ℕ) → c ≡ nat_lt 0 n → (b || c) ≡ nat_lt 0 (cond b 1 0 + n)
+any_step true c n e = sym (lt-ltb 0 (1 + n) (omega arith))
+any_step false c n e = let z : 0 + n ≡ n = omega arith in e ∙ ap (nat_lt 0) (sym z)
+
+any_count : (k : Key) (ks : List Key) → list_any (is_key k) ks ≡ nat_lt 0 (times_key k ks)
+any_count k [] = refl
+any_count k (j ∷ ks) = any_step (is_key k j) _ (times_key k ks) (any_count k ks) ∙ ap (nat_lt 0) (sym (sum_by-cons (λ (j : Key). cond (is_key k j) 1 0) j ks))
+
+-- what stands refers to the key
+abbrev pub object_refers : Key → Option WorldEntry → Bool
+object_refers k o = option_map_or (λ e. entry_refers k e) o false
+
+content_counts : (k : Key) (c : Option Content) → option_map_or (λ c. refers c k) c false ≡ nat_lt 0 (times_key k (option_map_or refs_of c []))
+content_counts k None = refl
+content_counts k (Some c) = any_count k (refs_of c)
+
+pub object_counts : (k : Key) (o : Option WorldEntry) → object_refers k o ≡ nat_lt 0 (times_key k (refs_in o))
+object_counts k None = refl
+object_counts k (Some e) = content_counts k e.content
+
+stands_too : (k : Key) (o : Option WorldEntry) → object_refers k o ≡ (object_refers k o && is_some o)
+stands_too k None = refl
+stands_too k (Some e) = elim (entry_refers k e) as (λ b. b ≡ (b && true)) [ true ↦ refl | false ↦ refl ]
+
+first_got : (ks : List Key) → slice_get ks 0 ≡ first ks
+first_got [] = refl
+first_got (k ∷ ks) = refl
+
+first_case : (b : Bool) (k : Key) (e : Key × WorldEntry) (ks : List Key) (o : Option (Key × WorldEntry)) → e.0 ≡ k → option_map (λ e. e.0) o ≡ first ks → option_map (λ e. e.0) (cond b (Some e) o) ≡ first (cond b (k ∷ ks) ks)
+first_case true k e ks o s h = ap Some s
+first_case false k e ks o s h = h
+
+-- the first entry that passes a test is under the first key that does
+first_found : (test : WorldEntry → Bool) (p : Key → Bool) (es : List (Key × WorldEntry)) → ((e : Key × WorldEntry) → IsIn e es → test e.1 ≡ p e.0) → option_map (λ e. e.0) (find (λ e. test e.1) es) ≡ first (filter p (map (λ e. e.0) es))
+first_found test p [] h = refl
+first_found test p (e ∷ es) h =
+    ap (λ b. option_map (λ (x : Key × WorldEntry). x.0) (cond b (Some e) (find (λ x. test x.1) es))) (h e (inl refl))
+    ∙ first_case (p e.0) e.0 e (filter p (map (λ e. e.0) es)) (find (λ x. test x.1) es) refl (first_found test p es (λ x i. h x (inr i)))
+
+-- the first of the users that an exact index lends is the least object that refers to the key
+pub lent_first : (m : Objects) (bag : Bag) (k : Key) (ks : List Key) → IsIndexed m bag → T (rises ks) → ((u : Key) → is_in u ks ≡ nat_lt 0 (count bag (record { of = k; user = u }))) → slice_get ks 0 ≡ user_among (fin.entries m) k
+lent_first m bag k ks exact h members =
+    let p : Key → Bool = λ q. object_refers k (fin.get m q) in
+    let those : ks ≡ filter p (fin.keys m) =
+    sorted_filter p m ks h (λ q. members q ∙ ap (nat_lt 0) (exact k q) ∙ sym (object_counts k (fin.get m q)) ∙ stands_too k (fin.get m q) ∙ ap (λ b. p q && b) (fin.contains_key-keys m q)) in
+    first_got ks ∙ ap first those
+    ∙ sym (first_found (λ e. entry_refers k e) p (fin.entries m) (λ e i. sym (ap (object_refers k) (has_listed m e i))))
+
+count_step : (a b : Bool) (n m : ℕ) → n ≡ cond b m 0 → cond (a && b) 1 0 + n ≡ cond b (cond a 1 0 + m) 0
+count_step true true n m e = ap (λ x. 1 + x) e
+count_step true false n m e = let z : n ≡ 0 = e in omega arith
+count_step false true n m e = ap (λ x. 0 + x) e
+count_step false false n m e = let z : n ≡ 0 = e in omega arith
+
+no_pairs : (b : Bool) → ◌≡◌ {A = ℕ} 0 (cond b 0 0)
+no_pairs true = refl
+no_pairs false = refl
+
+-- a pair is among the pairs of one user only where it is that user's
+listed_pairs : (of user key : Key) (ks : List Key) → times (record { of = of; user = user }) (map (λ k. record { of = k; user = key }) ks) ≡ cond (is_key user key) (times_key of ks) 0
+listed_pairs of user key [] = no_pairs (is_key user key)
+listed_pairs of user key (k ∷ ks) =
+    sum_by-cons (λ (p : Pair). cond (is_pair (record { of = of; user = user }) p) 1 0) (record { of = k; user = key }) (map (λ k. record { of = k; user = key }) ks)
+    ∙ ap (λ b. cond b 1 0 + times (record { of = of; user = user }) (map (λ k. record { of = k; user = key }) ks)) (pair_parts (record { of = of; user = user }) (record { of = k; user = key }))
+    ∙ count_step (is_key of k) (is_key user key) _ (times_key of ks) (listed_pairs of user key ks)
+    ∙ ap (λ n. cond (is_key user key) n 0) (sym (sum_by-cons (λ (j : Key). cond (is_key of j) 1 0) k ks))
+
+-- how often a pair is among those of an object
+times_of : (p : Pair) (k : Key) (o : Option WorldEntry) (b : Bool) → is_key p.user k ≡ b → times p (pairs_of k o) ≡ cond b (times_key p.of (refs_in o)) 0
+times_of p k o b e = listed_pairs p.of p.user k (refs_in o) ∙ ap (λ c. cond c (times_key p.of (refs_in o)) 0) e
+
+-- the pairs of what stands are in an exact index
+pub gone_there : (m : Objects) (bag : Bag) (k : Key) (o : Option WorldEntry) (gone : List Pair) → IsIndexed m bag → o ≡ fin.get m k → gone ≡ pairs_of k o → (p : Pair) → times p gone ≤ count bag p
+gone_there m bag k o gone exact is are p =
+    let there : count bag p ≡ times_key p.of (refs_in (fin.get m p.user)) = exact p.of p.user in
+    elim (decide (is_key p.user k)) [
+      | inl t ↦ (
+          let g : times p gone ≡ times_key p.of (refs_in o) = ap (times p) are ∙ times_of p k o true t in
+          let n : count bag p ≡ times_key p.of (refs_in o) = there ∙ ap (λ (q : Key). times_key p.of (refs_in (fin.get m q))) (one_key p.user k t) ∙ ap (λ (x : Option WorldEntry). times_key p.of (refs_in x)) (sym is) in
+          omega (arith, g, n))
+      | inr f ↦ (let g : times p gone ≡ 0 = ap (times p) are ∙ times_of p k o false f in omega (arith, g))
+    ]
+
+-- the index is exact after an object was set
+pub put_exact : (m : Objects) (old new : Bag) (k : Key) (o : Option WorldEntry) (e : WorldEntry) (gone come : List Pair) → IsIndexed m old → o ≡ fin.get m k → gone ≡ pairs_of k o → come ≡ pairs_of k (Some e)
+    → ((p : Pair) → times p gone + count new p ≡ times p come + count old p) → IsIndexed (fin.insert m k e) new
+put_exact m old new k o e gone come exact is are brings changed of user =
+    let p : Pair = record { of = of; user = user } in
+    let moved = changed p in
+    let there : count old p ≡ times_key of (refs_in (fin.get m user)) = exact of user in
+    elim (decide (is_key user k)) [
+      | inl t ↦ (
+          let g : times p gone ≡ times_key of (refs_in o) = ap (times p) are ∙ times_of p k o true t in
+          let c : times p come ≡ times_key of (refs_in (Some e)) = ap (times p) brings ∙ times_of p k (Some e) true t in
+          let n : count old p ≡ times_key of (refs_in o) = there ∙ ap (λ (q : Key). times_key of (refs_in (fin.get m q))) (one_key user k t) ∙ ap (λ (x : Option WorldEntry). times_key of (refs_in x)) (sym is) in
+          let now : count new p ≡ times_key of (refs_in (Some e)) = omega (arith, g, c, n, moved) in
+          now ∙ ap (λ (x : Option WorldEntry). times_key of (refs_in x)) (sym (at_key_put m k user e t)))
+      | inr f ↦ (
+          let g : times p gone ≡ 0 = ap (times p) are ∙ times_of p k o false f in
+          let c : times p come ≡ 0 = ap (times p) brings ∙ times_of p k (Some e) false f in
+          let now : count new p ≡ count old p = omega (arith, g, c, moved) in
+          now ∙ there ∙ ap (λ (x : Option WorldEntry). times_key of (refs_in x)) (sym (at_other m k user e f)))
+    ]
+
+no_count : (of : Key) (o : Option ℕ) (x : Option WorldEntry) → o ≡ None → x ≡ None → unwrap_or o 0 ≡ times_key of (refs_in x)
+no_count of o x e f = rw (e, f) refl
+
+-- an empty index is exact for no objects
+pub empty_indexed : (m : Objects) (bag : Bag) → m ≡ fin.empty → bag ≡ fin.empty → IsIndexed m bag
+empty_indexed m bag none empty of user =
+    no_count of (fin.get bag (record { of = of; user = user })) (fin.get m user)
+    (ap (λ (b : Bag). fin.get b (record { of = of; user = user })) empty ∙ fin.get-empty pair_cmp (record { of = of; user = user }))
+    (ap (λ (x : Objects). fin.get x user) none ∙ fin.get-empty rank_cmp user)

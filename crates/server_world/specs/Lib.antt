@@ -1,0 +1,9 @@
+pub mod Codes
+pub mod Indexed
+pub mod Answer
+pub mod Named
+pub mod Bases
+pub mod Putting
+pub mod Free
+pub mod Rehearsed
+pub mod Starts

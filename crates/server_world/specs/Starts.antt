@@ -1,0 +1,22 @@
+-- Where free ids are sought.
+use Rattle.std.specs.Prelude.{ℕ}
+use Rattle.osm_base.specs.declared.key.Kind.{Kind}
+use Rattle.osm_base.specs.declared.key.Kind.TheVariants.{Node, Way, Relation}
+use Rattle.osm_table.specs.Table.{TableValue}
+use Rattle.upload_order.specs.World.{World}
+use Rattle.server_world.specs.declared.rehearsal.Starts.{Starts}
+use Rattle.server_world.specs.Free.{IsStart}
+
+abbrev pub start_at : Starts → Kind → ℕ
+start_at s Node = s.node
+start_at s Way = s.way
+start_at s Relation = s.relation
+
+abbrev pub with_start : Starts → Kind → ℕ → Starts
+with_start s Node id = record { node = id; way = s.way; relation = s.relation }
+with_start s Way id = record { node = s.node; way = id; relation = s.relation }
+with_start s Relation id = record { node = s.node; way = s.way; relation = id }
+
+-- a start for each kind
+abbrev pub AreStarts : World → TableValue → Starts → Type 0
+AreStarts w t s = (kind : Kind) → IsStart w t kind (start_at s kind)

@@ -1,0 +1,47 @@
+//! What a world has of one object.
+ghost use Rattle.std.specs.Prelude.{◌≡◌};
+ghost use Rattle.std.specs.Option.{option_copied};
+
+use osm_base::Content;
+use std::marker::Model;
+
+/// The version of an object, and its content, if it isn't deleted.
+#[derive(Debug, Drop)]
+pub struct WorldEntry {
+    version: u32,
+    content: Option<Content>,
+}
+
+impl Model for WorldEntry {
+    ghost use Rattle.upload_order.specs.World.{WorldEntry};
+    ghost use Rattle.server_world.specs.Codes.{entry_code};
+
+    ghost Value = { WorldEntry };
+
+    ghost coded = { entry_code };
+
+    ghost view = { λ e. record { version = e.version; content = e.content } };
+}
+
+impl WorldEntry {
+    /// An object in this version.
+    pub fn new(version: u32, content: Option<Content>) -> WorldEntry
+        ensures { result ≡ record { version = version; content = content } }
+    {
+        WorldEntry { version, content }
+    }
+
+    /// The version.
+    pub fn version(&self) -> u32
+        ensures { result ≡ self.now.version }
+    {
+        self.version
+    }
+
+    /// The content: none where the object is deleted.
+    pub fn content(&self) -> Option<&Content>
+        ensures { option_copied result ≡ self.now.content }
+    {
+        self.content.as_ref()
+    }
+}

@@ -1,0 +1,26 @@
+//! A server as a value: it takes the changes of an upload one at a time.
+//!
+//! A `World` has objects, each with a version and a content or none, and the ids that were picked for placeholders. What a
+//! change does to it, and what it refuses, is said by `upload_order` (its `specs/World`); here stand the world of a data
+//! set's bases (`specs/Bases`), the ids that are free (`specs/Free`), and the rehearsal of an upload (`specs/Rehearsed`),
+//! of which the contract says that a plan is never refused. It stands on `upload_order`.
+//!
+//! Advice for who changes it: `Objects` and `Names` each keep an index beside what clauses see, so that a change costs no
+//! walk; all that can find no memory comes before the first write, so that a change is taken whole or not at all.
+#![tactic(auto)]
+
+mod bases;
+mod entry;
+mod free;
+mod names;
+mod objects;
+mod pairs;
+mod refusal;
+mod rehearsal;
+mod renaming;
+mod world;
+
+pub use entry::WorldEntry;
+pub use refusal::{WorldFault, WorldRefusal};
+pub use rehearsal::{Rehearsal, rehearse};
+pub use world::World;

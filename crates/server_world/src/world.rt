@@ -1,0 +1,226 @@
+//! A server that takes changes one at a time.
+ghost use Rattle.std.specs.Prelude.{◌≡◌, ◌+◌, [], map, not, is_some, IfOk, OnOk, OnErr};
+ghost use Rattle.std.specs.List.{find};
+ghost use Rattle.std.specs.Option.{option_copied, option_map};
+ghost use Rattle.osm_base.specs.Content.{node};
+ghost use Rattle.upload_order.specs.declared.change.Change.TheVariants.{Create, Modify, Delete};
+ghost use Rattle.upload_order.specs.World.{stands, content_at, reaches, bad_ref, on_content, refusal, after};
+ghost use Rattle.server_world.specs.Answer.{Answers, answer_of};
+
+use crate::entry::WorldEntry;
+use crate::names::{Names, put_named, with_id};
+use crate::objects::Objects;
+use crate::refusal::{WorldFault, WorldRefusal};
+use crate::renaming::renamed;
+use osm_base::{Content, Key, Member, fits, node_key};
+use std::alloc::{AllocError, Global};
+use std::marker::Model;
+use upload_order::Change;
+
+/// What a server has: objects, each with a version and a content or none, and the ids that were picked for placeholders.
+#[derive(Drop)]
+pub struct World {
+    alloc: Global,
+    objects: Objects,
+    names: Names,
+}
+
+impl Model for World {
+    ghost use Rattle.upload_order.specs.World.{World};
+    ghost use Rattle.server_world.specs.Codes.{world_code};
+
+    ghost Value = { World };
+
+    ghost coded = { world_code };
+
+    ghost view = { λ w. record { entries = w.objects; names = w.names } };
+}
+
+impl World {
+    /// A world of these objects, without names.
+    pub(crate) fn of_objects(alloc: Global, objects: Objects) -> World
+        ensures { result ≡ record { entries = objects; names = [] } }
+    {
+        World {
+            alloc,
+            objects,
+            names: Names::new(alloc),
+        }
+    }
+
+    /// What stands of a key. One look-up.
+    pub fn get(&self, key: Key) -> Option<&WorldEntry>
+        ensures { option_copied result ≡ stands self.now key }
+    {
+        self.objects.get(key)
+    }
+
+    /// Takes a change, or refuses it. `picked` is the id of a created object, and is read at no other change.
+    ///
+    /// A change costs what it refers to, a look-up each, and what its object referred to before. A deletion that is
+    /// refused costs no walk: the least user is at hand.
+    ///
+    /// # Errors
+    /// The refusal, exactly where there is one; or no memory was left, or the object has the version 2^32 - 1, after
+    /// which there is none. Nothing has changed then.
+    pub fn accept(&mut self, change: &Change, picked: i64) -> Result<(), WorldFault>
+        ensures answer { Answers result (refusal self.old change.now picked) }
+        ensures ok { OnOk result (self.new ≡ after self.old change.now picked) }
+        ensures err { OnErr result (self.new ≡ self.old) }
+    {
+        if let Some(refusal) = self.refusal(change, picked) {
+            return Err(WorldFault::Refused(refusal));
+        }
+        self.take(change, picked)?;
+        Ok(())
+    }
+
+    fn refusal(&self, change: &Change, picked: i64) -> Option<WorldRefusal>
+        ensures { result ≡ option_map answer_of (refusal self.now change.now picked) }
+    {
+        match change {
+            Change::Create { key, content } => self.create_refusal(*key, content, picked),
+            Change::Modify {
+                key,
+                version,
+                content,
+            } => self.modify_refusal(*key, *version, content),
+            Change::Delete { key, version } => self.delete_refusal(*key, *version),
+        }
+    }
+
+    fn create_refusal(&self, key: Key, content: &Content, picked: i64) -> Option<WorldRefusal>
+        ensures { result ≡ option_map answer_of (refusal self.now (Create key content.now) picked) }
+    {
+        if self.get(with_id(key, picked)).is_some() {
+            return Some(WorldRefusal::Exists);
+        }
+        self.content_refusal(content)
+    }
+
+    fn modify_refusal(&self, key: Key, version: u32, content: &Content) -> Option<WorldRefusal>
+        ensures { result ≡ option_map answer_of (refusal self.now (Modify key version content.now) 0) }
+    {
+        let Some(entry) = self.get(self.names.called(key)) else {
+            return Some(WorldRefusal::Missing);
+        };
+        if entry.version() != version {
+            return Some(WorldRefusal::OldVersion {
+                has: entry.version(),
+            });
+        }
+        self.content_refusal(content)
+    }
+
+    fn delete_refusal(&self, key: Key, version: u32) -> Option<WorldRefusal>
+        ensures { result ≡ option_map answer_of (refusal self.now (Delete key version) 0) }
+    {
+        let key = self.names.called(key);
+        let Some(entry) = self.get(key) else {
+            return Some(WorldRefusal::Missing);
+        };
+        if entry.content().is_none() {
+            return Some(WorldRefusal::Missing);
+        }
+        if entry.version() != version {
+            return Some(WorldRefusal::OldVersion {
+                has: entry.version(),
+            });
+        }
+        self.objects.first_user(key).map(WorldRefusal::Used)
+    }
+
+    fn content_refusal(&self, content: &Content) -> Option<WorldRefusal>
+        ensures { result ≡ option_map answer_of (on_content self.now content.now) }
+    {
+        if !fits(content) {
+            return Some(WorldRefusal::Unfit);
+        }
+        self.bad_ref(content).map(WorldRefusal::BadRef)
+    }
+
+    /// The first reference that has no name, or under whose name no content stands.
+    fn bad_ref(&self, content: &Content) -> Option<Key>
+        ensures { result ≡ bad_ref self.now content.now }
+    {
+        match content {
+            Content::Node { .. } => None,
+            Content::Way { refs, .. } => self.bad_node(refs.as_slice()),
+            Content::Relation { members, .. } => self.bad_member(members.as_slice()),
+        }
+    }
+
+    fn bad_node(&self, ids: &[i64]) -> Option<Key>
+        ensures { result ≡ find (λ r. not (reaches self.now r)) (map node ids.now) }
+    {
+        for id in ids {
+            let key = node_key(*id);
+            if !self.reaches(key) {
+                return Some(key);
+            }
+        }
+        None
+    }
+
+    fn bad_member(&self, members: &[Member]) -> Option<Key>
+        ensures { result ≡ find (λ r. not (reaches self.now r)) (map (λ m. m.key) members.now) }
+    {
+        for member in members {
+            if !self.reaches(member.key) {
+                return Some(member.key);
+            }
+        }
+        None
+    }
+
+    fn reaches(&self, key: Key) -> bool
+        ensures { result ≡ reaches self.now key }
+    {
+        match self.names.meant(key) {
+            None => false,
+            Some(key) => self.has_content(key),
+        }
+    }
+
+    fn has_content(&self, key: Key) -> bool
+        ensures { result ≡ is_some (content_at self.now key) }
+    {
+        match self.get(key) {
+            None => false,
+            Some(entry) => entry.content().is_some(),
+        }
+    }
+
+    /// Does what an accepted change says.
+    fn take(&mut self, change: &Change, picked: i64) -> Result<(), AllocError>
+        ensures ok { OnOk result (self.new ≡ after self.old change.now picked) }
+        ensures err { OnErr result (self.new ≡ self.old) }
+    {
+        match change {
+            Change::Create { key, content } => {
+                let content = renamed(self.alloc, &self.names, content)?;
+                let entry = WorldEntry::new(1, Some(content));
+                put_named(&mut self.objects, &mut self.names, *key, picked, entry)
+            }
+            Change::Modify {
+                key,
+                version,
+                content,
+            } => {
+                let content = renamed(self.alloc, &self.names, content)?;
+                let entry = WorldEntry::new(next_version(*version)?, Some(content));
+                self.objects.put(self.names.called(*key), entry)
+            }
+            Change::Delete { key, version } => {
+                let entry = WorldEntry::new(next_version(*version)?, None);
+                self.objects.put(self.names.called(*key), entry)
+            }
+        }
+    }
+}
+
+fn next_version(version: u32) -> Result<u32, AllocError>
+    ensures { IfOk result (λ next. next ≡ version + 1) }
+{
+    version.checked_add(1).ok_or(AllocError)
+}
