@@ -1,17 +1,21 @@
 -- Worked examples of turns.
-use Rattle.std.proofs.Common.{◌≡◌, true, false, [], ◌∷◌, refl}
+use Rattle.std.proofs.Common.{◌≡◌, true, false, [], ◌∷◌, Ok, Err, length, pos, refl}
 use Rattle.std.specs.Prelude.{codes}
 use Rattle.std.specs.FinMap as fin
+use Rattle.osm_base.specs.declared.key.Kind.TheVariants.{Node}
 use Rattle.osm_table.specs.Table.{TableValue}
-use Rattle.edit_script.specs.declared.step.Act.TheVariants.{Download, Begin, End, Undo, Print}
+use Rattle.upload_order.specs.declared.change.Change.TheVariants.{Delete}
+use Rattle.upload_order.specs.declared.refusal.PlanRefusal.TheVariants as plan
+use Rattle.edit_script.specs.declared.step.Act.TheVariants.{Download, Begin, End, Undo, Print, Conflicts}
 use Rattle.edit_script.specs.declared.reply.StepReply.TheVariants.{Done, Refused, Skipped}
-use Rattle.edit_script.specs.declared.reply.StepRefusal.TheVariants.{NoFile, NothingToUndo}
+use Rattle.edit_script.specs.declared.reply.StepRefusal.TheVariants.{NoFile, NothingToUndo, OpenConflicts}
 use Rattle.edit_history.specs.declared.counts.Group.TheVariants as group
 use Rattle.edit_history.specs.Machine.{State, first_state}
 use Rattle.edit_session.specs.declared.loading.Found.TheVariants.{Nothing}
 use Rattle.edit_session.specs.declared.response.Behind.TheVariants as behind
 use Rattle.edit_session.specs.Limits.{default_limits}
 use Rattle.edit_session.specs.Load.{found_in}
+use Rattle.edit_session.specs.Planned.{on_plan, planned}
 use Rattle.edit_session.specs.Session.{states_before}
 use Rattle.edit_session.specs.Turn.{turn}
 
@@ -47,6 +51,19 @@ undo_first = refl
 -- Behind `print` stands the table.
 print_done : turn default_limits Nothing Print first_state ≡ record { answer = record { reply = Done []; behind = behind.Table }; state = first_state }
 print_done = refl
+
+-- Behind `conflicts` stand the objects in conflict.
+conflicts_done : turn default_limits Nothing Conflicts first_state ≡ record { answer = record { reply = Done []; behind = behind.Conflicts }; state = first_state }
+conflicts_done = refl
+
+-- Where the plan is refused, nothing stands behind the reply of an upload.
+two_in_conflict : on_plan (λ changes. behind.Changes changes 100) (planned (Err (plan.Conflicts 2 (record { kind = Node; id = pos 4 }))))
+    ≡ record { reply = Refused (OpenConflicts 2 (record { kind = Node; id = pos 4 })); behind = behind.Nothing }
+two_in_conflict = refl
+
+-- Where it is not, its changes do, and behind that of a rehearsal how many they are.
+one_deleted : on_plan (λ changes. behind.Rehearsed (length changes)) (planned (Ok (Delete (record { kind = Node; id = pos 4 }) 1 ∷ []))) ≡ record { reply = Done []; behind = behind.Rehearsed 1 }
+one_deleted = refl
 
 -- Each step has the state before it.
 two_steps : states_before default_limits [] (record { line = 1; act = Begin } ∷ record { line = 2; act = End } ∷ []) first_state

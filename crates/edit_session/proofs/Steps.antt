@@ -22,7 +22,8 @@ use Rattle.edit_session.proofs.Opens.{turn_open}
 use Rattle.osm_outside.proofs.Pieces.{along-stop}
 use Rattle.edit_session.proofs.Verbs.{needed_there}
 
-steps-drop : (i : ℕ) (steps : List Step) (step : Step) → i < length steps → step ≡ get_or steps i step → drop i steps ≡ step ∷ drop (i + 1) steps
+-- the steps from i on begin with that at i
+pub steps-drop : (i : ℕ) (steps : List Step) (step : Step) → i < length steps → step ≡ get_or steps i step → drop i steps ≡ step ∷ drop (i + 1) steps
 steps-drop i steps step h e = at_drop_more (λ (s : List Step). s) steps i step h ∙ ap (λ s. s ∷ drop (i + 1) steps) (sym e)
 
 -- the texts of the steps from a state on

@@ -13,3 +13,4 @@ pub mod Stop
 pub mod StatusText
 pub mod StopStatus
 pub mod Turn
+pub mod Uploads

@@ -2,16 +2,16 @@
 --
 -- For example over a table with two objects in conflict, of which n4 is the least, both reply `refused 23 2 n4`. Where one
 -- node is to be made and one to be deleted, `rehearse` writes `rehearse accepted 2` behind its reply.
-use Rattle.std.specs.Prelude.{ℕ, ◌≤◌, List, [], ◌∷◌, ◌++◌, length, Result, Ok, Err, codes, decimal}
+use Rattle.std.specs.Prelude.{ℕ, ◌≤◌, List, [], ◌∷◌, ◌++◌, length, Result, Ok, Err, codes}
 use Rattle.osm_table.specs.Table.{TableValue}
 use Rattle.upload_order.specs.declared.change.Change.{Change}
 use Rattle.upload_order.specs.declared.refusal.PlanRefusal.{PlanRefusal}
 use Rattle.upload_order.specs.declared.refusal.PlanRefusal.TheVariants as plan
 use Rattle.upload_order.specs.Refused.{upload}
-use Rattle.edit_script.specs.declared.reply.StepReply.{StepReply}
 use Rattle.edit_script.specs.declared.reply.StepReply.TheVariants.{Done, Refused}
 use Rattle.edit_script.specs.declared.reply.StepRefusal.{StepRefusal}
 use Rattle.edit_script.specs.declared.reply.StepRefusal.TheVariants.{OpenConflicts, IncompleteRef, CyclicNew}
+use Rattle.edit_session.specs.Counted.{part}
 use Rattle.edit_session.specs.declared.response.Behind.{Behind}
 use Rattle.edit_session.specs.declared.response.Behind.TheVariants as behind
 use Rattle.edit_session.specs.declared.response.Response.{Response}
@@ -33,15 +33,15 @@ on_plan text (Ok changes) = record { reply = Done []; behind = text changes }
 on_plan text (Err why) = record { reply = Refused why; behind = behind.Nothing }
 
 -- The changes stand behind the reply of `upload`, in chunks of the size.
-abbrev pub upload_answer : ℕ → TableValue → Response
+unfoldable pub upload_answer : ℕ → TableValue → Response
 upload_answer size t = on_plan (λ changes. behind.Changes changes size) (planned (upload t))
 
 -- Behind that of `rehearse` stands how many changes a server accepts that has the bases: all of them.
-abbrev pub rehearse_answer : TableValue → Response
+unfoldable pub rehearse_answer : TableValue → Response
 rehearse_answer t = on_plan (λ changes. behind.Rehearsed (length changes)) (planned (upload t))
 
 abbrev pub rehearsed_text : ℕ → List ℕ
-rehearsed_text count = codes "rehearse accepted " ++ (decimal count ++ 10 ∷ [])
+rehearsed_text count = part (codes "rehearse accepted ") count ++ 10 ∷ []
 
 -- a chunk has 1 to 10,000 changes
 abbrev pub IsSized : Behind → Type 0

@@ -25,10 +25,14 @@ states_before limits files (step ∷ steps) s = (step, s) ∷ states_before limi
 abbrev pub texts : Limits → Shelved → List (Step × State) → List ℕ
 texts limits files steps = flat_map (λ (at : Step × State). step_text limits files at.0 at.1) steps
 
+-- The steps, each with the state before it, run from an empty table.
+abbrev pub run : Limits → Shelved → List Step → List (Step × State)
+run limits files steps = states_before limits files steps first_state
+
 -- What a session writes: the texts of its steps, run from an empty table. A group that is open at the end is closed,
 -- and nothing is written of that.
 abbrev pub output : Limits → Shelved → List Step → List ℕ
-output limits files steps = texts limits files (states_before limits files steps first_state)
+output limits files steps = texts limits files (run limits files steps)
 
 -- the steps run where each has its tool
 abbrev pub steps_outcome : Limits → Shelved → List Step → Option Verb → Status × List ℕ

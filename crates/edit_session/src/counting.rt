@@ -80,8 +80,12 @@ fn write_states(counts: Counts, out: &mut Vec<u8>) -> Result<(), AllocError>
     Ok(())
 }
 
+/// Appends a name and a number.
+///
+/// # Errors
+/// No memory was left; what stood in `out` stays at its front.
 #[tactic(auto, using(osm_base::proofs::ExtendLaws::extends_steps), unfolding(crate::specs::Counted::part))]
-fn write_part(name: &[u8], count: u64, out: &mut Vec<u8>) -> Result<(), AllocError>
+pub fn write_part(name: &[u8], count: u64, out: &mut Vec<u8>) -> Result<(), AllocError>
     ensures written { OnOk result (out.new.items ≡ out.old.items ++ part name.now count) }
     ensures kept { OnErr result (Extends out.old.items out.new.items) }
 {

@@ -6,7 +6,8 @@
 //! Then it moves the history: `turn` in `specs/Turn.antt` says of that value and of the state of the
 //! machine of whole tables what it answers and which state follows, and knows no shelf and no sink.
 //! Then its answer is written: the reply line and the text behind it. The tools come in boxes from
-//! outside and are known by their trait alone.
+//! outside and are known by their trait alone. What a server makes of the uploads of a run stands in
+//! `specs/Uploads.antt`; it rests on the plan alone, and on each table before a step being sound.
 //!
 //! Each function that moves the history has one `requires` and one `ensures` on it (`Fits`, `Moved`);
 //! each that writes promises the whole text after Ok and a front of it after Err. To add a command

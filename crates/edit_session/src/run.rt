@@ -8,8 +8,9 @@ ghost use Rattle.edit_session.specs.Load.{AreTold};
 ghost use Rattle.edit_session.specs.Planned.{IsSized};
 ghost use Rattle.edit_history.specs.Moved.{Fits};
 ghost use Rattle.edit_session.specs.Send.{Plays};
-ghost use Rattle.edit_session.specs.Session.{output, StopCause};
+ghost use Rattle.edit_session.specs.Session.{output, run, StopCause};
 ghost use Rattle.edit_session.specs.Turn.{turn, behind_text, response_text};
+ghost use Rattle.edit_session.specs.Uploads.{AreUploads};
 ghost use Rattle.edit_session.specs.declared.sending.WriteError.TheVariants.{Fault};
 
 use crate::limits::Limits;
@@ -44,9 +45,11 @@ pub fn run_steps<S: Shelf, K: Sink>(
     ensures told { S.told shelf.new ≡ S.told shelf.old }
     ensures ok { OnOk result (IfSome (S.told shelf.old) (λ files. Appends (K.taken out.old) (K.taken out.new) (output limits files steps.now))) }
     ensures err { OnErr result (IfSome (S.told shelf.old) (λ files. AppendsFront (K.taken out.old) (K.taken out.new) (output limits files steps.now))) }
+    ensures uploads { OnOk result (IfSome (S.told shelf.old) (λ files. AreUploads limits files (run limits files steps.now))) }
     ensures cause { StopCause (S.faults shelf.old) (S.faults shelf.new) (K.faults out.old) (K.faults out.new) result }
 {
     for step in steps {
+        history.ds().sound();
         let found = find(alloc, limits, shelf, history.group(), &step.act)?;
         run_step(alloc, limits, out, history, step, found)?;
     }

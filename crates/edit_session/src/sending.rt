@@ -13,13 +13,13 @@ ghost use Rattle.edit_session.specs.Stop.{write_error_of};
 ghost use Rattle.edit_session.specs.Counted.{count_text};
 ghost use Rattle.edit_session.specs.declared.sending.WriteError.TheVariants.{Fault, Memory};
 
-use crate::counting::write_count;
+use crate::counting::{write_count, write_part};
 use crate::printing::write_entry;
 use chunking::{ChunkFault, write_chunks};
 use conflict::{conflicts, write_conflict};
 use dataset::DataSet;
 use edit_script::{StepReply, write_reply};
-use osm_base::{Key, Meta, write_digits};
+use osm_base::{Key, Meta};
 use osm_outside::{Failed, Sink, pass_full};
 use std::alloc::{AllocError, AllocFailed, Global};
 use upload_order::Changes;
@@ -204,8 +204,7 @@ fn write_rehearsed(count: u64, out: &mut Vec<u8>) -> Result<(), AllocError>
     ensures written { OnOk result (out.new.items ≡ out.old.items ++ rehearsed_text count) }
     ensures kept { OnErr result (Extends out.old.items out.new.items) }
 {
-    out.extend_from_slice(b"rehearse accepted ")?;
-    write_digits(count, out)?;
+    write_part(b"rehearse accepted ", count, out)?;
     out.push(b'\n')?;
     Ok(())
 }

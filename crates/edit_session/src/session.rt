@@ -8,7 +8,8 @@ ghost use Rattle.edit_history.specs.Moved.{Fits};
 ghost use Rattle.edit_history.specs.Shown.{IsThere, verbs_of};
 ghost use Rattle.edit_session.specs.Asked.{Begins};
 ghost use Rattle.edit_session.specs.Limits.{default_limits};
-ghost use Rattle.edit_session.specs.Session.{outcome, script_name, name_outcome, script_outcome, Agrees, Comes, IsAsked, IsEarly, IsEnd, StopCause};
+ghost use Rattle.edit_session.specs.Session.{outcome, script_name, name_outcome, script_outcome, run, Agrees, Comes, IsAsked, IsEarly, IsEnd, StopCause};
+ghost use Rattle.edit_session.specs.Uploads.{AreUploads, run_of, steps_named, steps_read};
 
 use crate::Status;
 use crate::files::{Fetched, fetch};
@@ -56,6 +57,10 @@ pub fn run_session<S: Shelf, K: Sink>(
     ensures complete { IfSome (S.told shelf.old) (λ files. (outcome default_limits (map (λ b. kind b) tools.items) (map string_bytes words.now) files).0 ≡ Status.Done
         → (Rose (S.faults shelf.old) (S.faults shelf.new) → ⊥) → (Rose (K.faults out.old) (K.faults out.new) → ⊥)
         → (result ≡ Status.Done) ⊎ (result ≡ Status.Memory)) }
+    // Each upload of the run replies ok exactly where nothing refuses the plan of the table. Its text is then the changes in
+    // chunks, and each sound server that has the bases, and nothing else that refers to what is deleted, takes each prefix of
+    // them whatever fresh ids it picks, and has the edited data after the last.
+    ensures uploads { result ≡ Status.Done → IfSome (S.told shelf.old) (λ files. AreUploads default_limits files (run_of default_limits (map string_bytes words.now) files)) }
 {
     let mut history = History::new(alloc, tools);
     match run_words(alloc, default_limits(), words, &mut history, shelf, out) {
@@ -82,6 +87,7 @@ fn run_words<S: Shelf, K: Sink>(
 ) -> Result<Status, Stop>
     requires { Fits (λ b. done (b.vtable, b.value)) (λ b. undone (b.vtable, b.value)) (λ b. kind (b.vtable, b.value)) history.old Begins }
     ensures comes { Comes (S.told shelf.old) (verbs_of (λ b. kind (b.vtable, b.value)) history.old) (K.taken out.old) (K.taken out.new) result (λ verbs files. outcome limits verbs (map string_bytes words.now) files) }
+    ensures uploads { IfOk result (λ status. status ≡ Status.Done → IfSome (S.told shelf.old) (λ files. AreUploads limits files (run_of limits (map string_bytes words.now) files))) }
     ensures early { IfOk result (λ status. IsEarly status → out.new ≡ out.old) }
     ensures asked { IfOk result (IsAsked (S.begun shelf.new)) }
     ensures told { S.told shelf.new ≡ S.told shelf.old }
@@ -107,6 +113,7 @@ fn run_named<S: Shelf, K: Sink>(
 ) -> Result<Status, Stop>
     requires { Fits (λ b. done (b.vtable, b.value)) (λ b. undone (b.vtable, b.value)) (λ b. kind (b.vtable, b.value)) history.old Begins }
     ensures comes { Comes (S.told shelf.old) (verbs_of (λ b. kind (b.vtable, b.value)) history.old) (K.taken out.old) (K.taken out.new) result (λ verbs files. name_outcome limits verbs files (Some name.now)) }
+    ensures uploads { IfOk result (λ status. status ≡ Status.Done → IfSome (S.told shelf.old) (λ files. AreUploads limits files (run limits files (steps_named limits files (Some name.now))))) }
     ensures early { IfOk result (λ status. IsEarly status → out.new ≡ out.old) }
     ensures asked { IfOk result (IsAsked (S.begun shelf.new)) }
     ensures told { S.told shelf.new ≡ S.told shelf.old }
@@ -132,6 +139,7 @@ fn run_script<S: Shelf, K: Sink>(
     requires fits { Fits (λ b. done (b.vtable, b.value)) (λ b. undone (b.vtable, b.value)) (λ b. kind (b.vtable, b.value)) history.old Begins }
     requires begun { S.begun shelf.old ≡ true }
     ensures comes { Comes (S.told shelf.old) (verbs_of (λ b. kind (b.vtable, b.value)) history.old) (K.taken out.old) (K.taken out.new) result (λ verbs files. script_outcome limits verbs files (steps_of bytes.now)) }
+    ensures uploads { IfOk result (λ status. status ≡ Status.Done → IfSome (S.told shelf.old) (λ files. AreUploads limits files (run limits files (steps_read (steps_of bytes.now))))) }
     ensures early { IfOk result (λ status. IsEarly status → out.new ≡ out.old) }
     ensures asked { IfOk result (IsAsked (S.begun shelf.new)) }
     ensures told { S.told shelf.new ≡ S.told shelf.old }

@@ -1,9 +1,9 @@
 //! What `upload` and `rehearse` answer.
-ghost use Rattle.std.specs.Prelude.{◌≡◌, Ok, IfOk, [], length};
+ghost use Rattle.std.specs.Prelude.{◌≡◌, ◌≤◌, Ok, IfOk, [], length};
 ghost use Rattle.edit_script.specs.declared.reply.StepReply.TheVariants.{Done};
 ghost use Rattle.upload_order.specs.Refused.{upload};
 ghost use Rattle.edit_session.specs.declared.response.Behind.TheVariants as behind;
-ghost use Rattle.edit_session.specs.Planned.{planned, upload_answer, rehearse_answer};
+ghost use Rattle.edit_session.specs.Planned.{planned, upload_answer, rehearse_answer, IsSized};
 
 use crate::response::{Behind, Response};
 use dataset::DataSet;
@@ -17,8 +17,11 @@ use upload_order::{Changes, PlanRefusal, plan};
 ///
 /// # Errors
 /// No memory was left.
+#[tactic(auto, unfolding(crate::specs::Planned::upload_answer))]
 pub fn answer_upload(ds: &DataSet, size: u32) -> Result<Response, AllocError>
-    ensures { IfOk result (λ answer. answer ≡ upload_answer size ds.now) }
+    requires { (1 ≤ size) × (size ≤ 10000) }
+    ensures answer { IfOk result (λ answer. answer ≡ upload_answer size ds.now) }
+    ensures sized { IfOk result (λ answer. IsSized answer.behind) }
 {
     match planned(ds)? {
         Ok(changes) => Ok(Response::look(ds.alloc(), Behind::Changes { changes, size })),
@@ -31,8 +34,10 @@ pub fn answer_upload(ds: &DataSet, size: u32) -> Result<Response, AllocError>
 ///
 /// # Errors
 /// No memory was left.
+#[tactic(auto, unfolding(crate::specs::Planned::rehearse_answer))]
 pub fn answer_rehearsal(ds: &DataSet) -> Result<Response, AllocError>
-    ensures { IfOk result (λ answer. answer ≡ rehearse_answer ds.now) }
+    ensures answer { IfOk result (λ answer. answer ≡ rehearse_answer ds.now) }
+    ensures sized { IfOk result (λ answer. IsSized answer.behind) }
 {
     match planned(ds)? {
         Ok(changes) => rehearsed(ds, &changes),

@@ -1,8 +1,10 @@
-use Rattle.std.proofs.Common.{◌∙◌, ap, arith, rules, drop, ◌+◌}
+use Rattle.std.proofs.Common.{◌∙◌, ap, subst, arith, rules, drop, ◌+◌}
 use Rattle.std.proofs.lemmas.Result.{err_from_is_err_and}
+use Rattle.dataset.specs.Sound.{IsSound}
 use Rattle.edit_session.specs.Needs.{missing_verb}
-use Rattle.edit_session.specs.Session.{output}
+use Rattle.edit_session.specs.Session.{output, run}
 use Rattle.edit_session.proofs.Steps.{texts_from, goes_on, fails_in, stops_here, starts, ends_all, orderly_first, orderly_on, orderly_at, there_at}
+use Rattle.edit_session.proofs.Uploads.{AreSound, sound_first, sound_on, ends_sent}
 use Rattle.edit_session.proofs.run.run_steps.Goals as goal
 
 pub loop-step-init : goal.loop-step-init
@@ -14,6 +16,7 @@ loop-step-init g c = record {
   orderly = orderly_first c.args.steps.now _ c.requires.fits.asked.first c.requires.orderly;
   there = c.requires.fits.asked.there;
   text = starts c.args.limits _ _ c.args.steps.now _ c.requires.fits.asked.first;
+  sound = sound_first c.args.limits _ c.args.steps.now _ c.requires.fits.asked.first;
 }
 
 pub run_step-requires : goal.run_step-requires
@@ -48,6 +51,8 @@ loop-step-preserved g c =
       there = ap (λ verbs. missing_verb verbs (drop (c.loop-step.step-index + 1) c.args.steps.now)) step.plays.verbs ∙ tools.1;
       text = goes_on c.args.limits _ _ _ _ (λ files. output c.args.limits files c.args.steps.now) c.loop-step.step-index c.args.steps.now c.step-item.result _ _ _ (omega arith) c.step-item.is
           before.text (rw (before.told, c.group.ensures) at found.found) step.plays.ok step.plays.state;
+      sound = sound_on c.args.limits _ (λ files. AreSound (run c.args.limits files c.args.steps.now)) c.loop-step.step-index c.args.steps.now c.step-item.result _ _ _ (omega arith) c.step-item.is
+          (subst IsSound c.ds.ensures c.sound.ensures) before.sound (rw (before.told, c.group.ensures) at found.found) step.plays.state;
     }
 
 pub returns-in_err-found-clause-err : goal.returns-in_err-found-clause-err
@@ -64,3 +69,6 @@ returns-in_err-run_step-clause-err g c =
 
 pub returns-clause-ok : goal.returns-clause-ok
 returns-clause-ok g c = ends_all c.args.limits _ _ _ (λ files. output c.args.limits files c.args.steps.now) c.loop-step.step-index c.args.steps.now _ (omega arith) c.loop-step.invariant.text
+
+pub returns-clause-uploads : goal.returns-clause-uploads
+returns-clause-uploads g c = ends_sent c.args.limits _ c.loop-step.step-index c.args.steps.now _ (omega arith) c.requires.orderly c.loop-step.invariant.sound
