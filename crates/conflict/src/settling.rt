@@ -126,10 +126,13 @@ fn enter(ds: &DataSet, draft: &mut Draft, key: Key) -> Result<(), AllocError>
     ensures entries { OnOk result ((q : Key) → entry_of (drafted draft.new ds.now) q ≡ entered (is_key q key) (entry_of (drafted draft.old ds.now) q)) }
     ensures number { OnOk result (draft.new.next ≡ draft.old.next) }
 {
-    if draft.entry(ds, key).is_none() {
-        draft.put(key, Some(Entry::Incomplete))?;
+    match draft.entry(ds, key) {
+        Some(_) => Ok(()),
+        None => {
+            draft.put(key, Some(Entry::Incomplete))?;
+            Ok(())
+        }
     }
-    Ok(())
 }
 
 fn enter_all(ds: &DataSet, draft: &mut Draft, keys: &[Key]) -> Result<(), AllocError>
