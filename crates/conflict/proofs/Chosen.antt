@@ -1,5 +1,5 @@
 -- What the chosen content takes over: its kind, and references of mine or of theirs.
-use Rattle.std.proofs.Common.{◌≡◌, Bool, true, false, cond, ℕ, List, Option, Some, None, refl, sym, ◌∙◌}
+use Rattle.std.proofs.Common.{◌≡◌, Bool, true, false, cond, ℕ, List, Option, Some, None, sym, ◌∙◌}
 use mathlib.Core.Logic.{◌⊎◌, inl, inr}
 use Rattle.osm_base.specs.Content.{kind_of_content, refers, tags_of}
 use Rattle.osm_base.specs.Tags.{Pair}

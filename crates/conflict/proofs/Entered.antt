@@ -1,5 +1,5 @@
 -- What a draft's table has once keys have entered.
-use Rattle.std.proofs.Common.{◌≡◌, ◌||◌, ◌+◌, ◌<◌, ℕ, suc, Bool, true, false, cond, List, [], ◌∷◌, length, drop, get_or, Option, Some, None, refl, sym, ap, ◌∙◌, drop-cons, add-one}
+use Rattle.std.proofs.Common.{◌≡◌, ◌||◌, ◌+◌, ◌<◌, ℕ, suc, Bool, true, false, cond, List, length, drop, get_or, Option, Some, None, refl, sym, ap, ◌∙◌, drop-cons, add-one}
 use Rattle.std.specs.FinMap as fin
 use Rattle.osm_base.specs.Rank.{is_key}
 use Rattle.osm_base.proofs.RisingKeys.{one_key}
@@ -52,8 +52,8 @@ pub one_more : (u v w : TableValue) (ks : List Key) (i : ℕ) (none : Key) → i
 one_more u v w ks i none lt before step q =
     let k = get_or ks i none in
     rw add-one (
-      ap (entered (is_named (drop (suc i) ks) q)) (step q)
-      ∙ twice (is_key q k) (is_named (drop (suc i) ks) q) (entry_of v q)
-      ∙ sym (ap (λ (l : List Key). entered (is_named l q) (entry_of v q)) (drop-cons ks i none lt))
-      ∙ before q
+    ap (entered (is_named (drop (suc i) ks) q)) (step q)
+    ∙ twice (is_key q k) (is_named (drop (suc i) ks) q) (entry_of v q)
+    ∙ sym (ap (λ (l : List Key). entered (is_named l q) (entry_of v q)) (drop-cons ks i none lt))
+    ∙ before q
     )

@@ -42,8 +42,8 @@ pub settled_is : (t : TableValue) (empty one all : DraftValue) (k : Key) (e : En
     → drafted all t ≡ settled_table t k (Some e)
 settled_is t empty one all k e refs listed none put each number =
     same_table (drafted all t) (settled_table t k (Some e)) (λ q.
-      each q
-      ∙ ap (entered (is_named refs q)) (put_at empty one t k (Some e) put q ∙ ap (cond (is_key q k) (Some e)) (ap (λ (d : DraftValue). entry_of (drafted d t) q) none ∙ ap (λ (u : TableValue). entry_of u q) (drafted_none t.next t)))
-      ∙ ap (λ (l : List Key). entered (is_named l q) (cond (is_key q k) (Some e) (entry_of t q))) listed
-      ∙ sym (settled_at t k e q))
+    each q
+    ∙ ap (entered (is_named refs q)) (put_at empty one t k (Some e) put q ∙ ap (cond (is_key q k) (Some e)) (ap (λ (d : DraftValue). entry_of (drafted d t) q) none ∙ ap (λ (u : TableValue). entry_of u q) (drafted_none t.next t)))
+    ∙ ap (λ (l : List Key). entered (is_named l q) (cond (is_key q k) (Some e) (entry_of t q))) listed
+    ∙ sym (settled_at t k e q))
     (number ∙ ap (λ (d : DraftValue). d.next) put ∙ ap (λ (d : DraftValue). d.next) none ∙ sym (settled_next t k e))

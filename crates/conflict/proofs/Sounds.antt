@@ -1,11 +1,11 @@
 -- A conflict that is resolved leaves the table sound.
-use Rattle.std.proofs.Common.{◌≡◌, ◌||◌, ◌<◌, ℕ, Bool, true, false, cond, not, is_some, List, [], ◌∷◌, Option, Some, None, refl, sym, ap, ◌∙◌, subst, arith}
+use Rattle.std.proofs.Common.{◌≡◌, ◌||◌, ℕ, Bool, true, false, cond, not, is_some, List, [], ◌∷◌, Option, Some, None, refl, sym, ap, ◌∙◌, subst, arith}
 use mathlib.Core.Logic.{◌⊎◌, inl, inr}
 use Rattle.std.specs.List.{AllByRecursion, find, list_any}
 use Rattle.std.specs.Option.{option_map_or, option_or}
 use Rattle.std.proofs.lemmas.Bool.{true≢false, or_cases, not-false}
 use Rattle.osm_base.specs.Rank.{is_key}
-use Rattle.osm_base.specs.Content.{fits, kind_of_content, refers, refs_of}
+use Rattle.osm_base.specs.Content.{fits, kind_of_content, refs_of}
 use Rattle.osm_base.proofs.RisingKeys.{one_key, key_turned}
 use Rattle.osm_base.specs.declared.key.Key.{Key}
 use Rattle.osm_base.specs.declared.content.Content.{Content}
@@ -17,16 +17,16 @@ use Rattle.osm_table.specs.declared.entry.Why.TheVariants.{Changed, Held, Withdr
 use Rattle.osm_table.specs.declared.entry.Entry.{Entry}
 use Rattle.osm_table.specs.declared.entry.Entry.TheVariants.{Incomplete, Known}
 use Rattle.osm_table.specs.Same.{same_mine}
-use Rattle.osm_table.specs.Table.{TableValue, entry_of, mine_of, held_by, version_of, is_new, is_changed, uses, users, Each, IsThere, IsPositive, IfContent}
+use Rattle.osm_table.specs.Table.{TableValue, entry_of, mine_of, held_by, is_new, is_changed, uses, users, Each, IsThere, IsPositive, IfContent}
 use Rattle.osm_table.proofs.SameLaws.{same_mine_decides}
-use Rattle.dataset.specs.Sound.{IsSound, IsSoundEntry, IsNumber, LivesIn, BaseFits, WhyFits, IsLive, FromTheServer}
+use Rattle.dataset.specs.Sound.{IsSound, IsSoundEntry, IsNumber, BaseFits, WhyFits, IsLive, FromTheServer}
 use Rattle.dataset.proofs.Changes.{incomplete_entry}
 use Rattle.dataset.proofs.Listed.{user_uses}
 use Rattle.resolution.specs.declared.choice.Choice.{Choice}
 use Rattle.resolution.specs.Resolve.{resolved}
 use Rattle.tool_api.specs.declared.refusal.Refusal.{Refusal}
 use Rattle.tool_api.specs.declared.refusal.Refusal.TheVariants.{InUse, Unfit}
-use Rattle.tool_api.specs.Checks.{is_named, use_test, when}
+use Rattle.tool_api.specs.Checks.{is_named, when}
 use Rattle.tool_api.specs.Closing.{makes_unfit}
 use Rattle.tool_api.specs.Resolve.{choice_test, unused_test, gone_test, references_gone_test, settled_fit_test, settled_table}
 use Rattle.tool_api.specs.Staged.{refers_by, refs_by}
@@ -203,3 +203,7 @@ resolved_sound t k choice (Known base mine (Some conflict)) sound at can passed 
     let q = both_none (references_gone_test t k m) (settled_fit_test k (Some (Known conflict.theirs m None))) p.1 in
     let own = sound.entries k (Known base mine (Some conflict)) at in
     settled_sound t sound k base mine conflict at m (chosen_stems choice k base mine conflict own.kinds.1 own.kinds.2) p.0 q.0 q.1
+
+pub after_sound : (t : TableValue) (k : Key) (choice : Choice) (x e : Entry) → IsSound t → entry_of t k ≡ Some x → choice_test choice k (Some x) ≡ None → e ≡ resolved choice x → settled_tests t k e ≡ None
+    → IsSound (settled_table t k (Some e))
+after_sound t k choice x e sound at can is = subst (λ (y : Entry). settled_tests t k y ≡ None → IsSound (settled_table t k (Some y))) (sym is) (resolved_sound t k choice x sound at can)
