@@ -188,3 +188,88 @@ pub fn resolved(alloc: Global, choice: &Choice, entry: &SharedEntry) -> Result<E
         }),
     }
 }
+
+#[cfg(test)]
+mod tests {
+    use super::*;
+    use osm_base::{Meta, Refs, Tags, Text, same};
+    use osm_table::{Shared, Why};
+    use std::test::Fail;
+
+    // A way with a value of the tags `a` and `b` each.
+    fn way(alloc: Global, a: &str, b: &str) -> Result<Content, Fail> {
+        let mut tags = Tags::new(alloc);
+        for (name, value) in [("a", a), ("b", b)] {
+            let key = Text::from_bytes(alloc, name.as_bytes())?;
+            if !key.as_bytes().is_empty() {
+                tags.put(key, Text::from_bytes(alloc, value.as_bytes())?)?;
+            }
+        }
+        Ok(Content::Way {
+            tags,
+            refs: Refs::new(alloc),
+        })
+    }
+
+    fn live(alloc: Global, version: u32, a: &str, b: &str) -> Result<Base, Fail> {
+        Ok(Base::Live {
+            version,
+            content: way(alloc, a, b)?,
+            meta: Meta::empty(alloc)?,
+        })
+    }
+
+    // Both sides changed `a`, and theirs `b` too.
+    fn disputed(alloc: Global) -> Result<SharedEntry, Fail> {
+        let conflict = Conflict {
+            why: Why::Changed,
+            theirs: live(alloc, 2, "5", "9")?,
+        };
+        let entry = Entry::Known {
+            base: live(alloc, 1, "1", "1")?,
+            mine: Some(way(alloc, "2", "1")?),
+            conflict: Some(Shared::new(alloc, conflict)?),
+        };
+        Ok(SharedEntry::new(alloc, entry)?)
+    }
+
+    fn parts(alloc: Global, key: &str) -> Result<Choice, Fail> {
+        let mut theirs = TagKeys::new(alloc);
+        let key = Text::from_bytes(alloc, key.as_bytes())?;
+        if !key.as_bytes().is_empty() && !theirs.has(key.as_bytes()) {
+            theirs.push(key)?;
+        }
+        Ok(Choice::Parts {
+            body: Side::Mine,
+            theirs,
+        })
+    }
+
+    // Whether a choice makes a way with these values, over the base that the server has now.
+    fn makes(alloc: Global, choice: Choice, a: &str, b: &str) -> Result<bool, Fail> {
+        let wanted = way(alloc, a, b)?;
+        match resolved(alloc, &choice, &disputed(alloc)?)? {
+            Entry::Known {
+                base,
+                mine: Some(mine),
+                conflict: None,
+            } => Ok(same(&mine, &wanted) && base.version() == 2),
+            _ => Ok(false),
+        }
+    }
+
+    #[test]
+    fn each_choice_settles(rt: HostRuntime) -> Result<(), Fail> {
+        let alloc = rt.alloc();
+        let mix = Choice::Mix {
+            tags: Side::Theirs,
+            body: Side::Mine,
+        };
+        assert!(rt; makes(alloc, Choice::Mine, "2", "1")?);
+        assert!(rt; makes(alloc, Choice::Theirs, "5", "9")?);
+        assert!(rt; makes(alloc, mix, "5", "9")?);
+        assert!(rt; makes(alloc, parts(alloc, "")?, "2", "9")?);
+        assert!(rt; makes(alloc, parts(alloc, "a")?, "5", "9")?);
+        Ok(())
+    }
+}
