@@ -1,0 +1,122 @@
+//! The text of conflicts.
+ghost use Rattle.std.specs.Prelude.{◌≡◌, ◌++◌, OnOk, OnErr};
+ghost use Rattle.std.specs.Option.{option_copied};
+ghost use Rattle.osm_base.specs.Extends.{Extends};
+ghost use Rattle.osm_base.specs.Meta.{empty_meta};
+ghost use Rattle.osm_table.specs.Table.{held_by};
+ghost use Rattle.conflict.specs.Shown.{conflict_text, known_text, meta_of, side_line, side_lines, why_line, why_name};
+
+use dataset::DataSet;
+use opl_line::write_line;
+use osm_base::{Content, Key, Meta, write_key};
+use osm_table::{Base, Conflict, EntryParts, Why};
+use std::alloc::AllocError;
+
+/// Appends the four lines of the object in conflict with that key, and nothing where it isn't in conflict: its key and
+/// why, and its base, mine and theirs. One look-up.
+///
+/// # Errors
+/// No memory was left; what stood in `out` stays at its front.
+#[tactic(auto, using(osm_base::proofs::ExtendLaws::extends_steps))]
+pub fn write_conflict(ds: &DataSet, key: Key, out: &mut Vec<u8>) -> Result<(), AllocError>
+    ensures written { OnOk result (out.new.items ≡ out.old.items ++ conflict_text ds.now key) }
+    ensures kept { OnErr result (Extends out.old.items out.new.items) }
+{
+    let Some(entry) = ds.entry(key) else {
+        return Ok(());
+    };
+    match entry.parts() {
+        EntryParts::Incomplete => Ok(()),
+        EntryParts::Known { conflict: None, .. } => Ok(()),
+        EntryParts::Known {
+            base,
+            mine,
+            conflict: Some(conflict),
+        } => write_lines(key, base, mine, conflict, out),
+    }
+}
+
+#[tactic(auto, using(osm_base::proofs::ExtendLaws::extends_steps))]
+fn write_lines(
+    key: Key,
+    base: &Base,
+    mine: Option<&Content>,
+    conflict: &Conflict,
+    out: &mut Vec<u8>,
+) -> Result<(), AllocError>
+    ensures written { OnOk result (out.new.items ≡ out.old.items ++ (why_line key conflict.now.why ++ side_lines key base.now (option_copied mine.entry) conflict.now.theirs)) }
+    ensures kept { OnErr result (Extends out.old.items out.new.items) }
+{
+    write_why(key, conflict.why, out)?;
+    write_sides(key, base, mine, &conflict.theirs, out)
+}
+
+#[tactic(auto, using(osm_base::proofs::ExtendLaws::extends_steps))]
+fn write_why(key: Key, why: Why, out: &mut Vec<u8>) -> Result<(), AllocError>
+    ensures written { OnOk result (out.new.items ≡ out.old.items ++ why_line key why) }
+    ensures kept { OnErr result (Extends out.old.items out.new.items) }
+{
+    out.extend_from_slice(b"conflict ")?;
+    write_key(key, out)?;
+    out.push(b' ')?;
+    out.extend_from_slice(why_name(why))?;
+    out.push(b'\n')?;
+    Ok(())
+}
+
+fn why_name(why: Why) -> &'static [u8]
+    ensures { result.now ≡ why_name why }
+{
+    match why {
+        Why::Changed => b"changed",
+        Why::Held => b"held",
+        Why::Withdrawn => b"withdrawn",
+    }
+}
+
+#[tactic(auto, using(osm_base::proofs::ExtendLaws::extends_steps))]
+fn write_sides(
+    key: Key,
+    base: &Base,
+    mine: Option<&Content>,
+    theirs: &Base,
+    out: &mut Vec<u8>,
+) -> Result<(), AllocError>
+    ensures written { OnOk result (out.new.items ≡ out.old.items ++ side_lines key base.now (option_copied mine.entry) theirs.now) }
+    ensures kept { OnErr result (Extends out.old.items out.new.items) }
+{
+    let unknown = Meta::empty(*out.allocator())?;
+    write_side(b"base ", key, base, base.content(), &unknown, out)?;
+    write_side(b"mine ", key, base, mine, &unknown, out)?;
+    write_side(b"theirs ", key, theirs, theirs.content(), &unknown, out)
+}
+
+#[tactic(auto, using(osm_base::proofs::ExtendLaws::extends_steps))]
+fn write_side(
+    name: &[u8],
+    key: Key,
+    base: &Base,
+    content: Option<&Content>,
+    unknown: &Meta,
+    out: &mut Vec<u8>,
+) -> Result<(), AllocError>
+    requires { unknown.now ≡ empty_meta }
+    ensures written { OnOk result (out.new.items ≡ out.old.items ++ side_line name.now key base.now (option_copied content.entry)) }
+    ensures kept { OnErr result (Extends out.old.items out.new.items) }
+{
+    out.extend_from_slice(name)?;
+    write_line(key, base.version(), content, meta_of(base, unknown), out)?;
+    out.push(b'\n')?;
+    Ok(())
+}
+
+// The metadata of a base, the empty ones where no server has the object.
+fn meta_of<'a>(base: &'a Base, unknown: &'a Meta) -> &'a Meta
+    requires { unknown.now ≡ empty_meta }
+    ensures { result.now ≡ meta_of base.now }
+{
+    match base {
+        Base::New => unknown,
+        Base::Live { meta, .. } | Base::Gone { meta, .. } => meta,
+    }
+}
