@@ -18,7 +18,7 @@ use Rattle.edit_script.specs.declared.line.ScriptLine.TheVariants.{Skipped, Asks
 use Rattle.edit_script.specs.declared.reply.StepRefusal.TheVariants.{Tool, BadFile}
 use Rattle.edit_script.specs.declared.reply.StepReply.TheVariants as reply
 use Rattle.edit_script.specs.declared.step.Act.TheVariants as act
-use Rattle.edit_script.specs.Forms.{download, add_node, add_way, add_relation, set_tags, shift, place, set_nodes, set_members, delete, split, combine, reverse, undo, way_form, delete_form, change_form, add_form, form}
+use Rattle.edit_script.specs.Forms.{download, add_node, add_way, add_relation, set_tags, shift, place, set_nodes, set_members, delete, split, combine, reverse, undo, resolve, parts, mix, choice_form, upload, way_form, delete_form, change_form, add_form, look_form, form}
 use Rattle.edit_script.specs.Items.{keys_word, tags_word, refs_word, members_word, place_words, count_word}
 use Rattle.edit_script.specs.Reply.{reply_line}
 use Rattle.edit_script.specs.Script.{kind_of_line, line_of, steps_of}
@@ -132,15 +132,15 @@ blanks_between = refl
 
 -- No blank stands at an end of the line.
 blank_first : line_of (codes "\tprint") ≡ None
-unfolding kind_of_line form
+unfolding kind_of_line form look_form
 blank_first = refl
 
 blank_last : line_of (codes "print ") ≡ None
-unfolding kind_of_line form
+unfolding kind_of_line form look_form
 blank_last = refl
 
 word_more : line_of (codes "print it") ≡ None
-unfolding kind_of_line form
+unfolding kind_of_line form look_form
 word_more = refl
 
 -- A comment begins the line.
@@ -154,7 +154,7 @@ no_comment = refl
 
 -- One CR is taken off, and not two.
 one_cr : line_of (codes "print\r") ≡ Some (Asks act.Print)
-unfolding kind_of_line form
+unfolding kind_of_line form look_form
 one_cr = refl
 
 two_crs : line_of (codes "print\r\r") ≡ None
@@ -163,7 +163,7 @@ two_crs = refl
 
 -- Lines that are skipped are counted, and the last needs no LF.
 steps_read : steps_of (codes "#a\n\nbegin\r\nprint\nend") ≡ Ok (record { line = 3; act = act.Begin } ∷ record { line = 4; act = act.Print } ∷ record { line = 5; act = act.End } ∷ [])
-unfolding kind_of_line form
+unfolding kind_of_line form look_form
 steps_read = refl
 
 -- The script's end may leave a group open.
@@ -181,7 +181,7 @@ unfolding kind_of_line form undo count_word number_text
 undo_in_group = refl
 
 end_outside : steps_of (codes "print\nend") ≡ Err 2
-unfolding kind_of_line form
+unfolding kind_of_line form look_form
 end_outside = refl
 
 -- The keys that were made have commas between them.
