@@ -60,5 +60,5 @@ unfolding tag_keys_of
 spare_key texts front rest piece key read first e spare =
     let others = pieces_behind (is 44) (after (is 44) rest) in
     ap (λ keys. keys >>= kept) (read ∙ ap (λ pieces. onto_items front (all_of unescaped pieces)) (split_front (is 44) rest)
-        ∙ onto_items-more unescaped front key (before (is 44) rest) others (ap unescaped (sym first) ∙ e))
+    ∙ onto_items-more unescaped front key (before (is 44) rest) others (ap unescaped (sym first) ∙ e))
     ∙ none_kept front key (all_of unescaped others) spare
