@@ -9,13 +9,13 @@ use Rattle.osm_base.specs.Number.{number_text, id_text, kind_letter, key_text, m
 use Rattle.osm_base.specs.Place.{place_at}
 use Rattle.osm_base.specs.declared.key.Key.{Key}
 use Rattle.osm_base.specs.declared.key.Kind.TheVariants.{Node, Way, Relation}
-use Rattle.opl_text.specs.Text.{escaped, unescaped}
+use Rattle.opl_text.specs.Text.{unescaped}
 use Rattle.opl_line.specs.Field.{tags_text, refs_text, ref_into, ref_text, members_text}
 use Rattle.opl_file.specs.declared.fault.FileFault.TheVariants.{Twice}
 use Rattle.resolution.specs.declared.choice.Choice.TheVariants as choice
 use Rattle.resolution.specs.declared.choice.Side.TheVariants as side
 use Rattle.tool_api.specs.declared.job.Job.TheVariants as job
-use Rattle.tool_api.specs.declared.refusal.Refusal.TheVariants.{InUse, NotClashing}
+use Rattle.tool_api.specs.declared.refusal.Refusal.TheVariants.{InUse}
 use Rattle.edit_script.specs.declared.line.ScriptLine.TheVariants.{Skipped, Asks}
 use Rattle.edit_script.specs.declared.reply.StepRefusal.TheVariants.{Tool, BadFile, OpenConflicts, IncompleteRef, CyclicNew}
 use Rattle.edit_script.specs.declared.reply.StepReply.TheVariants as reply
@@ -263,10 +263,6 @@ refused_reference = refl
 refused_cycle : reply_line 6 (reply.Refused (CyclicNew (relation_new 1 ∷ relation_new 2 ∷ relation_new 3 ∷ []))) ≡ codes "6 refused 25 r-1,r-2,r-3\n"
 unfolding digits
 refused_cycle = refl
-
-refused_key : reply_line 4 (reply.Refused (Tool (NotClashing (codes "b")))) ≡ codes "4 refused 29 b\n"
-unfolding digits escaped
-refused_key = refl
 
 skipped_step : reply_line 11 reply.Skipped ≡ codes "11 skipped\n"
 unfolding digits

@@ -257,6 +257,7 @@ fn all_tag_keys(pool: &mut Pool, text: &[u8]) -> Result<TagKeys, Unread>
 }
 
 /// Nothing, or keys of tags with commas between them.
+#[tactic(auto, unfolding(crate::specs::Items::tag_keys_of))]
 fn tag_keys(pool: &mut Pool, text: &[u8]) -> Result<TagKeys, Unread>
     ensures { Gives result (tag_keys_of (texts_of text.now)) }
 {
