@@ -12,4 +12,4 @@ returns-then-is_empty c =
       | then-is_empty-via-then-is_empty w ↦ or_left _ _ (sym (ap (λ key. length key == 0) c.as_bytes.ensures.value) ∙ sym c.is_empty.ensures ∙ w.if-is_empty.true)
       | then-is_empty-via-else-is_empty+then-has w ↦ or_right _ _ (sym (ap (is_listed keys) w.as_bytes-else-is_empty.ensures.value) ∙ sym w.has.ensures ∙ w.if-has.true)
     ] in
-    spare_key _ keys c.loop-keys.rest.now _ c.in_ok-key.key c.loop-keys.invariant.read c.cut.ensures.before c.in_ok-key.ensures spare
+    spare_key _ keys c.loop-keys.rest.now _ c.in_ok-key.key c.loop-keys.invariant c.cut.ensures.before c.in_ok-key.ensures spare
