@@ -14,9 +14,9 @@ use Rattle.resolution.specs.Keys.{is_listed, are_tag_keys}
 use Rattle.edit_script.specs.Items.{all_of, tag_keys_of}
 use Rattle.edit_script.proofs.Lists.{onto_items, onto_items-more}
 
--- whether the key is empty, or one of those before it
-abbrev pub is_spare : List (List ℕ) → List ℕ → Bool
-is_spare keys key = length key == 0 || is_listed keys key
+-- whether the text may not stand behind these keys: it is empty, or one of them
+abbrev pub adds_no_key : List (List ℕ) → List ℕ → Bool
+adds_no_key keys key = length key == 0 || is_listed keys key
 
 same_turned : (a b : List ℕ) → same_text a b ≡ true → same_text b a ≡ true
 same_turned a b e = (same_text_decides b a).1 (sym ((same_text_decides a b).0 e))
@@ -33,32 +33,32 @@ or_nothing false e = e
 some_bytes : (byte : ℕ) (bytes : List ℕ) → (length (byte ∷ bytes) == 0) ≡ true → ⊥
 some_bytes byte bytes none = grind (arith, nat_tests, none)
 
-not_keys_behind : (first : List ℕ) (front more : List (List ℕ)) (key : List ℕ) (like : Bool) → same_text first key ≡ like → is_spare (first ∷ front) key ≡ true
-    → (is_spare front key ≡ true → are_tag_keys (front ++ key ∷ more) ≡ false) → are_tag_keys (first ∷ front ++ key ∷ more) ≡ false
-not_keys_behind first front more key true e spare fewer = rw (listed_inside front more key first (same_turned first key e)) (and-false (nat_lt 0 (length first)))
-not_keys_behind first front more key false e spare fewer =
-    rw (fewer (ap (λ like. length key == 0 || (like || is_listed front key)) (sym e) ∙ spare), and-false (not (is_listed (front ++ key ∷ more) first))) (and-false (nat_lt 0 (length first)))
+not_keys_behind : (first : List ℕ) (front more : List (List ℕ)) (key : List ℕ) (like : Bool) → same_text first key ≡ like → adds_no_key (first ∷ front) key ≡ true
+    → (adds_no_key front key ≡ true → are_tag_keys (front ++ key ∷ more) ≡ false) → are_tag_keys (first ∷ front ++ key ∷ more) ≡ false
+not_keys_behind first front more key true e none fewer = rw (listed_inside front more key first (same_turned first key e)) (and-false (nat_lt 0 (length first)))
+not_keys_behind first front more key false e none fewer =
+    rw (fewer (ap (λ like. length key == 0 || (like || is_listed front key)) (sym e) ∙ none), and-false (not (is_listed (front ++ key ∷ more) first))) (and-false (nat_lt 0 (length first)))
 
--- they are no keys of tags, since one of them is spare
-not_keys : (front more : List (List ℕ)) (key : List ℕ) → is_spare front key ≡ true → are_tag_keys (front ++ key ∷ more) ≡ false
-not_keys [] more [] spare = refl
-not_keys [] more (byte ∷ bytes) spare = absurd (some_bytes byte bytes (or_nothing _ spare))
-not_keys (first ∷ front) more key spare = not_keys_behind first front more key (same_text first key) refl spare (not_keys front more key)
+-- keys of which one adds none are no keys of tags
+not_keys : (front more : List (List ℕ)) (key : List ℕ) → adds_no_key front key ≡ true → are_tag_keys (front ++ key ∷ more) ≡ false
+not_keys [] more [] none = refl
+not_keys [] more (byte ∷ bytes) none = absurd (some_bytes byte bytes (or_nothing _ none))
+not_keys (first ∷ front) more key none = not_keys_behind first front more key (same_text first key) refl none (not_keys front more key)
 
 -- the keys, if they are keys of tags
 abbrev kept : List (List ℕ) → Option (List (List ℕ))
 kept keys = if are_tag_keys keys then Some keys else None
 
-none_kept : (front : List (List ℕ)) (key : List ℕ) (read : Option (List (List ℕ))) → is_spare front key ≡ true → (onto_items (front ++ key ∷ []) read >>= kept) ≡ None
-none_kept front key None spare = refl
-none_kept front key (Some more) spare = rw (append_assoc front (key ∷ []) more, not_keys front more key spare) refl
+none_of : (front : List (List ℕ)) (key : List ℕ) (read : Option (List (List ℕ))) → adds_no_key front key ≡ true → (onto_items (front ++ key ∷ []) read >>= kept) ≡ None
+none_of front key None none = refl
+none_of front key (Some more) none = rw (append_assoc front (key ∷ []) more, not_keys front more key none) refl
 
--- a key that is spare ends it
-pub spare_key : (texts front : List (List ℕ)) (rest piece key : List ℕ) → all_of unescaped texts ≡ onto_items front (all_of unescaped (split (is 44) rest))
-    → piece ≡ before (is 44) rest → unescaped piece ≡ Some key → is_spare front key ≡ true → tag_keys_of texts ≡ None
+-- a text that adds no key ends it
+pub no_keys : (texts front : List (List ℕ)) (rest piece key : List ℕ) → all_of unescaped texts ≡ onto_items front (all_of unescaped (split (is 44) rest))
+    → piece ≡ before (is 44) rest → unescaped piece ≡ Some key → adds_no_key front key ≡ true → tag_keys_of texts ≡ None
 unfolding tag_keys_of
-spare_key texts front rest piece key read first e spare =
+no_keys texts front rest piece key read first e none =
     let others = pieces_behind (is 44) (after (is 44) rest) in
     ap (λ keys. keys >>= kept) (read ∙ ap (λ pieces. onto_items front (all_of unescaped pieces)) (split_front (is 44) rest)
     ∙ onto_items-more unescaped front key (before (is 44) rest) others (ap unescaped (sym first) ∙ e))
-    ∙ none_kept front key (all_of unescaped others) spare
+    ∙ none_of front key (all_of unescaped others) none
