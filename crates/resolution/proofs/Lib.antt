@@ -1,3 +1,3 @@
-pub mod Pushed
+mod Pushed
 mod Parts
 mod Examples
