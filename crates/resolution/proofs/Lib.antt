@@ -1,3 +1,3 @@
-mod Pushed
+pub mod Pushed
 mod Parts
 mod Examples
