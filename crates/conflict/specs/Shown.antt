@@ -14,7 +14,6 @@ use Rattle.osm_base.specs.declared.content.Content.{Content}
 use Rattle.osm_table.specs.Table.{TableValue, entry_of, held_by, version_of}
 use Rattle.osm_table.specs.declared.entry.Base.{Base}
 use Rattle.osm_table.specs.declared.entry.Base.TheVariants.{New, Live, Gone}
-use Rattle.osm_table.specs.declared.entry.Conflict.{Conflict}
 use Rattle.osm_table.specs.declared.entry.Why.{Why}
 use Rattle.osm_table.specs.declared.entry.Why.TheVariants.{Changed, Held, Withdrawn}
 use Rattle.osm_table.specs.declared.entry.Entry.{Entry}

@@ -5,21 +5,23 @@ use Rattle.std.specs.Fmt.{digits}
 use Rattle.std.specs.Str.{is_utf8, chars}
 use lib.Utf8.{encode}
 use Rattle.osm_base.specs.Coord.{coord_text, size_text, whole_text, pointed_text, part_text}
-use Rattle.osm_base.specs.Number.{number_text, id_text, kind_letter, key_text}
+use Rattle.osm_base.specs.Number.{number_text, id_text, kind_letter, key_text, minus}
 use Rattle.osm_base.specs.Place.{place_at}
 use Rattle.osm_base.specs.declared.key.Key.{Key}
 use Rattle.osm_base.specs.declared.key.Kind.TheVariants.{Node, Way, Relation}
 use Rattle.opl_text.specs.Text.{unescaped}
 use Rattle.opl_line.specs.Field.{tags_text, refs_text, ref_into, ref_text, members_text}
 use Rattle.opl_file.specs.declared.fault.FileFault.TheVariants.{Twice}
+use Rattle.resolution.specs.declared.choice.Choice.TheVariants as choice
+use Rattle.resolution.specs.declared.choice.Side.TheVariants as side
 use Rattle.tool_api.specs.declared.job.Job.TheVariants as job
 use Rattle.tool_api.specs.declared.refusal.Refusal.TheVariants.{InUse}
 use Rattle.edit_script.specs.declared.line.ScriptLine.TheVariants.{Skipped, Asks}
-use Rattle.edit_script.specs.declared.reply.StepRefusal.TheVariants.{Tool, BadFile}
+use Rattle.edit_script.specs.declared.reply.StepRefusal.TheVariants.{Tool, BadFile, OpenConflicts, IncompleteRef, CyclicNew}
 use Rattle.edit_script.specs.declared.reply.StepReply.TheVariants as reply
 use Rattle.edit_script.specs.declared.step.Act.TheVariants as act
-use Rattle.edit_script.specs.Forms.{download, add_node, add_way, add_relation, set_tags, shift, place, set_nodes, set_members, delete, split, combine, reverse, undo, way_form, delete_form, change_form, add_form, form}
-use Rattle.edit_script.specs.Items.{keys_word, tags_word, refs_word, members_word, place_words, count_word}
+use Rattle.edit_script.specs.Forms.{download, add_node, add_way, add_relation, set_tags, shift, place, set_nodes, set_members, delete, split, combine, reverse, undo, resolve, parts, mix, choice_form, upload, way_form, delete_form, change_form, add_form, look_form, form}
+use Rattle.edit_script.specs.Items.{keys_word, tags_word, refs_word, members_word, place_words, number_word, side_word, tag_keys_of, tag_keys_word}
 use Rattle.edit_script.specs.Reply.{reply_line}
 use Rattle.edit_script.specs.Script.{kind_of_line, line_of, steps_of}
 
@@ -28,6 +30,9 @@ node n = record { kind = Node; id = pos n }
 
 abbrev way : ℕ → Key
 way n = record { kind = Way; id = pos n }
+
+abbrev relation_new : ℕ → Key
+relation_new n = record { kind = Relation; id = minus n }
 
 -- A name has escapes.
 download_read : line_of (codes "download a%20%b") ≡ Some (Asks (act.Download (codes "a b")))
@@ -85,6 +90,33 @@ members_read : line_of (codes "members r1 M") ≡ Some (Asks (act.Job (job.SetMe
 unfolding kind_of_line form look_form add_form change_form set_members members_word members_text key_text id_text kind_letter number_text
 members_read = refl
 
+-- A conflict is settled by one side, by the tags of one and the body of one, or part by part.
+resolve_mine : line_of (codes "resolve n1 mine") ≡ Some (Asks (act.Job (job.Resolve (node 1) choice.Mine)))
+unfolding kind_of_line form look_form add_form change_form resolve choice_form key_text id_text kind_letter number_text
+resolve_mine = refl
+
+-- The side of the tags stands before that of the body.
+resolve_mixed : line_of (codes "resolve n1 mix theirs mine") ≡ Some (Asks (act.Job (job.Resolve (node 1) (choice.Mix side.Theirs side.Mine))))
+unfolding kind_of_line form look_form add_form change_form resolve choice_form mix side_word key_text id_text kind_letter number_text
+resolve_mixed = refl
+
+resolve_parts : line_of (codes "resolve n1 parts mine Ka%20%b,c") ≡ Some (Asks (act.Job (job.Resolve (node 1) (choice.Parts side.Mine (codes "a b" ∷ codes "c" ∷ [])))))
+unfolding kind_of_line form look_form add_form change_form resolve choice_form parts side_word tag_keys_word tag_keys_of unescaped is_utf8 chars encode key_text id_text kind_letter number_text
+resolve_parts = refl
+
+-- No key has to be listed, but none is empty, and none stands twice.
+resolve_no_key : line_of (codes "resolve n1 parts theirs K") ≡ Some (Asks (act.Job (job.Resolve (node 1) (choice.Parts side.Theirs []))))
+unfolding kind_of_line form look_form add_form change_form resolve choice_form parts side_word tag_keys_word tag_keys_of key_text id_text kind_letter number_text
+resolve_no_key = refl
+
+key_twice : line_of (codes "resolve n1 parts mine Ka,b,a") ≡ None
+unfolding kind_of_line form look_form add_form change_form resolve choice_form parts side_word tag_keys_word tag_keys_of unescaped is_utf8 chars encode key_text id_text kind_letter number_text
+key_twice = refl
+
+empty_key : line_of (codes "resolve n1 parts mine Ka,") ≡ None
+unfolding kind_of_line form look_form add_form change_form resolve choice_form parts side_word tag_keys_word tag_keys_of unescaped is_utf8 chars encode key_text id_text kind_letter number_text
+empty_key = refl
+
 -- Leading zeros are taken.
 delete_read : line_of (codes "delete n007") ≡ Some (Asks (act.Job (job.Delete (node 7 ∷ []))))
 unfolding kind_of_line form look_form add_form change_form delete_form delete keys_word key_text id_text kind_letter number_text
@@ -114,16 +146,24 @@ unfolding kind_of_line form look_form add_form change_form delete_form way_form 
 reverse_read = refl
 
 undo_read : line_of (codes "undo 007") ≡ Some (Asks (act.Undo 7))
-unfolding kind_of_line form undo count_word number_text
+unfolding kind_of_line form undo number_word number_text
 undo_read = refl
 
 undo_none : line_of (codes "undo 0") ≡ None
-unfolding kind_of_line form undo count_word number_text
+unfolding kind_of_line form undo number_word number_text
 undo_none = refl
 
 undo_too_often : line_of (codes "undo 1000001") ≡ None
-unfolding kind_of_line form undo count_word number_text
+unfolding kind_of_line form undo number_word number_text
 undo_too_often = refl
+
+upload_read : line_of (codes "upload 10000") ≡ Some (Asks (act.Upload 10000))
+unfolding kind_of_line form look_form upload number_word number_text
+upload_read = refl
+
+chunk_too_large : line_of (codes "upload 10001") ≡ None
+unfolding kind_of_line form look_form upload number_word number_text
+chunk_too_large = refl
 
 -- Runs of blanks separate words.
 blanks_between : line_of (codes "delete \t n1") ≡ Some (Asks (act.Job (job.Delete (node 1 ∷ []))))
@@ -132,15 +172,15 @@ blanks_between = refl
 
 -- No blank stands at an end of the line.
 blank_first : line_of (codes "\tprint") ≡ None
-unfolding kind_of_line form
+unfolding kind_of_line form look_form
 blank_first = refl
 
 blank_last : line_of (codes "print ") ≡ None
-unfolding kind_of_line form
+unfolding kind_of_line form look_form
 blank_last = refl
 
 word_more : line_of (codes "print it") ≡ None
-unfolding kind_of_line form
+unfolding kind_of_line form look_form
 word_more = refl
 
 -- A comment begins the line.
@@ -154,7 +194,7 @@ no_comment = refl
 
 -- One CR is taken off, and not two.
 one_cr : line_of (codes "print\r") ≡ Some (Asks act.Print)
-unfolding kind_of_line form
+unfolding kind_of_line form look_form
 one_cr = refl
 
 two_crs : line_of (codes "print\r\r") ≡ None
@@ -163,7 +203,7 @@ two_crs = refl
 
 -- Lines that are skipped are counted, and the last needs no LF.
 steps_read : steps_of (codes "#a\n\nbegin\r\nprint\nend") ≡ Ok (record { line = 3; act = act.Begin } ∷ record { line = 4; act = act.Print } ∷ record { line = 5; act = act.End } ∷ [])
-unfolding kind_of_line form
+unfolding kind_of_line form look_form
 steps_read = refl
 
 -- The script's end may leave a group open.
@@ -177,11 +217,20 @@ unfolding kind_of_line form
 group_in_group = refl
 
 undo_in_group : steps_of (codes "begin\nundo 1\nend") ≡ Err 2
-unfolding kind_of_line form undo count_word number_text
+unfolding kind_of_line form undo number_word number_text
 undo_in_group = refl
 
+-- Nor is anything rehearsed or uploaded in one; conflicts may be looked at.
+upload_in_group : steps_of (codes "begin\nupload 1\nend") ≡ Err 2
+unfolding kind_of_line form look_form upload number_word number_text
+upload_in_group = refl
+
+rehearse_in_group : steps_of (codes "begin\nconflicts\nrehearse") ≡ Err 3
+unfolding kind_of_line form look_form
+rehearse_in_group = refl
+
 end_outside : steps_of (codes "print\nend") ≡ Err 2
-unfolding kind_of_line form
+unfolding kind_of_line form look_form
 end_outside = refl
 
 -- The keys that were made have commas between them.
@@ -201,6 +250,19 @@ refused_in_use = refl
 refused_file : reply_line 10 (reply.Refused (BadFile (Twice 3))) ≡ codes "10 refused 20 twice 3\n"
 unfolding digits
 refused_file = refl
+
+refused_conflicts : reply_line 8 (reply.Refused (OpenConflicts 1 (node 2))) ≡ codes "8 refused 23 1 n2\n"
+unfolding digits
+refused_conflicts = refl
+
+refused_reference : reply_line 4 (reply.Refused (IncompleteRef (relation_new 1) (node 1))) ≡ codes "4 refused 24 r-1 n1\n"
+unfolding digits
+refused_reference = refl
+
+-- The relations have commas between them.
+refused_cycle : reply_line 6 (reply.Refused (CyclicNew (relation_new 1 ∷ relation_new 2 ∷ relation_new 3 ∷ []))) ≡ codes "6 refused 25 r-1,r-2,r-3\n"
+unfolding digits
+refused_cycle = refl
 
 skipped_step : reply_line 11 reply.Skipped ≡ codes "11 skipped\n"
 unfolding digits

@@ -1,10 +1,11 @@
 //! The words of a line, and what each of them spells.
-ghost use Rattle.std.specs.Prelude.{◌≡◌, ◌∷◌, ◌<◌, ◌≤◌, [], Some, MatchOption, MatchResult, IfOk};
+ghost use Rattle.std.specs.Prelude.{◌≡◌, ◌∷◌, ◌<◌, ◌≤◌, ◌==◌, ◌||◌, [], length, Some, MatchOption, MatchResult, IfOk};
 ghost use Rattle.opl_line.specs.Cut.{split};
 ghost use Rattle.opl_line.specs.Field.{is};
 ghost use Rattle.opl_line.specs.Line.{is_blank};
 ghost use Rattle.osm_base.specs.Number.{key_text};
 ghost use Rattle.osm_base.specs.Coord.{coord_text};
+ghost use Rattle.resolution.specs.Keys.{is_listed};
 ghost use Rattle.edit_script.specs.Answers.{Gives, IsRefused};
 ghost use Rattle.edit_script.specs.Items.{words_of, alone, one_word, two_words, three_words, without_blanks, has_location, keys_word, tags_word, refs_word, members_word, place_words, number_word, count_word, size_word, side_word, texts_of, tag_keys_of, tag_keys_word};
 
@@ -235,8 +236,15 @@ pub fn side_word(word: &[u8]) -> Result<Side, Unread>
     }
 }
 
+/// Whether the text may not stand behind these keys: it is empty, or one of them.
+fn adds_no_key(keys: &TagKeys, text: &[u8]) -> bool
+    ensures { result ≡ (length text.now == 0 || is_listed keys.now text.now) }
+{
+    text.is_empty() || keys.has(text)
+}
+
 /// The keys of tags between commas.
-#[tactic(auto, unfolding(crate::specs::Items::tag_keys_of))]
+#[tactic(auto, using(crate::proofs::TagKeys::no_keys), unfolding(crate::specs::Items::tag_keys_of))]
 fn all_tag_keys(pool: &mut Pool, text: &[u8]) -> Result<TagKeys, Unread>
     ensures { Gives result (tag_keys_of (split (is 44) text.now)) }
 {
@@ -245,7 +253,7 @@ fn all_tag_keys(pool: &mut Pool, text: &[u8]) -> Result<TagKeys, Unread>
     loop {
         let (piece, after) = cut(rest, b',', b',');
         let key = read_escaped(pool, piece)?;
-        if key.as_bytes().is_empty() || keys.has(key.as_bytes()) {
+        if adds_no_key(&keys, key.as_bytes()) {
             return Err(Unread::Outside);
         }
         keys.push(key)?;
@@ -257,6 +265,7 @@ fn all_tag_keys(pool: &mut Pool, text: &[u8]) -> Result<TagKeys, Unread>
 }
 
 /// Nothing, or keys of tags with commas between them.
+#[tactic(auto, unfolding(crate::specs::Items::tag_keys_of))]
 fn tag_keys(pool: &mut Pool, text: &[u8]) -> Result<TagKeys, Unread>
     ensures { Gives result (tag_keys_of (texts_of text.now)) }
 {

@@ -246,11 +246,15 @@ fn write_numbered(words: &[u8], number: u64, out: &mut Vec<u8>) -> Result<(), Al
 
 #[cfg(test)]
 mod tests {
-    use super::StepRefusal::{BadFile, NoFile, NothingToRedo, NothingToUndo, Tool};
+    use super::StepRefusal::{
+        BadFile, CyclicNew, IncompleteRef, NoFile, NothingToRedo, NothingToUndo, OpenConflicts,
+        Tool,
+    };
     use super::StepReply::{Done, Refused, Skipped};
     use super::*;
     use opl_line::LineFault;
-    use osm_base::{Kind, Text};
+    use osm_base::Kind;
+    use std::alloc::Global;
     use std::test::Fail;
 
     const NODE: Key = Key {
@@ -278,11 +282,15 @@ mod tests {
         (11, "7 refused 11 w-5\n"),
         (12, "7 refused 12 w-5\n"),
         (14, "7 refused 14 w-5\n"),
+        (15, "7 refused 15 n1\n"),
+        (16, "7 refused 16 w-5\n"),
         (17, "7 refused 17 n1 3\n"),
         (18, "7 refused 18\n"),
         (19, "7 refused 19\n"),
         (21, "7 refused 21\n"),
         (22, "7 refused 22\n"),
+        (23, "7 refused 23 12 n1\n"),
+        (24, "7 refused 24 w-5 n1\n"),
     ];
 
     fn refusal(number: u8) -> StepRefusal {
@@ -300,10 +308,17 @@ mod tests {
             11 => Tool(Refusal::NothingToSplit(WAY)),
             12 => Tool(Refusal::NotJoined(WAY)),
             14 => Tool(Refusal::MemberClash(WAY)),
+            15 => Tool(Refusal::NoConflict(NODE)),
+            16 => Tool(Refusal::NotMixed(WAY)),
             17 => Tool(Refusal::VersionClash(NODE, 3)),
             18 => Tool(Refusal::TableFull),
             21 => NothingToUndo,
             22 => NothingToRedo,
+            23 => OpenConflicts {
+                count: 12,
+                first: NODE,
+            },
+            24 => IncompleteRef { key: WAY, of: NODE },
             _ => NoFile,
         }
     }
@@ -325,6 +340,14 @@ mod tests {
         (FileFault::FileTooLong, "7 refused 20 toolong\n"),
     ];
 
+    const KEYS_AND_TEXTS: &str = "1 ok
+2 ok w-5,n1
+30 refused 13 old%20%name
+31 refused 29 old%20%name
+32 refused 25 w-5,n1
+33 skipped
+";
+
     #[test]
     fn writes_refusals(rt: HostRuntime) -> Result<(), Fail> {
         let mut out = Vec::new(rt.alloc());
@@ -341,21 +364,25 @@ mod tests {
         Ok(())
     }
 
+    fn way_and_node(alloc: Global) -> Result<Keys, AllocError> {
+        let mut keys = Keys::new(alloc);
+        keys.push(WAY)?;
+        keys.push(NODE)?;
+        Ok(keys)
+    }
+
     #[test]
     fn writes_keys_and_texts(rt: HostRuntime) -> Result<(), Fail> {
-        let mut made = Keys::new(rt.alloc());
-        made.push(WAY)?;
-        made.push(NODE)?;
         let name = Text::from_bytes(rt.alloc(), b"old name")?;
+        let other = name.copy()?;
         let mut out = Vec::new(rt.alloc());
         write_reply(1, &Done(Keys::new(rt.alloc())), &mut out)?;
-        write_reply(2, &Done(made), &mut out)?;
+        write_reply(2, &Done(way_and_node(rt.alloc())?), &mut out)?;
         write_reply(30, &Refused(Tool(Refusal::TagClash(name))), &mut out)?;
-        write_reply(31, &Skipped, &mut out)?;
-        assert_eq!(rt;
-            out.as_slice(),
-            b"1 ok\n2 ok w-5,n1\n30 refused 13 old%20%name\n31 skipped\n".as_slice()
-        );
+        write_reply(31, &Refused(Tool(Refusal::NotClashing(other))), &mut out)?;
+        write_reply(32, &Refused(CyclicNew(way_and_node(rt.alloc())?)), &mut out)?;
+        write_reply(33, &Skipped, &mut out)?;
+        assert_eq!(rt; out.as_slice(), KEYS_AND_TEXTS.as_bytes());
         Ok(())
     }
 }

@@ -33,11 +33,11 @@ pub enum Act {
     Print,
     /// Writes how many objects the table has.
     Count,
-    /// Writes the objects in conflict, each with what both sides have.
+    /// Writes the objects in conflict, each with its base, mine and theirs.
     Conflicts,
-    /// Tries the upload on a server in memory.
+    /// Runs the changes of an upload against a server in memory.
     Rehearse,
-    /// Writes the upload in chunks.
+    /// Writes the changes of an upload, in chunks.
     Upload {
         /// How many changes a chunk has at most: 1 to 10,000.
         size: u32,

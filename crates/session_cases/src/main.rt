@@ -31,7 +31,7 @@ use running::run_case;
 use std::fs;
 
 /// The bundles of cases, in the order in which they run.
-const BUNDLES: [&str; 10] = [
+const BUNDLES: [&str; 19] = [
     "reading.txt",
     "jobs.txt",
     "groups.txt",
@@ -42,6 +42,15 @@ const BUNDLES: [&str; 10] = [
     "conflicts.txt",
     "coming_back.txt",
     "held.txt",
+    "resolving.txt",
+    "deleted_sides.txt",
+    "parts.txt",
+    "refused_choices.txt",
+    "choices_in_order.txt",
+    "uploads.txt",
+    "deletions_sent.txt",
+    "refused_uploads.txt",
+    "rehearsals.txt",
 ];
 
 fn main(rt: HostRuntime) -> Result<()> {

@@ -25,14 +25,14 @@ changed_up (Known (Gone v n) None d) (inl h) = cc
 changed_up (Known (Gone v n) (Some c) d) (inl h) = refl
 changed_up (Known (Gone v n) m d) (inr h) = cc
 
-changed_down : (e : Entry) → is_falling e ≡ true → is_changed e ≡ true
+pub changed_down : (e : Entry) → is_falling e ≡ true → is_changed e ≡ true
 changed_down Incomplete h = cc
 changed_down (Known New m d) h = cc
 changed_down (Known (Live v b n) None d) h = refl
 changed_down (Known (Live v b n) (Some c) d) h = cc
 changed_down (Known (Gone v n) m d) h = cc
 
-part_changed : (part : Part) (k : Kind) (e : Entry) → is_part part k e ≡ true → is_changed e ≡ true
+pub part_changed : (part : Part) (k : Kind) (e : Entry) → is_part part k e ≡ true → is_changed e ≡ true
 part_changed RisingNodes kind.Node e h = changed_up e (inl h)
 part_changed RisingNodes kind.Way e h = cc
 part_changed RisingNodes kind.Relation e h = cc
@@ -53,11 +53,11 @@ part_changed FallingRelations kind.Node e h = cc
 part_changed FallingRelations kind.Way e h = cc
 part_changed FallingRelations kind.Relation e h = changed_down e h
 
-in_changed : (part : Part) (k : Kind) (o : Option Entry) → option_map_or (is_part part k) o false ≡ true → option_map_or is_changed o false ≡ true
+pub in_changed : (part : Part) (k : Kind) (o : Option Entry) → option_map_or (is_part part k) o false ≡ true → option_map_or is_changed o false ≡ true
 in_changed part k None h = cc
 in_changed part k (Some e) h = part_changed part k e h
 
-or_case : (a b c : Bool) → (a || b) ≡ c → (a ≡ true → false ≡ true) → (b ≡ true → false ≡ true) → false ≡ c
+pub or_case : (a b c : Bool) → (a || b) ≡ c → (a ≡ true → false ≡ true) → (b ≡ true → false ≡ true) → false ≡ c
 or_case true b c e f g = let x = f refl in cc
 or_case false true c e f g = let x = g refl in cc
 or_case false false c e f g = e
@@ -66,7 +66,7 @@ or_case false false c e f g = e
 pub not_sent : (e : Entry) → is_changed e ≡ false → is_sent e ≡ false
 not_sent e h = sym (or_case (is_rising e) (is_update e) (is_sent e) refl (λ r. sym h ∙ changed_up e (inl r)) (λ u. sym h ∙ changed_up e (inr u)))
 
-keep_case : (p q : Bool) (k : Key) (xs ys : List Key) (test : Key → Bool) → test k ≡ p → (p ≡ true → q ≡ true) → filter test xs ≡ ys → filter test (cond q (k ∷ xs) xs) ≡ cond p (k ∷ ys) ys
+pub keep_case : (p q : Bool) (k : Key) (xs ys : List Key) (test : Key → Bool) → test k ≡ p → (p ≡ true → q ≡ true) → filter test xs ≡ ys → filter test (cond q (k ∷ xs) xs) ≡ cond p (k ∷ ys) ys
 keep_case p true k xs ys test is h e = λ i. cond (is i) (k ∷ e i) (e i)
 keep_case true false k xs ys test is h e = let x = h refl in cc
 keep_case false false k xs ys test is h e = e

@@ -20,11 +20,11 @@ use Rattle.upload_order.proofs.Lists.{any_is}
 use Rattle.upload_order.proofs.PlanUps.{and_both, content_is}
 use Rattle.upload_order.proofs.Conditions.{IsVouched}
 
-or_none : {A : Type 0} (a b : Option A) → option_or a b ≡ None → (a ≡ None) × (b ≡ None)
+pub or_none : {A : Type 0} (a b : Option A) → option_or a b ≡ None → (a ≡ None) × (b ≡ None)
 or_none None b e = (refl, e)
 or_none (Some x) b e = cc
 
-map_none : {A B : Type 0} (f : A → B) (o : Option A) → option_map f o ≡ None → o ≡ None
+pub map_none : {A B : Type 0} (f : A → B) (o : Option A) → option_map f o ≡ None → o ≡ None
 map_none f None e = refl
 map_none f (Some x) e = cc
 
@@ -32,29 +32,29 @@ abbrev of_ok : Result (List Change) PlanRefusal → List Change
 of_ok (Ok xs) = xs
 of_ok (Err r) = []
 
-unless_ok : (o : Option PlanRefusal) (ps cs : List Change) → unless o ps ≡ Ok cs → (o ≡ None) × (cs ≡ ps)
+pub unless_ok : (o : Option PlanRefusal) (ps cs : List Change) → unless o ps ≡ Ok cs → (o ≡ None) × (cs ≡ ps)
 unless_ok None ps cs e = (refl, sym (ap of_ok e))
 unless_ok (Some r) ps cs e = cc
 
-not_stuck : (ks : List Key) → stuck_of ks ≡ None → ks ≡ []
+pub not_stuck : (ks : List Key) → stuck_of ks ≡ None → ks ≡ []
 not_stuck [] e = refl
 not_stuck (k ∷ ks) e = cc
 
-none_among : (loose : Key → Bool) (t : TableValue) (ks : List Key) (k : Key) → loose_among loose t ks ≡ None → IsIn k ks → loose_of loose t k ≡ None
+pub none_among : (loose : Key → Bool) (t : TableValue) (ks : List Key) (k : Key) → loose_among loose t ks ≡ None → IsIn k ks → loose_of loose t k ≡ None
 none_among loose t [] k e i = absurd i
 none_among loose t (j ∷ js) k e (inl s) = subst (λ (x : Key). loose_of loose t x ≡ None) s (map_none (IncompleteRef j) (loose_of loose t j) (or_none _ _ e).0)
 none_among loose t (j ∷ js) k e (inr i) = none_among loose t js k (or_none _ _ e).1 i
 
-sent_is : (e : Entry) → (is_rising e ≡ true) ⊎ (is_update e ≡ true) → is_sent e ≡ true
+pub sent_is : (e : Entry) → (is_rising e ≡ true) ⊎ (is_update e ≡ true) → is_sent e ≡ true
 sent_is e (inl h) = or_left (is_rising e) (is_update e) h
 sent_is e (inr h) = or_right (is_rising e) (is_update e) h
 
-and_not : (a b : Bool) → (a && not b) ≡ false → a ≡ true → b ≡ true
+pub and_not : (a b : Bool) → (a && not b) ≡ false → a ≡ true → b ≡ true
 and_not true true e f = refl
 and_not true false e f = cc
 and_not false b e f = cc
 
-entry_is : (r : Key) (o : Option Entry) → option_map_or (λ e. vouches e r) o false ≡ true → (e : Entry) × (o ≡ Some e) × (vouches e r ≡ true)
+pub entry_is : (r : Key) (o : Option Entry) → option_map_or (λ e. vouches e r) o false ≡ true → (e : Entry) × (o ≡ Some e) × (vouches e r ≡ true)
 entry_is r None h = cc
 entry_is r (Some e) h = (e, refl, h)
 

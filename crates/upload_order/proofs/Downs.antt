@@ -55,11 +55,11 @@ falling_held (Known New m d) h = cc
 falling_held (Known (Live v b n) m d) h = (b, refl)
 falling_held (Known (Gone v n) m d) h = cc
 
-left_on : (b : Bool) (x o : Option Bool) → b ≡ true → cond b x o ≡ x
+pub left_on : (b : Bool) (x o : Option Bool) → b ≡ true → cond b x o ≡ x
 left_on true x o e = refl
 left_on false x o e = cc
 
-left_off : (b : Bool) (x o : Option Bool) → b ≡ false → cond b x o ≡ o
+pub left_off : (b : Bool) (x o : Option Bool) → b ≡ false → cond b x o ≡ o
 left_off true x o e = cc
 left_off false x o e = refl
 

@@ -1,37 +1,37 @@
 mod WaitingLaws
-mod Keys
+pub mod Keys
 mod Counted
-mod Peeling
+pub mod Peeling
 mod Starting
-mod Users
-mod Sets
-mod FallSteps
+pub mod Users
+pub mod Sets
+pub mod FallSteps
 mod FallCounts
 mod FallTurns
 mod FallStart
-mod Versions
-mod Changed
-mod Vouching
-mod Parts
+pub mod Versions
+pub mod Changed
+pub mod Vouching
+pub mod Parts
 pub mod Basics
-mod Conditions
+pub mod Conditions
 pub mod Entries
-mod Lists
-mod Where
+pub mod Lists
+pub mod Where
 pub mod Renaming
-mod Fitting
+pub mod Fitting
 pub mod Worlds
-mod Static
-mod Along
-mod AlongStep
-mod Ups
-mod Downs
-mod Turn
-mod Peel
-mod PlanUps
-mod PlanDowns
+pub mod Static
+pub mod Along
+pub mod AlongStep
+pub mod Ups
+pub mod Downs
+pub mod Turn
+pub mod Peel
+pub mod PlanUps
+pub mod PlanDowns
 pub mod Runs
-mod Sounds
-mod ClearLaw
+pub mod Sounds
+pub mod ClearLaw
 pub mod Accepted
 mod Examples

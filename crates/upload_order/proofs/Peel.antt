@@ -21,7 +21,7 @@ abbrev pub all_with : List Key → (Key → Bool) → Key → Bool
 all_with [] done = done
 all_with (k ∷ ks) done = all_with ks (with_key k done)
 
-with_done : (k q : Key) (done : Key → Bool) → done q ≡ true → with_key k done q ≡ true
+pub with_done : (k q : Key) (done : Key → Bool) → done q ≡ true → with_key k done q ≡ true
 with_done k q done h = elim (is_key q k) as (λ b. cond b true (done q) ≡ true) [ true ↦ refl | false ↦ h ]
 
 pub all_done : (ks : List Key) (done : Key → Bool) (q : Key) → done q ≡ true → all_with ks done q ≡ true
@@ -33,7 +33,7 @@ all_in [] done q i = absurd i
 all_in (k ∷ ks) done q (inl e) = all_done ks (with_key k done) q (ap (λ b. cond b true (done q)) (key_same q k (sym e)))
 all_in (k ∷ ks) done q (inr i) = all_in ks (with_key k done) q i
 
-with_cases : (b d : Bool) → cond b true d ≡ true → (b ≡ true) ⊎ (d ≡ true)
+pub with_cases : (b d : Bool) → cond b true d ≡ true → (b ≡ true) ⊎ (d ≡ true)
 with_cases true d e = inl refl
 with_cases false d e = inr e
 
@@ -44,7 +44,7 @@ all_cases (k ∷ ks) done q h = elim (all_cases ks (with_key k done) q h) [
   | inr d ↦ (elim (with_cases (is_key q k) (done q) d) [ inl e ↦ inl (inl (sym (one_key q k e))) | inr e ↦ inr e ])
 ]
 
-not_with : (k q : Key) (done : Key → Bool) → (k ≡ q → ⊥) → done q ≡ false → with_key k done q ≡ false
+pub not_with : (k q : Key) (done : Key → Bool) → (k ≡ q → ⊥) → done q ≡ false → with_key k done q ≡ false
 not_with k q done n h = elim (decide (is_key q k)) [ inl e ↦ absurd (n (sym (one_key q k e))) | inr e ↦ ap (λ b. cond b true (done q)) e ∙ h ]
 
 module _ (t : TableValue) where
@@ -56,7 +56,7 @@ module _ (t : TableValue) where
   abbrev pub IsAfter : (Key → Bool) → Key → Type 0
   IsAfter done k = (r : Key) → mine_refers t k r ≡ true → at_key t is_rising r ≡ true → done r ≡ true
 
-  refers_mine : (k r : Key) (e : Entry) (c : Content) → IsUp t k e c → mine_refers t k r ≡ refers c r
+  pub refers_mine : (k r : Key) (e : Entry) (c : Content) → IsUp t k e c → mine_refers t k r ≡ refers c r
   refers_mine k r e c u = ap (λ o. content_refers (mine_at o) r) u.entry ∙ ap (λ o. content_refers o r) u.mine
 
   -- keys that need nothing of each other, in any order
@@ -67,15 +67,15 @@ module _ (t : TableValue) where
       next done (all_with ks (with_key k done)) k ks x.0.0 x.0.1 x.0.2 x.1 (λ r a b. x.2 r (refers_mine k r x.0.0 x.0.1 x.0.2 ∙ a) b)
       (part_ordered ks (with_key k done) d.1 (λ j i. let y = h j (inr i) in (y.0, not_with k j done (λ e. d.0 (subst (λ (z : Key). IsIn z ks) (sym e) i)) y.1, λ r a b. with_done k r done (y.2 r a b))))
 
-  not_ready : (b : Bool) → not b ≡ true → b ≡ false
+  pub not_ready : (b : Bool) → not b ≡ true → b ≡ false
   not_ready true e = cc
   not_ready false e = refl
 
-  is_not : (b : Bool) → not b ≡ false → b ≡ true
+  pub is_not : (b : Bool) → not b ≡ false → b ≡ true
   is_not true e = refl
   is_not false e = cc
 
-  not_is : (b : Bool) → b ≡ true → not b ≡ false
+  pub not_is : (b : Bool) → b ≡ true → not b ≡ false
   not_is true e = refl
   not_is false e = cc
 

@@ -39,15 +39,15 @@ record IsList (t : TableValue) (left : Left) (items : List Item) : Type 0 where
   listed : (k : Key) (b : Bool) → k.kind ≡ kind.Relation → left k ≡ Some b → IsIn (k, b) items
   lefts : (i : Item) → IsIn i items → left i.0 ≡ Some i.1
 
-not_true : (b : Bool) → not b ≡ true → b ≡ false
+pub not_true : (b : Bool) → not b ≡ true → b ≡ false
 not_true true e = cc
 not_true false e = refl
 
-is_not : (b : Bool) → not b ≡ false → b ≡ true
+pub is_not : (b : Bool) → not b ≡ false → b ≡ true
 is_not true e = refl
 is_not false e = cc
 
-not_is : (b : Bool) → b ≡ true → not b ≡ false
+pub not_is : (b : Bool) → b ≡ true → not b ≡ false
 not_is true e = refl
 not_is false e = cc
 
@@ -59,7 +59,7 @@ drop_head : (b : Bool) (i : Item) (xs ys : List Item) → weight ys ≤ weight x
 drop_head true i xs ys h = omega (arith, h)
 drop_head false i xs ys h = omega (arith, h)
 
-drop_most : (test : Item → Bool) (xs : List Item) → weight (filter test xs) ≤ weight xs
+pub drop_most : (test : Item → Bool) (xs : List Item) → weight (filter test xs) ≤ weight xs
 drop_most test [] = omega arith
 drop_most test (i ∷ xs) = drop_head (test i) i xs (filter test xs) (drop_most test xs)
 
@@ -76,12 +76,12 @@ lighter_drop test [] i n e = absurd n
 lighter_drop test (j ∷ xs) i (inl s) e = drop_here (test j) j xs (filter test xs) (ap test s ∙ e) (drop_most test xs)
 lighter_drop test (j ∷ xs) i (inr n) e = drop_there (test j) j xs (filter test xs) (lighter_drop test xs i n e)
 
-less_worth : (b c : Bool) → worth (cond b true c) ≤ worth c
+pub less_worth : (b c : Bool) → worth (cond b true c) ≤ worth c
 less_worth true true = omega arith
 less_worth true false = omega arith
 less_worth false c = omega arith
 
-mark_most : (k : Key) (xs : List Item) → weight (map (emptied k) xs) ≤ weight xs
+pub mark_most : (k : Key) (xs : List Item) → weight (map (emptied k) xs) ≤ weight xs
 mark_most k [] = omega arith
 mark_most k (i ∷ xs) = omega (arith, mark_most k xs, less_worth (is_key i.0 k) i.1)
 
@@ -95,15 +95,15 @@ lighter_mark k [] i n e f = absurd n
 lighter_mark k (j ∷ xs) i (inl s) e f = omega (arith, mark_most k xs, mark_worth (is_key j.0 k) j.1 (key_same j.0 k (ap (λ (x : Item). x.0) s ∙ e)) (ap (λ (x : Item). x.1) s ∙ f))
 lighter_mark k (j ∷ xs) i (inr n) e f = omega (arith, lighter_mark k xs i n e f, less_worth (is_key j.0 k) j.1)
 
-left_on : (b : Bool) (x o : Option Bool) → b ≡ true → cond b x o ≡ x
+pub left_on : (b : Bool) (x o : Option Bool) → b ≡ true → cond b x o ≡ x
 left_on true x o e = refl
 left_on false x o e = cc
 
-left_off : (b : Bool) (x o : Option Bool) → b ≡ false → cond b x o ≡ o
+pub left_off : (b : Bool) (x o : Option Bool) → b ≡ false → cond b x o ≡ o
 left_off true x o e = cc
 left_off false x o e = refl
 
-some_one : (b c : Bool) → Some b ≡ Some c → b ≡ c
+pub some_one : (b c : Bool) → Some b ≡ Some c → b ≡ c
 some_one b c e = both b c (Some b) refl e
 
 module _ (t : TableValue) (s : Sound t) where
@@ -143,14 +143,14 @@ module _ (t : TableValue) (s : Sound t) where
     mark_left true b o e = refl
     mark_left false b o e = e
 
-  held_is : (u : Key) (f : Entry) (c : Content) (r : Key) → entry_of t u ≡ Some f → held_of f ≡ Some c → held_refers t u r ≡ refers c r
+  pub held_is : (u : Key) (f : Entry) (c : Content) (r : Key) → entry_of t u ≡ Some f → held_of f ≡ Some c → held_refers t u r ≡ refers c r
   held_is u f c r h g = ap (λ o. content_refers (held_at o) r) h ∙ ap (λ o. content_refers o r) g
 
-  not_is_true : (b : Bool) → (b ≡ true → ⊥) → b ≡ false
+  pub not_is_true : (b : Bool) → (b ≡ true → ⊥) → b ≡ false
   not_is_true true h = absurd (h refl)
   not_is_true false h = refl
 
-  apart_kinds : {P : Type 0} (a b c : Kind) → c ≡ a → c ≡ b → kind_is a b ≡ false → P
+  pub apart_kinds : {P : Type 0} (a b c : Kind) → c ≡ a → c ≡ b → kind_is a b ≡ false → P
   apart_kinds a b c e f n = true_false (kind_is a b) (subst (λ (x : Kind). kind_is a x ≡ true) (sym e ∙ f) (kind_self a)) n
 
   data Kinds (a : Kind) : Type 0 where
@@ -164,7 +164,7 @@ module _ (t : TableValue) (s : Sound t) where
   kinds kind.Relation = is_relation refl
 
   -- a way or a node refers to no relation
-  low_free : (u k : Key) (f : Entry) (c : Content) → (u.kind ≡ kind.Relation → ⊥) → k.kind ≡ kind.Relation → entry_of t u ≡ Some f → held_of f ≡ Some c → refers c k ≡ false
+  pub low_free : (u k : Key) (f : Entry) (c : Content) → (u.kind ≡ kind.Relation → ⊥) → k.kind ≡ kind.Relation → entry_of t u ≡ Some f → held_of f ≡ Some c → refers c k ≡ false
   low_free u k f c n e h g = not_is_true (refers c k) (λ r. elim (kinds u.kind) [
     | is_node x ↦ node_refs c k (s.kinds u f c h (inr g) ∙ x) r
     | is_way x ↦ apart_kinds kind.Node kind.Relation k.kind (way_refs c k (s.kinds u f c h (inr g) ∙ x) r) e refl
@@ -270,13 +270,13 @@ module _ (t : TableValue) (s : Sound t) where
   downs_more left mid last ds es (clear l m k fs e x y z a) b = clear l last k (fs ++ es) e x y z (downs_more (set_left k (Some true) l) m last fs es a b)
   downs_more left mid last ds es (remove l m k c fs e x y z w a) b = remove l last k c (fs ++ es) e x y z w (downs_more (set_left k None l) m last fs es a b)
 
-  fallen : (kd : Kind) (k : Key) → IsIn k (keys_where t (falling_of kd)) → (at_key t is_falling k ≡ true) × (k.kind ≡ kd)
+  pub fallen : (kd : Kind) (k : Key) → IsIn k (keys_where t (falling_of kd)) → (at_key t is_falling k ≡ true) × (k.kind ≡ kd)
   fallen kd k i =
       let x = in_where t (falling_of kd) k i in
       let h = falling_both kd k.kind x.0 x.2 in
       (at_is t is_falling k x.0 true x.1 h.1, h.0)
 
-  falling_in : (kd : Kind) (k : Key) → k.kind ≡ kd → at_key t is_falling k ≡ true → IsIn k (keys_where t (falling_of kd))
+  pub falling_in : (kd : Kind) (k : Key) → k.kind ≡ kd → at_key t is_falling k ≡ true → IsIn k (keys_where t (falling_of kd))
   falling_in kd k e h =
       let p = passed is_falling (entry_of t k) h in
       where_in t (falling_of kd) k p.0 p.1 (subst (λ (x : Kind). falling_of kd (record { kind = x; id = k.id }) p.0 ≡ true) (sym e) (falling_self kd p.0 p.2))

@@ -68,7 +68,7 @@ pub content_is : (o : Option Content) (r : Key) → content_refers o r ≡ true 
 content_is None r e = cc
 content_is (Some c) r e = (c, refl, e)
 
-entry_is : (o : Option Entry) (c : Content) → mine_at o ≡ Some c → (e : Entry) × (o ≡ Some e) × (mine_of e ≡ Some c)
+pub entry_is : (o : Option Entry) (c : Content) → mine_at o ≡ Some c → (e : Entry) × (o ≡ Some e) × (mine_of e ≡ Some c)
 entry_is None c e = cc
 entry_is (Some f) c e = (f, refl, e)
 
@@ -115,29 +115,29 @@ module _ (t : TableValue) (s : Sound t) where
   ups_done = all_with updates relations_done
 
   -- what a reference of a mine is
-  mine_ref : (k r : Key) → mine_refers t k r ≡ true → (c : Content) × (kind_of_content c ≡ k.kind) × (refers c r ≡ true)
+  pub mine_ref : (k r : Key) → mine_refers t k r ≡ true → (c : Content) × (kind_of_content c ≡ k.kind) × (refers c r ≡ true)
   mine_ref k r h =
       let x = content_is (mine_at (entry_of t k)) r h in
       let e = entry_is (entry_of t k) x.0 x.1 in
       (x.0, s.kinds k e.0 x.0 e.1 (inl e.2), x.2)
 
-  risen : (kd : Kind) (k : Key) → IsIn k (keys_where t (rising_of kd)) → ((e : Entry) × (c : Content) × IsUp t k e c) × (k.kind ≡ kd) × (at_key t is_rising k ≡ true)
+  pub risen : (kd : Kind) (k : Key) → IsIn k (keys_where t (rising_of kd)) → ((e : Entry) × (c : Content) × IsUp t k e c) × (k.kind ≡ kd) × (at_key t is_rising k ≡ true)
   risen kd k i =
       let x = in_where t (rising_of kd) k i in
       let h = rising_both kd k.kind x.0 x.2 in
       let m = rising_mine x.0 h.1 (λ n j. (s.negative k x.0 x.1 n j).1) in
       ((x.0, m.0, record { entry = x.1; mine = m.1; up = inl h.1 }), h.0, at_is t is_rising k x.0 true x.1 h.1)
 
-  rising_in : (k : Key) → at_key t is_rising k ≡ true → IsIn k (keys_where t (rising_of k.kind))
+  pub rising_in : (k : Key) → at_key t is_rising k ≡ true → IsIn k (keys_where t (rising_of k.kind))
   rising_in k h = let p = passed is_rising (entry_of t k) h in where_in t (rising_of k.kind) k p.0 p.1 (rising_self k.kind p.0 p.2)
 
-  rising_at : (kd : Kind) (k : Key) → k.kind ≡ kd → at_key t is_rising k ≡ true → IsIn k (keys_where t (rising_of kd))
+  pub rising_at : (kd : Kind) (k : Key) → k.kind ≡ kd → at_key t is_rising k ≡ true → IsIn k (keys_where t (rising_of kd))
   rising_at kd k e h = subst (λ (x : Kind). IsIn k (keys_where t (rising_of x))) e (rising_in k h)
 
-  apart_kinds : {P : Type 0} (a b c : Kind) → c ≡ a → c ≡ b → kind_is a b ≡ false → P
+  pub apart_kinds : {P : Type 0} (a b c : Kind) → c ≡ a → c ≡ b → kind_is a b ≡ false → P
   apart_kinds a b c e f n = true_false (kind_is a b) (subst (λ (x : Kind). kind_is a x ≡ true) (sym e ∙ f) (kind_self a)) n
 
-  not_false : (b : Bool) → (b ≡ true → ⊥) → b ≡ false
+  pub not_false : (b : Bool) → (b ≡ true → ⊥) → b ≡ false
   not_false true h = absurd (h refl)
   not_false false h = refl
 
@@ -147,7 +147,7 @@ module _ (t : TableValue) (s : Sound t) where
   ways_only : (k : Key) → ways_done k ≡ true → (k.kind ≡ kind.Node) ⊎ (k.kind ≡ kind.Way)
   ways_only k h = elim (all_cases ways nodes_done k h) [ inl i ↦ inr (risen kind.Way k i).1 | inr i ↦ inl (nodes_only k i) ]
 
-  only_rising : (k : Key) → relations_done k ≡ true → at_key t is_rising k ≡ true
+  pub only_rising : (k : Key) → relations_done k ≡ true → at_key t is_rising k ≡ true
   only_rising k h = elim (all_cases order ways_done k h) [
     | inl i ↦ (risen kind.Relation k (peel_from t (length (keys_where t (rising_of kind.Relation))) (keys_where t (rising_of kind.Relation)) k i)).2
     | inr i ↦ (elim (all_cases ways nodes_done k i) [
@@ -198,7 +198,7 @@ module _ (t : TableValue) (s : Sound t) where
       ])
 
   module _ (clear : (made t).stuck ≡ []) where
-    rising_done : (k : Key) → at_key t is_rising k ≡ true → relations_done k ≡ true
+    pub rising_done : (k : Key) → at_key t is_rising k ≡ true → relations_done k ≡ true
     rising_done k h = elim (kinds k.kind) [
       | is_node e ↦ all_done order ways_done k (all_done ways nodes_done k (node_done k e h))
       | is_way e ↦ all_done order ways_done k (way_done k e h)

@@ -19,52 +19,52 @@ use Rattle.upload_order.proofs.Entries.{IsIn, any_in}
 use Rattle.upload_order.specs.Bases.{base_in, is_based}
 use Rattle.upload_order.proofs.Conditions.{Sound}
 
-there_case : (o : Option Entry) → IsThere o → (option_map_or is_incomplete o false ≡ true) ⊎ ((f : Entry) × (d : Content) × (o ≡ Some f) × (mine_of f ≡ Some d))
+pub there_case : (o : Option Entry) → IsThere o → (option_map_or is_incomplete o false ≡ true) ⊎ ((f : Entry) × (d : Content) × (o ≡ Some f) × (mine_of f ≡ Some d))
 there_case None h = absurd h
 there_case (Some Incomplete) h = inl refl
 there_case (Some (Known b None d)) h = let e : false ≡ true = h in cc
 there_case (Some (Known b (Some c) d)) h = inr (Known b (Some c) d, c, refl, refl)
 
-if_content : (P : Content → Type 0) (o : Option Content) (c : Content) → o ≡ Some c → IfContent o P → P c
+pub if_content : (P : Content → Type 0) (o : Option Content) (c : Content) → o ≡ Some c → IfContent o P → P c
 if_content P o c e h = subst (λ (x : Option Content). IfContent x P) e h
 
-positive_is : (i : ℤ) → IsPositive i → is_positive i ≡ true
+pub positive_is : (i : ℤ) → IsPositive i → is_positive i ≡ true
 positive_is (pos n) h = lt-ltb 0 n (omega (arith, h.0))
 positive_is (negsuc n) h = absurd h
 
-given_is : (n : ℕ) (i : ℤ) → IsGiven n i → is_positive i ≡ false
+pub given_is : (n : ℕ) (i : ℤ) → IsGiven n i → is_positive i ≡ false
 given_is n (pos i) h = absurd h
 given_is n (negsuc i) h = refl
 
-some_is : (o : Option Content) → IsSome o → (c : Content) × (o ≡ Some c)
+pub some_is : (o : Option Content) → IsSome o → (c : Content) × (o ≡ Some c)
 some_is None h = let e : false ≡ true = h in cc
 some_is (Some c) h = (c, refl)
 
-all_in : (P : Key → Type 0) (ks : List Key) (r : Key) → AllByRecursion P ks → IsIn r ks → P r
+pub all_in : (P : Key → Type 0) (ks : List Key) (r : Key) → AllByRecursion P ks → IsIn r ks → P r
 all_in P [] r h i = absurd i
 all_in P (k ∷ ks) r h (inl e) = subst P e h.0
 all_in P (k ∷ ks) r h (inr i) = all_in P ks r h.1 i
 
-kinds_case : (n : ℕ) (k : Key) (e : Entry) (c : Content) → IsSoundEntry n k e → (mine_of e ≡ Some c) ⊎ (held_of e ≡ Some c) → kind_of_content c ≡ k.kind
+pub kinds_case : (n : ℕ) (k : Key) (e : Entry) (c : Content) → IsSoundEntry n k e → (mine_of e ≡ Some c) ⊎ (held_of e ≡ Some c) → kind_of_content c ≡ k.kind
 kinds_case n k Incomplete c s (inl h) = cc
 kinds_case n k Incomplete c s (inr h) = cc
 kinds_case n k (Known b m d) c s (inl h) = if_content (λ c. kind_of_content c ≡ k.kind) m c h s.kinds.1
 kinds_case n k (Known b m d) c s (inr h) = if_content (λ c. kind_of_content c ≡ k.kind) (held_by b) c h s.kinds.0
 
-positive_case : (n : ℕ) (k : Key) (e : Entry) → IsSoundEntry n k e → (is_incomplete e ≡ true) ⊎ (is_based e ≡ true) → is_positive k.id ≡ true
+pub positive_case : (n : ℕ) (k : Key) (e : Entry) → IsSoundEntry n k e → (is_incomplete e ≡ true) ⊎ (is_based e ≡ true) → is_positive k.id ≡ true
 positive_case n k Incomplete s h = positive_is k.id s.id
 positive_case n k (Known New m d) s (inl h) = cc
 positive_case n k (Known New m d) s (inr h) = cc
 positive_case n k (Known (Live v b x) m d) s h = positive_is k.id s.id
 positive_case n k (Known (Gone v x) m d) s h = positive_is k.id s.id
 
-negative_case : (n : ℕ) (k : Key) (e : Entry) → IsSoundEntry n k e → is_new (base_in e) ≡ true → is_incomplete e ≡ false → (is_positive k.id ≡ false) × ((c : Content) × (mine_of e ≡ Some c))
+pub negative_case : (n : ℕ) (k : Key) (e : Entry) → IsSoundEntry n k e → is_new (base_in e) ≡ true → is_incomplete e ≡ false → (is_positive k.id ≡ false) × ((c : Content) × (mine_of e ≡ Some c))
 negative_case n k Incomplete s h i = cc
 negative_case n k (Known New m d) s h i = (given_is n k.id s.id.0, some_is m s.id.1)
 negative_case n k (Known (Live v b x) m d) s h i = cc
 negative_case n k (Known (Gone v x) m d) s h i = cc
 
-held_case : (n : ℕ) (k r : Key) (e : Entry) (c : Content) → IsSoundEntry n k e → held_of e ≡ Some c → refers c r ≡ true → is_positive r.id ≡ true
+pub held_case : (n : ℕ) (k r : Key) (e : Entry) (c : Content) → IsSoundEntry n k e → held_of e ≡ Some c → refers c r ≡ true → is_positive r.id ≡ true
 held_case n k r Incomplete c s h f = cc
 held_case n k r (Known b m d) c s h f = positive_is r.id (all_in (λ r. IsPositive r.id) (refs_of c) r (if_content (λ c. AllByRecursion (λ r. IsPositive r.id) (refs_of c)) (held_by b) c h s.server.0) (any_in (refs_of c) r f))
 

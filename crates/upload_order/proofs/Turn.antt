@@ -25,7 +25,7 @@ use Rattle.std.specs.Option.{option_map_or}
 use Rattle.upload_order.specs.Bases.{base_in, is_based}
 use Rattle.upload_order.proofs.Conditions.{Sound, IsVouched}
 
-same_law : (a b : Content) → same_content a b ≡ true → a ≡ b
+pub same_law : (a b : Content) → same_content a b ≡ true → a ≡ b
 same_law a b h = (same_content_decides a b).0 h
 
 pub along_start : (t : TableValue) (w0 : World) → Holds w0 t → Along t w0 w0 (λ _. false)
@@ -45,7 +45,7 @@ pub data Class (e : Entry) : Type 0 where
   falls : is_falling e ≡ true → mine_of e ≡ None → Class e
   off : is_based e ≡ true → mine_of e ≡ None → held_of e ≡ None → Class e
 
-not_changed : (b : Bool) → not b ≡ false → b ≡ true
+pub not_changed : (b : Bool) → not b ≡ false → b ≡ true
 not_changed true h = refl
 not_changed false h = cc
 
@@ -66,7 +66,7 @@ pub class_at : (t : TableValue) → Sound t → (k : Key) (e : Entry) → entry_
 class_at t s k e h = class e (λ n i. let g = s.negative k e h n i in g.1)
 
 -- an entry that is to be created or changed isn't falling
-up_stays : (e : Entry) → (is_rising e ≡ true) ⊎ (is_update e ≡ true) → is_falling e ≡ false
+pub up_stays : (e : Entry) → (is_rising e ≡ true) ⊎ (is_update e ≡ true) → is_falling e ≡ false
 up_stays Incomplete h = refl
 up_stays (Known New m d) h = refl
 up_stays (Known (Live v b n) None d) (inl h) = cc
@@ -74,14 +74,14 @@ up_stays (Known (Live v b n) None d) (inr h) = cc
 up_stays (Known (Live v b n) (Some c) d) h = refl
 up_stays (Known (Gone v n) m d) h = refl
 
-mine_stays : (e : Entry) (c : Content) → mine_of e ≡ Some c → is_falling e ≡ false
+pub mine_stays : (e : Entry) (c : Content) → mine_of e ≡ Some c → is_falling e ≡ false
 mine_stays Incomplete c h = refl
 mine_stays (Known New m d) c h = refl
 mine_stays (Known (Live v b n) None d) c h = cc
 mine_stays (Known (Live v b n) (Some x) d) c h = refl
 mine_stays (Known (Gone v n) m d) c h = refl
 
-incomplete_stays : (e : Entry) → is_incomplete e ≡ true → is_falling e ≡ false
+pub incomplete_stays : (e : Entry) → is_incomplete e ≡ true → is_falling e ≡ false
 incomplete_stays Incomplete h = refl
 incomplete_stays (Known b m d) h = cc
 
@@ -91,15 +91,15 @@ not_update (Known New m d) h = refl
 not_update (Known (Live v b n) m d) h = cc
 not_update (Known (Gone v n) m d) h = refl
 
-idle : (e : Entry) → is_rising e ≡ false → is_update e ≡ false → (is_rising e ≡ true) ⊎ (is_update e ≡ true) → ⊥
+pub idle : (e : Entry) → is_rising e ≡ false → is_update e ≡ false → (is_rising e ≡ true) ⊎ (is_update e ≡ true) → ⊥
 idle e r u (inl h) = true_false (is_rising e) h r
 idle e r u (inr h) = true_false (is_update e) h u
 
-known_mine : (e : Entry) → is_known e ≡ true → is_incomplete e ≡ false
+pub known_mine : (e : Entry) → is_known e ≡ true → is_incomplete e ≡ false
 known_mine Incomplete h = cc
 known_mine (Known b m d) h = refl
 
-based_known : (e : Entry) → is_based e ≡ true → is_known e ≡ true
+pub based_known : (e : Entry) → is_based e ≡ true → is_known e ≡ true
 based_known Incomplete h = cc
 based_known (Known b m d) h = refl
 
@@ -111,12 +111,12 @@ to_go false = None
 abbrev pub start_left : TableValue → Left
 start_left t k = to_go (at_key t is_falling k)
 
-to_go_some : (a b : Bool) → to_go a ≡ Some b → (a ≡ true) × (b ≡ false)
+pub to_go_some : (a b : Bool) → to_go a ≡ Some b → (a ≡ true) × (b ≡ false)
 to_go_some true true h = cc
 to_go_some true false h = (refl, refl)
 to_go_some false b h = cc
 
-to_go_none : (a : Bool) → to_go a ≡ None → a ≡ false
+pub to_go_none : (a : Bool) → to_go a ≡ None → a ≡ false
 to_go_none true h = cc
 to_go_none false h = refl
 

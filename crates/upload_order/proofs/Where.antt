@@ -74,14 +74,14 @@ falling_self kind.Node e h = h
 falling_self kind.Way e h = h
 falling_self kind.Relation e h = h
 
-distinct_rising : (ks : List Key) → T (rises ks) → AreDistinct ks
+pub distinct_rising : (ks : List Key) → T (rises ks) → AreDistinct ks
 distinct_rising [] r = tt
 distinct_rising (k ∷ ks) r = (λ i. let e : false ≡ true = sym (head_once k ks r) ∙ in_any ks k i in cc, distinct_rising ks (rises_tail k ks r))
 
 pub distinct_where : (t : TableValue) (test : Key → Entry → Bool) → AreDistinct (keys_where t test)
 distinct_where t test = distinct_filter (λ k. option_map_or (test k) (entry_of t k) false) (keys_by_rank t) (distinct_rising (keys_by_rank t) (rises_keys t.entries))
 
-entry_case : (p : Entry → Bool) (o : Option Entry) → option_map_or p o false ≡ true → (e : Entry) × (o ≡ Some e) × (p e ≡ true)
+pub entry_case : (p : Entry → Bool) (o : Option Entry) → option_map_or p o false ≡ true → (e : Entry) × (o ≡ Some e) × (p e ≡ true)
 entry_case p None h = cc
 entry_case p (Some e) h = (e, refl, h)
 

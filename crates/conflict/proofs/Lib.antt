@@ -1,0 +1,5 @@
+mod Chosen
+mod Entered
+mod Plans
+mod Settled
+mod Sounds
