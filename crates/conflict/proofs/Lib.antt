@@ -1,5 +1,6 @@
 mod Chosen
 mod Entered
+mod Examples
 mod Plans
 mod Settled
 mod Sounds

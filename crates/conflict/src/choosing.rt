@@ -248,12 +248,9 @@ mod tests {
     // Whether a choice makes a way with these values, over the base that the server has now.
     fn makes(alloc: Global, choice: Choice, a: &str, b: &str) -> Result<bool, Fail> {
         let wanted = way(alloc, a, b)?;
-        match resolved(alloc, &choice, &disputed(alloc)?)? {
-            Entry::Known {
-                base,
-                mine: Some(mine),
-                conflict: None,
-            } => Ok(same(&mine, &wanted) && base.version() == 2),
+        let after = SharedEntry::new(alloc, resolved(alloc, &choice, &disputed(alloc)?)?)?;
+        match (after.mine(), after.base(), after.conflict()) {
+            (Some(mine), Some(base), None) => Ok(same(mine, &wanted) && base.version() == 2),
             _ => Ok(false),
         }
     }
