@@ -1,1 +1,4 @@
 mod Indexing
+mod Naming
+mod Freeness
+mod Based

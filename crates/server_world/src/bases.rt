@@ -1,5 +1,5 @@
 //! The world that has the bases of a data set.
-ghost use Rattle.std.specs.Prelude.{◌≡◌, false, map, IfOk, OnOk};
+ghost use Rattle.std.specs.Prelude.{◌≡◌, pos, false, map, IfOk, OnOk};
 ghost use Rattle.std.specs.Option.{option_copied, option_map_or};
 ghost use Rattle.osm_base.specs.Content.{node, refs_of};
 ghost use Rattle.osm_base.specs.declared.key.Key.{Key};
@@ -210,7 +210,7 @@ fn empty_content(alloc: Global, kind: Kind) -> Content
     match kind {
         Kind::Node => Content::Node {
             tags,
-            at: Coord { lon: 0, lat: 0 },
+            at: origin(),
         },
         Kind::Way => Content::Way {
             tags,
@@ -221,4 +221,12 @@ fn empty_content(alloc: Global, kind: Kind) -> Content
             members: Members::new(alloc),
         },
     }
+}
+
+/// The place at 0 0.
+fn origin() -> Coord
+    ensures lon { result.lon ≡ pos 0 }
+    ensures lat { result.lat ≡ pos 0 }
+{
+    Coord { lon: 0, lat: 0 }
 }
