@@ -2,3 +2,4 @@ mod Indexing
 mod Naming
 mod Freeness
 mod Based
+mod Rehearsals

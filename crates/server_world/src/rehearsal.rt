@@ -49,6 +49,7 @@ pub fn rehearse(ds: &DataSet, changes: &Changes) -> Result<Rehearsal, AllocError
     // The plan of the data set is accepted, whether what was downloaded agrees or not.
     ensures plan { IfOk result (λ r. upload ds.now ≡ Ok changes.now → r ≡ Accepted (length changes.now)) }
 {
+    ds.sound();
     let mut world = World::of_bases(ds)?;
     let mut starts = Starts {
         node: 1,
