@@ -20,7 +20,7 @@ use Rattle.upload_order.specs.Rename.{is_positive}
 use Rattle.upload_order.specs.World.{WorldEntry, stands, is_known}
 use Rattle.upload_order.proofs.Basics.{decide, at_key_put, at_other}
 use Rattle.server_world.specs.Codes.{Objects}
-use Rattle.server_world.specs.Bases.{of_base, is_mentioned, of_mention, of_entry, standing, keys_told, at_key, of_bases}
+use Rattle.server_world.specs.Bases.{of_mention, of_entry, standing, keys_told, at_key, of_bases}
 use Rattle.server_world.specs.Putting.{based, with_some, with_base, with_bases, empty_object, is_open, with_mention, with_mentions, with_all_mentions}
 
 -- an object put, if there is one
@@ -64,9 +64,9 @@ all_bases t q =
     bases_put t fin.empty (keys_by_rank t) q
     ∙ ap (λ (g : Option WorldEntry). cond (is_in q (keys_by_rank t)) (option_or (based (entry_of t q)) g) g) (fin.get-empty rank_cmp q)
     ∙ in_or_out (decide (is_in q (keys_by_rank t))) where
-  in_or_out : ((is_in q (keys_by_rank t) ≡ true) ⊎ (is_in q (keys_by_rank t) ≡ false)) → cond (is_in q (keys_by_rank t)) (option_or (based (entry_of t q)) None) None ≡ based (entry_of t q)
-  in_or_out (inl i) = ap (λ b. cond b (option_or (based (entry_of t q)) None) None) i ∙ none_last (based (entry_of t q))
-  in_or_out (inr o) = ap (λ b. cond b (option_or (based (entry_of t q)) None) None) o ∙ sym (ap based (no_entry t q o))
+      in_or_out : ((is_in q (keys_by_rank t) ≡ true) ⊎ (is_in q (keys_by_rank t) ≡ false)) → cond (is_in q (keys_by_rank t)) (option_or (based (entry_of t q)) None) None ≡ based (entry_of t q)
+      in_or_out (inl i) = ap (λ b. cond b (option_or (based (entry_of t q)) None) None) i ∙ none_last (based (entry_of t q))
+      in_or_out (inr o) = ap (λ b. cond b (option_or (based (entry_of t q)) None) None) o ∙ sym (ap based (no_entry t q o))
 
 -- an empty object put, where nothing stands
 put_where : (m : Objects) (k q : Key) (e : WorldEntry) (opened some : Bool) (b : Bool) → is_key q k ≡ b → (b ≡ true → is_some (fin.get m q) ≡ some) → fin.get (cond (not opened || some) m (fin.insert m k e)) q ≡ cond (opened && b) (option_or (fin.get m q) (Some e)) (fin.get m q)
@@ -90,9 +90,9 @@ one_mention : (t : TableValue) (m : Objects) (k q : Key) → fin.get (with_menti
 one_mention t m k q =
     put_where m k q (empty_object k.kind) (is_open t k) (is_some (fin.get m k)) (is_key q k) refl (λ e. ap (λ (j : Key). is_some (fin.get m j)) (one_key q k e))
     ∙ same_open (decide (is_key q k)) where
-  same_open : ((is_key q k ≡ true) ⊎ (is_key q k ≡ false)) → cond (is_open t k && is_key q k) (option_or (fin.get m q) (Some (empty_object k.kind))) (fin.get m q) ≡ cond (is_open t q && is_key q k) (option_or (fin.get m q) (Some (empty_object q.kind))) (fin.get m q)
-  same_open (inl e) = ap (λ (j : Key). cond (is_open t j && is_key q k) (option_or (fin.get m q) (Some (empty_object j.kind))) (fin.get m q)) (sym (one_key q k e))
-  same_open (inr e) = ap (λ b. cond (is_open t k && b) (option_or (fin.get m q) (Some (empty_object k.kind))) (fin.get m q)) e ∙ (neither_put (is_open t k) (fin.get m q) (Some (empty_object k.kind)) ∙ sym (neither_put (is_open t q) (fin.get m q) (Some (empty_object q.kind)))) ∙ ap (λ b. cond (is_open t q && b) (option_or (fin.get m q) (Some (empty_object q.kind))) (fin.get m q)) (sym e)
+      same_open : ((is_key q k ≡ true) ⊎ (is_key q k ≡ false)) → cond (is_open t k && is_key q k) (option_or (fin.get m q) (Some (empty_object k.kind))) (fin.get m q) ≡ cond (is_open t q && is_key q k) (option_or (fin.get m q) (Some (empty_object q.kind))) (fin.get m q)
+      same_open (inl e) = ap (λ (j : Key). cond (is_open t j && is_key q k) (option_or (fin.get m q) (Some (empty_object j.kind))) (fin.get m q)) (sym (one_key q k e))
+      same_open (inr e) = ap (λ b. cond (is_open t k && b) (option_or (fin.get m q) (Some (empty_object k.kind))) (fin.get m q)) e ∙ (neither_put (is_open t k) (fin.get m q) (Some (empty_object k.kind)) ∙ sym (neither_put (is_open t q) (fin.get m q) (Some (empty_object q.kind)))) ∙ ap (λ b. cond (is_open t q && b) (option_or (fin.get m q) (Some (empty_object q.kind))) (fin.get m q)) (sym e)
 
 once : (g : Option WorldEntry) (e : WorldEntry) → option_or (option_or g (Some e)) (Some e) ≡ option_or g (Some e)
 once None e = refl

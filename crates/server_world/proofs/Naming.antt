@@ -1,10 +1,9 @@
 -- A look-up finds the id that was picked last.
-use Rattle.std.proofs.Common.{◌≡◌, ℤ, cond, List, [], ◌∷◌, ◌++◌, Option, Some, refl, sym, ◌∙◌, ap}
+use Rattle.std.proofs.Common.{◌≡◌, ℤ, cond, [], ◌∷◌, ◌++◌, Some, sym, ◌∙◌, ap}
 use Rattle.std.specs.Prelude.{reverse}
 use Rattle.std.specs.Map.{lookup}
 use Rattle.std.proofs.lemmas.List.{reverse-append}
 use Rattle.osm_base.specs.KeyEq.{eq}
-use Rattle.osm_base.specs.Rank.{is_key}
 use Rattle.osm_base.specs.RankLaws.{rank_ties}
 use Rattle.osm_base.specs.declared.key.Key.{Key}
 use Rattle.osm_base.proofs.RisingKeys.{key_turned}

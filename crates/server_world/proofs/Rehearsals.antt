@@ -1,6 +1,6 @@
 -- Rehearsals: starts of the search for free ids stay starts, the world of the bases serves the plan, and what is accepted
 -- whatever is picked is never refused.
-use Rattle.std.proofs.Common.{◌≡◌, ℕ, ◌+◌, ℤ, pos, negsuc, Bool, true, false, cond, ◌||◌, ◌&&◌, not, List, [], ◌∷◌, Option, Some, None, is_some, Result, Ok, Err, refl, sym, ◌∙◌, ap, subst, arith, inl, inr, ◌<◌, suc, get_or, drop, drop-cons, add-one, length}
+use Rattle.std.proofs.Common.{◌≡◌, ℕ, ◌+◌, ℤ, pos, negsuc, Bool, true, false, cond, ◌||◌, ◌&&◌, List, [], ◌∷◌, Option, Some, None, is_some, Result, Ok, Err, refl, sym, ◌∙◌, ap, subst, arith, inl, inr, ◌<◌, suc, get_or, drop, drop-cons, add-one, length}
 use Rattle.std.specs.Prelude.{IfNone}
 use Rattle.std.specs.List.{list_any}
 use Rattle.std.specs.Option.{option_map, option_map_or}
@@ -16,16 +16,16 @@ use Rattle.osm_table.specs.declared.entry.Base.TheVariants.{New, Live, Gone}
 use Rattle.osm_table.specs.declared.entry.Entry.{Entry}
 use Rattle.osm_table.specs.declared.entry.Entry.TheVariants.{Incomplete, Known}
 use Rattle.osm_table.specs.Table.{TableValue, entry_of, version_of, is_incomplete, keys_by_rank, IsPositive}
-use Rattle.dataset.specs.Sound.{IsSound, IdFits}
+use Rattle.dataset.specs.Sound.{IsSound}
 use Rattle.upload_order.specs.declared.change.Change.{Change}
 use Rattle.upload_order.specs.declared.change.Change.TheVariants.{Create, Modify, Delete}
 use Rattle.upload_order.specs.declared.refusal.PlanRefusal.{PlanRefusal}
-use Rattle.upload_order.specs.Bases.{base_in, is_based, IsHeldUser}
-use Rattle.upload_order.specs.Kinds.{held_of, held_at, held_refers, content_refers, at_key, is_falling}
+use Rattle.upload_order.specs.Bases.{base_in, is_based}
+use Rattle.upload_order.specs.Kinds.{held_of, held_at, held_refers, content_refers}
 use Rattle.upload_order.specs.Plan.{plan}
 use Rattle.upload_order.specs.Refused.{upload_refusal, unless, upload}
 use Rattle.upload_order.specs.Rename.{is_positive, with_id, called}
-use Rattle.upload_order.specs.World.{World, WorldEntry, stands, content_at, content_in, Refusal, refusal, after, IsFresh, Holds, Alone, Accepts, Backs, IsEdited, is_known}
+use Rattle.upload_order.specs.World.{World, WorldEntry, stands, content_in, Refusal, refusal, after, IsFresh, Holds, Alone, Accepts, Backs, IsEdited}
 use Rattle.upload_order.proofs.Basics.{decide, both, or_cases, or_left, or_right, at_key_put, at_other}
 use Rattle.osm_base.proofs.RisingKeys.{one_key}
 use Rattle.std.proofs.lemmas.Bool.{lt-ltb}
@@ -36,8 +36,8 @@ use Rattle.upload_order.proofs.Accepted.{plan_accepted}
 use Rattle.server_world.specs.declared.rehearsal.Starts.{Starts}
 use Rattle.server_world.specs.Codes.{Objects}
 use Rattle.server_world.specs.Answer.{answer_of}
-use Rattle.server_world.specs.Bases.{standing, of_entry, of_base, of_mention, is_mentioned, empty_content, of_bases}
-use Rattle.server_world.specs.Free.{is_taken, IsStart, IsFreeId, free_id}
+use Rattle.server_world.specs.Bases.{of_entry, of_mention, is_mentioned, empty_content, of_bases}
+use Rattle.server_world.specs.Free.{IsStart}
 use Rattle.server_world.specs.Starts.{start_at, with_start, AreStarts}
 use Rattle.server_world.specs.Rehearsed.{pick_for, unless_refused, rehearsed}
 use Rattle.server_world.proofs.Based.{bases_stand}

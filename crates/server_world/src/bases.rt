@@ -77,7 +77,9 @@ fn of_base(base: &Base) -> Result<Option<WorldEntry>, AllocError>
     match base {
         Base::New => Ok(None),
         Base::Live {
-            version, content, ..
+            version,
+            content,
+            ..
         } => Ok(Some(WorldEntry::new(*version, Some(content.copy()?)))),
         Base::Gone { version, .. } => Ok(Some(WorldEntry::new(*version, None))),
     }
@@ -208,10 +210,7 @@ fn empty_content(alloc: Global, kind: Kind) -> Content
 {
     let tags = Tags::new(alloc);
     match kind {
-        Kind::Node => Content::Node {
-            tags,
-            at: origin(),
-        },
+        Kind::Node => Content::Node { tags, at: origin() },
         Kind::Way => Content::Way {
             tags,
             refs: Refs::new(alloc),

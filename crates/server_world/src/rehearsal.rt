@@ -108,12 +108,7 @@ fn pick(
     }
 }
 
-fn pick_id(
-    world: &World,
-    ds: &DataSet,
-    starts: &mut Starts,
-    kind: Kind,
-) -> Result<i64, AllocError>
+fn pick_id(world: &World, ds: &DataSet, starts: &mut Starts, kind: Kind) -> Result<i64, AllocError>
     requires starts { AreStarts world.now ds.now starts.old }
     ensures starts { OnOk result (AreStarts world.now ds.now starts.new) }
     ensures value { IfOk result (λ picked. picked ≡ free_id world.now ds.now kind) }

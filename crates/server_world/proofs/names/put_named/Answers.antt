@@ -1,8 +1,7 @@
-use Rattle.std.proofs.Common.{◌≡◌, List, ℤ, ap, ◌∙◌, ◌++◌, ◌∷◌, [], Option, Some, cond, w64, to_z, of_z, arith}
+use Rattle.std.proofs.Common.{◌≡◌, ◌∙◌, ◌++◌, ◌∷◌, [], Some, cond, w64, to_z, of_z}
 use Rattle.std.proofs.lemmas.Int.{to_z-of_z}
 use Rattle.std.specs.Map.{lookup}
 use Rattle.osm_base.specs.KeyEq.{eq}
-use Rattle.osm_base.specs.declared.key.Key.{Key}
 use Rattle.server_world.proofs.Naming.{one_named}
 use Rattle.server_world.proofs.names.put_named.Goals as goal
 

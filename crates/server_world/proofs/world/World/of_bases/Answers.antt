@@ -1,6 +1,4 @@
-use Rattle.std.proofs.Common.{◌≡◌, List, [], ap, ◌∙◌}
-use Rattle.std.specs.FinMap as fin
-use Rattle.osm_base.specs.declared.key.Key.{Key}
+use Rattle.std.proofs.Common.{◌≡◌, [], ap, ◌∙◌}
 use Rattle.osm_table.specs.Table.{keys_by_rank}
 use Rattle.upload_order.specs.World.{World, stands}
 use Rattle.server_world.specs.Codes.{Objects}
