@@ -7,7 +7,6 @@ use Rattle.std.proofs.lemmas.Bool.{lt-ltb}
 use Rattle.std.proofs.lemmas.List.Sums.{sum_by-cons}
 use Rattle.std.specs.FinMap as fin
 use Rattle.osm_base.specs.Rank.{rank_cmp, is_key}
-use Rattle.osm_base.specs.RankLaws.{rank_total}
 use Rattle.osm_base.specs.Content.{refs_of, refers}
 use Rattle.osm_base.specs.RisingKeys.{rises, is_in}
 use Rattle.osm_base.specs.declared.key.Key.{Key}
@@ -19,7 +18,7 @@ use Rattle.ref_index.specs.Bag.{Bag, count, times, is_pair, pair_cmp}
 use Rattle.ref_index.proofs.Agreement.{pair_parts}
 use Rattle.dataset.specs.Exact.{times_key}
 use Rattle.upload_order.specs.First.{first}
-use Rattle.upload_order.specs.World.{WorldEntry, content_in, entry_refers, user_among}
+use Rattle.upload_order.specs.World.{WorldEntry, entry_refers, user_among}
 use Rattle.upload_order.proofs.Basics.{decide, at_key_put, at_other}
 use Rattle.upload_order.proofs.Entries.{IsIn, has_listed}
 use Rattle.server_world.specs.Codes.{Objects}

@@ -1,1 +1,6 @@
 mod Indexing
+mod Naming
+mod Freeness
+mod Based
+mod Rehearsals
+mod Towns

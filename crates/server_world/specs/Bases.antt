@@ -1,5 +1,5 @@
 -- The world that has the bases of a table, and what these refer to.
-use Rattle.std.specs.Prelude.{refl, ℤ, pos, Bool, true, false, ◌&&◌, if◌then◌else◌, Option, Some, None, List, [], ◌∷◌, ◌++◌, flat_map}
+use Rattle.std.specs.Prelude.{refl, pos, Bool, ◌&&◌, if◌then◌else◌, Option, Some, None, List, [], ◌∷◌, ◌++◌, flat_map}
 use Rattle.std.specs.List.{list_any}
 use Rattle.std.specs.Option.{option_map_or}
 use Rattle.std.specs.FinMap as fin

@@ -1,5 +1,5 @@
 -- Ids that are free.
-use Rattle.std.specs.Prelude.{◌≡◌, ◌<◌, ◌≤◌, ℕ, zero, suc, ◌+◌, ◌-◌, ◌^◌, ℤ, pos, Bool, true, ◌||◌, is_some, None, if◌then◌else◌}
+use Rattle.std.specs.Prelude.{◌≡◌, ◌<◌, ◌≤◌, ℕ, zero, suc, ◌+◌, ◌-◌, ℤ, pos, Bool, true, ◌||◌, is_some, None, if◌then◌else◌}
 use Rattle.osm_base.specs.declared.key.Kind.{Kind}
 use Rattle.osm_base.specs.declared.key.Key.{Key}
 use Rattle.osm_table.specs.Table.{TableValue, entry_of}
@@ -15,13 +15,13 @@ abbrev pub first_free : (ℕ → Bool) → ℕ → ℕ → ℕ
 first_free taken zero n = n
 first_free taken (suc more) n = if taken n then first_free taken more (n + 1) else n
 
--- the greatest id
+-- the greatest id, 2 ^ 63 - 1
 abbrev pub last_id : ℕ
-last_id = 2 ^ 63 - 1
+last_id = 9223372036854775807
 
 -- The least positive id of the kind that stands neither in the world nor in the table, and the greatest id where all
 -- below it do.
-abbrev pub free_id : World → TableValue → Kind → ℤ
+unfoldable pub free_id : World → TableValue → Kind → ℤ
 free_id w t kind = pos (first_free (is_taken w t kind) (last_id - 1) 1)
 
 -- a number from which a free id may be sought: each positive id below is taken

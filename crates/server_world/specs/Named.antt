@@ -1,5 +1,5 @@
 -- The names of placeholders, as they are looked up.
-use Rattle.std.specs.Prelude.{◌≡◌, ℤ, List, reverse, Option}
+use Rattle.std.specs.Prelude.{◌≡◌, ℤ, List, reverse}
 use Rattle.std.specs.Map.{lookup}
 use Rattle.osm_base.specs.KeyEq.{eq}
 use Rattle.osm_base.specs.declared.key.Key.{Key}

@@ -1,5 +1,5 @@
 //! The world that has the bases of a data set.
-ghost use Rattle.std.specs.Prelude.{◌≡◌, false, map, IfOk, OnOk};
+ghost use Rattle.std.specs.Prelude.{◌≡◌, pos, false, map, IfOk, OnOk};
 ghost use Rattle.std.specs.Option.{option_copied, option_map_or};
 ghost use Rattle.osm_base.specs.Content.{node, refs_of};
 ghost use Rattle.osm_base.specs.declared.key.Key.{Key};
@@ -77,7 +77,9 @@ fn of_base(base: &Base) -> Result<Option<WorldEntry>, AllocError>
     match base {
         Base::New => Ok(None),
         Base::Live {
-            version, content, ..
+            version,
+            content,
+            ..
         } => Ok(Some(WorldEntry::new(*version, Some(content.copy()?)))),
         Base::Gone { version, .. } => Ok(Some(WorldEntry::new(*version, None))),
     }
@@ -208,10 +210,7 @@ fn empty_content(alloc: Global, kind: Kind) -> Content
 {
     let tags = Tags::new(alloc);
     match kind {
-        Kind::Node => Content::Node {
-            tags,
-            at: Coord { lon: 0, lat: 0 },
-        },
+        Kind::Node => Content::Node { tags, at: origin() },
         Kind::Way => Content::Way {
             tags,
             refs: Refs::new(alloc),
@@ -221,4 +220,12 @@ fn empty_content(alloc: Global, kind: Kind) -> Content
             members: Members::new(alloc),
         },
     }
+}
+
+/// The place at 0 0.
+fn origin() -> Coord
+    ensures lon { result.lon ≡ pos 0 }
+    ensures lat { result.lat ≡ pos 0 }
+{
+    Coord { lon: 0, lat: 0 }
 }

@@ -1,6 +1,9 @@
 //! Placeholders, and the ids that were picked for them.
-ghost use Rattle.std.specs.Prelude.{◌≡◌, ◌∷◌, [], OnOk, OnErr};
+ghost use Rattle.std.specs.Prelude.{◌≡◌, ◌<◌, ◌++◌, ◌∷◌, [], Some, OnOk, OnErr};
+ghost use Rattle.std.specs.Vec.{vec_len, vec_capacity};
 ghost use Rattle.std.specs.FinMap as fin;
+ghost use Rattle.indexmap.specs.IndexMap.{spare, Updates};
+ghost use Rattle.osm_base.specs.KeyEq.{eq};
 ghost use Rattle.upload_order.specs.Rename.{id_meant, meant, called, with_id, is_positive, named};
 
 use crate::entry::WorldEntry;
@@ -114,12 +117,23 @@ pub fn put_named(
     names.given.reserve(1)?;
     names.ids.reserve(1)?;
     objects.put(with_id(key, id), entry)?;
-    match names.ids.insert(key, id) {
+    push_name(&mut names.given, &mut names.ids, key, id);
+    Ok(())
+}
+
+/// Adds a name, where there is room for one.
+fn push_name(given: &mut Vec<(Key, i64)>, ids: &mut IndexMap<Key, i64>, key: Key, id: i64)
+    requires given { vec_len given.old < vec_capacity given.old }
+    requires ids { 0 < spare ids.old }
+    ensures given { given.new.items ≡ given.old.items ++ (key, id) ∷ [] }
+    ensures ids { Updates eq ids.old ids.new key (Some id) }
+{
+    match ids.insert(key, id) {
         Ok(_) => {}
         Err(_) => unreachable!(),
     }
-    match names.given.push((key, id)) {
-        Ok(()) => Ok(()),
+    match given.push((key, id)) {
+        Ok(()) => {}
         Err(_) => unreachable!(),
     }
 }

@@ -49,6 +49,7 @@ pub fn rehearse(ds: &DataSet, changes: &Changes) -> Result<Rehearsal, AllocError
     // The plan of the data set is accepted, whether what was downloaded agrees or not.
     ensures plan { IfOk result (λ r. upload ds.now ≡ Ok changes.now → r ≡ Accepted (length changes.now)) }
 {
+    ds.sound();
     let mut world = World::of_bases(ds)?;
     let mut starts = Starts {
         node: 1,
@@ -107,12 +108,7 @@ fn pick(
     }
 }
 
-fn pick_id(
-    world: &World,
-    ds: &DataSet,
-    starts: &mut Starts,
-    kind: Kind,
-) -> Result<i64, AllocError>
+fn pick_id(world: &World, ds: &DataSet, starts: &mut Starts, kind: Kind) -> Result<i64, AllocError>
     requires starts { AreStarts world.now ds.now starts.old }
     ensures starts { OnOk result (AreStarts world.now ds.now starts.new) }
     ensures value { IfOk result (λ picked. picked ≡ free_id world.now ds.now kind) }

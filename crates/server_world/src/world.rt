@@ -1,5 +1,5 @@
 //! A server that takes changes one at a time.
-ghost use Rattle.std.specs.Prelude.{◌≡◌, ◌+◌, [], map, not, is_some, IfOk, OnOk, OnErr};
+ghost use Rattle.std.specs.Prelude.{◌≡◌, ◌+◌, pos, [], map, not, is_some, IfOk, OnOk, OnErr};
 ghost use Rattle.std.specs.List.{find};
 ghost use Rattle.std.specs.Option.{option_copied, option_map};
 ghost use Rattle.osm_base.specs.Content.{node};
@@ -99,7 +99,7 @@ impl World {
     }
 
     fn modify_refusal(&self, key: Key, version: u32, content: &Content) -> Option<WorldRefusal>
-        ensures { result ≡ option_map answer_of (refusal self.now (Modify key version content.now) 0) }
+        ensures { result ≡ option_map answer_of (refusal self.now (Modify key version content.now) (pos 0)) }
     {
         let Some(entry) = self.get(self.names.called(key)) else {
             return Some(WorldRefusal::Missing);
@@ -113,7 +113,7 @@ impl World {
     }
 
     fn delete_refusal(&self, key: Key, version: u32) -> Option<WorldRefusal>
-        ensures { result ≡ option_map answer_of (refusal self.now (Delete key version) 0) }
+        ensures { result ≡ option_map answer_of (refusal self.now (Delete key version) (pos 0)) }
     {
         let key = self.names.called(key);
         let Some(entry) = self.get(key) else {

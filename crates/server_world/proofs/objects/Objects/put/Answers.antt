@@ -14,7 +14,7 @@ use Rattle.server_world.proofs.objects.Objects.put.Goals as goal
 pub change-requires : goal.change-requires
 change-requires c = record {
   there = gone_there (fin.from_entries c.self.inside.entries.entries) c.self.inside.index c.args.key (option_copied c.get.result) c.deref.result.now c.self.invariant
-  (c.get.ensures.value ∙ get_view rank_total rank_exact rank_ties c.self.inside.entries.entries c.args.key) (c.deref.ensures.value ∙ c.in_ok-gone.ensures);
+      (c.get.ensures.value ∙ get_view rank_total rank_exact rank_ties c.self.inside.entries.entries c.args.key) (c.deref.ensures.value ∙ c.in_ok-gone.ensures);
 }
 
 pub invariant_of-self-2 : goal.invariant_of-self-2

@@ -1,0 +1,10 @@
+use Rattle.std.proofs.Common.{sym, subst}
+use Rattle.server_world.specs.declared.rehearsal.Starts.{Starts}
+use Rattle.server_world.specs.Starts.{AreStarts}
+use Rattle.server_world.proofs.Rehearsals.{set_start}
+use Rattle.server_world.proofs.rehearsal.pick_id.Goals as goal
+
+pub returns-clause-starts : goal.returns-clause-starts
+returns-clause-starts c =
+    subst (λ (s : Starts). AreStarts c.args.world.now c.args.ds.now s) (sym c.set.ensures)
+    (set_start c.args.world.now c.args.ds.now c.args.starts.now c.args.kind c.free_from-id.result c.requires.starts c.free_from-id.ensures.start)

@@ -1,0 +1,5 @@
+use Rattle.server_world.proofs.Rehearsals.{Rehearses}
+use Rattle.server_world.proofs.rehearsal.rehearse.Given as goal
+
+abbrev pub invariant-loop-change : goal.invariant-loop-change
+invariant-loop-change l = Rehearses l.ds l.changes l.change-items l.change-index l.accepted l.world l.starts
