@@ -12,8 +12,10 @@ ghost use Rattle.osm_outside.specs.Outside.{Rose};
 ghost use Rattle.tool_api.specs.declared.verb.Verb.{Verb};
 ghost use Rattle.edit_session.specs.Limits.{default_limits};
 ghost use Rattle.edit_session.specs.Session.{outcome, script_name, Agrees, IsAsked, IsEarly};
+ghost use Rattle.edit_session.specs.Uploads.{AreUploads, run_of};
 ghost use Rattle.all_tools.specs.Verbs.{all_verbs};
 
+use conflict::ResolveTool;
 use edit_history::{no_boxes, with_box};
 use edit_session::{Status, run_session};
 use merge_tool::MergeTool;
@@ -52,6 +54,10 @@ pub fn run_editor<S: Shelf, K: Sink>(
     ensures complete { IfOk result (λ status. IfSome (S.told shelf.old) (λ files. (outcome default_limits all_verbs (map string_bytes words.now) files).0 ≡ Status.Done
         → (Rose (S.faults shelf.old) (S.faults shelf.new) → ⊥) → (Rose (K.faults out.old) (K.faults out.new) → ⊥)
         → (status ≡ Status.Done) ⊎ (status ≡ Status.Memory))) }
+    // Each upload of the run replies ok exactly where nothing refuses the plan of the table. Its text is then the changes in
+    // chunks, and each sound server that has the bases, and nothing else that refers to what is deleted, takes each prefix of
+    // them whatever fresh ids it picks, and has the edited data after the last.
+    ensures uploads { IfOk result (λ status. status ≡ Status.Done → IfSome (S.told shelf.old) (λ files. AreUploads default_limits files (run_of default_limits (map string_bytes words.now) files))) }
     ensures err { OnErr result ((shelf.new ≡ shelf.old) × (out.new ≡ out.old)) }
 {
     let tools = no_boxes(alloc);
@@ -82,5 +88,10 @@ pub fn run_editor<S: Shelf, K: Sink>(
         Box::new(alloc, ReverseTool::new(alloc))?,
     )?;
     let tools = with_box(tools, Verb::Merge, Box::new(alloc, MergeTool::new(alloc))?)?;
+    let tools = with_box(
+        tools,
+        Verb::Resolve,
+        Box::new(alloc, ResolveTool::new(alloc))?,
+    )?;
     Ok(run_session(alloc, words, tools, shelf, out))
 }
