@@ -1,7 +1,9 @@
 -- The uploads of a session's run: which of them are sent, as what text, and what a server makes of it.
 --
--- A server has the bases of a table where each of them stands there (`Holds`), and nothing else where no other content in it
--- refers to what is deleted (`Alone`).
+-- A server has the bases of a table where each of them stands there (`Holds`), and nothing else that refers to what is
+-- deleted where no other content in it does (`Alone`). For example where n1 was moved, w5 of it deleted and n-1 made, the
+-- changes are a create of n-1, a modify of n1 and a delete of w5, and each server that has n1 and w5 as they were downloaded,
+-- and no relation that refers to w5, takes them one by one.
 use Rattle.std.specs.Prelude.{◌≡◌, ◌↔◌, ℕ, ℤ, List, [], ◌++◌, Option, None, Some, Result, Ok, Err}
 use Rattle.std.specs.List.{All}
 use Rattle.osm_outside.specs.Outside.{Shelved, held}
@@ -39,9 +41,9 @@ steps_named limits files (Some name) = steps_in (reading limits.script (held fil
 abbrev pub run_of : Limits → List (List ℕ) → Shelved → List (Step × State)
 run_of limits words files = run limits files (steps_named limits files (script_name words))
 
--- The plan of the table is the step's text, in chunks behind its reply. Each sound server that has the bases of the table and
--- nothing else takes the changes one after the other, whatever fresh ids it picks, is sound after each, and has the edited
--- data after the last.
+-- The plan of the table is the step's text, in chunks behind its reply. Each sound server that has the bases of the table, and
+-- nothing else that refers to what is deleted, takes the changes one after the other, whatever fresh ids it picks, is sound
+-- after each, and has the edited data after the last.
 pub record IsSent (limits : Limits) (files : Shelved) (step : Step) (size : ℕ) (s : State) : Type 0 where
   pub changes : List Change
   pub planned : upload s.now ≡ Ok changes
