@@ -69,7 +69,7 @@ pub street_told : (t : TableValue) → AreThere t → IsTold t (record { kind = 
 street_told t h = record {
   id = (omega arith, omega arith);
   kind = refl;
-  server = ((omega arith, omega arith), (omega arith, omega arith), (omega arith, omega arith), tt);
+  server = ((omega arith, omega arith), ((omega arith, omega arith), ((omega arith, omega arith), tt)));
   limits = refl;
   there = λ r u. elim (or_cases (is_key r (node (pos 1))) _ u) [
     | inl e ↦ subst (λ (k : Key). IsThere (entry_of t k)) (sym (one_key r (node (pos 1)) e)) h.0

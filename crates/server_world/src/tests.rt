@@ -153,41 +153,53 @@ fn delete(id: i64, version: u32) -> Change {
     }
 }
 
-fn refused(ds: &DataSet, change: Change) -> Result<Option<WorldRefusal>, AllocError> {
-    match rehearse(ds, &one(ds.alloc(), change)?)? {
+/// Why the change is refused at a server that has the town.
+fn refused(alloc: Global, change: Change) -> Result<Option<WorldRefusal>, AllocError> {
+    let ds = town(alloc)?;
+    let changes = one(alloc, change)?;
+    match rehearse(&ds, &changes)? {
         Rehearsal::Refused { change: 1, why } => Ok(Some(why)),
         _ => Ok(None),
     }
 }
 
 #[test]
-fn one_change_is_refused(rt: HostRuntime) -> Result<(), Fail> {
-    let alloc = rt.alloc();
-    let ds = town(alloc)?;
-    assert_eq!(rt;
-        refused(&ds, modify(alloc, 1, 2))?,
-        Some(WorldRefusal::OldVersion { has: 1 })
-    );
-    assert_eq!(rt;
-        refused(&ds, delete(2, 1))?,
-        Some(WorldRefusal::Used(way_key(5)))
-    );
-    assert_eq!(rt;
-        refused(&ds, create(alloc, way_key(-1), &[-9])?)?,
-        Some(WorldRefusal::BadRef(node_key(-9)))
-    );
-    assert_eq!(rt;
-        refused(&ds, modify(alloc, 9, 1))?,
-        Some(WorldRefusal::Missing)
-    );
-    assert_eq!(rt;
-        refused(&ds, create(alloc, way_key(-1), &[])?)?,
-        Some(WorldRefusal::Unfit)
-    );
+fn a_change_of_an_old_version_is_refused(rt: HostRuntime) -> Result<(), Fail> {
+    let why = refused(rt.alloc(), modify(rt.alloc(), 1, 2))?;
+    assert_eq!(rt; why, Some(WorldRefusal::OldVersion { has: 1 }));
     Ok(())
 }
 
-fn taken(world: &mut World, change: &Change, picked: i64) -> Result<u8, AllocError> {
+#[test]
+fn a_delete_of_a_used_node_is_refused(rt: HostRuntime) -> Result<(), Fail> {
+    let why = refused(rt.alloc(), delete(2, 1))?;
+    assert_eq!(rt; why, Some(WorldRefusal::Used(way_key(5))));
+    Ok(())
+}
+
+#[test]
+fn a_way_over_a_node_without_a_name_is_refused(rt: HostRuntime) -> Result<(), Fail> {
+    let why = refused(rt.alloc(), create(rt.alloc(), way_key(-1), &[-9])?)?;
+    assert_eq!(rt; why, Some(WorldRefusal::BadRef(node_key(-9))));
+    Ok(())
+}
+
+#[test]
+fn a_change_of_what_is_not_there_is_refused(rt: HostRuntime) -> Result<(), Fail> {
+    let why = refused(rt.alloc(), modify(rt.alloc(), 9, 1))?;
+    assert_eq!(rt; why, Some(WorldRefusal::Missing));
+    Ok(())
+}
+
+#[test]
+fn a_way_without_nodes_is_refused(rt: HostRuntime) -> Result<(), Fail> {
+    let why = refused(rt.alloc(), create(rt.alloc(), way_key(-1), &[])?)?;
+    assert_eq!(rt; why, Some(WorldRefusal::Unfit));
+    Ok(())
+}
+
+/// The number of the refusal, or 0.
+fn answer(world: &mut World, change: &Change, picked: i64) -> Result<u8, AllocError> {
     match world.accept(change, picked) {
         Ok(()) => Ok(0),
         Err(WorldFault::Refused(why)) => Ok(why.number()),
@@ -195,46 +207,64 @@ fn taken(world: &mut World, change: &Change, picked: i64) -> Result<u8, AllocErr
     }
 }
 
-#[test]
-fn a_world_takes_one_change_after_the_other(rt: HostRuntime) -> Result<(), Fail> {
-    let alloc = rt.alloc();
-    let ds = town(alloc)?;
-    let mut world = World::of_bases(&ds)?;
-    assert_eq!(rt; world.free_id(Kind::Way, &ds), 1);
+/// Makes a way under a taken id and under a free one, and then takes it out twice.
+fn answers(
+    world: &mut World,
+    made: &Change,
+    gone: &Change,
+) -> Result<(u8, u8, u8, u8), AllocError> {
+    let taken = answer(world, made, 5)?;
+    let free = answer(world, made, 1)?;
+    let first = answer(world, gone, 0)?;
+    let second = answer(world, gone, 0)?;
+    Ok((taken, free, first, second))
+}
+
+fn comes_and_goes(alloc: Global, world: &mut World) -> Result<(u8, u8, u8, u8), AllocError> {
     let made = create(alloc, way_key(-1), &[1, 3])?;
-    assert_eq!(rt; taken(&mut world, &made, 5)?, 1);
-    assert_eq!(rt; taken(&mut world, &made, 1)?, 0);
-    assert_eq!(rt; world.free_id(Kind::Way, &ds), 2);
     let gone = Change::Delete {
         key: way_key(-1),
         version: 1,
     };
-    assert_eq!(rt; taken(&mut world, &gone, 0)?, 0);
-    assert_eq!(rt; taken(&mut world, &gone, 0)?, 2);
+    answers(world, &made, &gone)
+}
+
+#[test]
+fn a_way_comes_and_goes(rt: HostRuntime) -> Result<(), Fail> {
+    let ds = town(rt.alloc())?;
+    let mut world = World::of_bases(&ds)?;
+    assert_eq!(rt; world.free_id(Kind::Way, &ds), 1);
+    assert_eq!(rt; comes_and_goes(rt.alloc(), &mut world)?, (1, 0, 0, 2));
+    assert_eq!(rt; world.free_id(Kind::Way, &ds), 2);
     assert_eq!(rt; world.get(way_key(1)).map(WorldEntry::version), Some(2));
     Ok(())
 }
 
-#[test]
-fn new_objects_go_under_free_ids(rt: HostRuntime) -> Result<(), Fail> {
-    let alloc = rt.alloc();
-    let ds = town(alloc)?;
-    let mut changes = Changes::new(alloc);
-    changes.push(Change::Create {
-        key: node_key(-1),
-        content: dot(alloc),
-    })?;
+/// A new node and a new way over it, and then the node is deleted.
+fn three(alloc: Global) -> Result<Changes, AllocError> {
+    let mut changes = one(
+        alloc,
+        Change::Create {
+            key: node_key(-1),
+            content: dot(alloc),
+        },
+    )?;
     changes.push(create(alloc, way_key(-1), &[3, -1])?)?;
     changes.push(delete(4, 1))?;
+    Ok(changes)
+}
+
+#[test]
+fn new_objects_go_under_free_ids(rt: HostRuntime) -> Result<(), Fail> {
+    let ds = town(rt.alloc())?;
+    let changes = three(rt.alloc())?;
+    let refusal = Rehearsal::Refused {
+        change: 3,
+        why: WorldRefusal::Used(way_key(1)),
+    };
+    assert_eq!(rt; rehearse(&ds, &changes)?, refusal);
     assert_eq!(rt;
-        rehearse(&ds, &changes)?,
-        Rehearsal::Refused {
-            change: 3,
-            why: WorldRefusal::Used(way_key(1)),
-        }
-    );
-    assert_eq!(rt;
-        rehearse(&ds, &Changes::new(alloc))?,
+        rehearse(&ds, &Changes::new(rt.alloc()))?,
         Rehearsal::Accepted(0)
     );
     Ok(())
