@@ -3,3 +3,4 @@ mod Naming
 mod Freeness
 mod Based
 mod Rehearsals
+mod Towns

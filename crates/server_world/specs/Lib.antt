@@ -7,3 +7,4 @@ pub mod Putting
 pub mod Free
 pub mod Rehearsed
 pub mod Starts
+pub mod Town
