@@ -1,0 +1,8 @@
+use Rattle.placeholder.proofs.Rest.{ups_again}
+use Rattle.placeholder.proofs.laws.plan_is_resumed.Goals as goal
+
+pub returns-clause-ready : goal.returns-clause-ready
+returns-clause-ready c = ?
+
+pub returns-clause-rest : goal.returns-clause-rest
+returns-clause-rest c = ?

@@ -1,0 +1,3 @@
+pub mod Confirmed
+pub mod Answers
+pub mod Resumed

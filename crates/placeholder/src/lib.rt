@@ -1,0 +1,11 @@
+//! What a table is after a server's answers to the first changes of its upload, and that the rest of the upload goes on from it.
+//!
+//! A server takes the changes of a plan one at a time, and tells the id of each object that it made. `specs/Confirmed.antt` says
+//! what the table is then: the object of each answered change has the base that the change left, and an answered placeholder
+//! is the id that its object got, as a key and in all contents. `plan_is_resumed` and `plan_is_resumed_after` say that this
+//! table can be sent to the server as it is then, and that its plan is the rest of the plan. It stands on `upload_order`.
+#![tactic(auto)]
+
+mod laws;
+
+pub use laws::plan_is_resumed;
