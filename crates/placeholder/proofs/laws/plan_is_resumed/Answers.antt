@@ -1,3 +1,7 @@
+use Rattle.placeholder.proofs.Changed.{plan_rest}
+use Rattle.placeholder.proofs.Clear.{not_refused}
+use Rattle.placeholder.proofs.Parts.{not_falling}
+use Rattle.placeholder.proofs.Whole.{first_calm}
 use Rattle.placeholder.proofs.Rest.{ups_again}
 use Rattle.placeholder.proofs.laws.plan_is_resumed.Goals as goal
 
