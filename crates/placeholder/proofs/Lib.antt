@@ -4,3 +4,7 @@ pub mod Whole
 pub mod Rest
 pub mod Alike
 pub mod Changed
+pub mod Cleared
+pub mod ClearedPlan
+pub mod Fallen
+pub mod RemovedPlan

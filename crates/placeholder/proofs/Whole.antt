@@ -1,5 +1,5 @@
 -- What a sound table says of the entries of its changes.
-use Rattle.std.proofs.Common.{◌≡◌, ℕ, Bool, true, false, not, List, [], ◌∷◌, Option, Some, None, refl, sym, ◌∙◌, ap, subst, ◌⊎◌, inl, inr, IsTrue}
+use Rattle.std.proofs.Common.{◌≡◌, ℕ, Bool, true, false, cond, List, [], ◌∷◌, Option, Some, None, refl, sym, ◌∙◌, ap, subst, ◌⊎◌, inl, inr, IsTrue}
 use Rattle.std.specs.Prelude.{IsSome}
 use Rattle.std.specs.List.{AllByRecursion}
 use Rattle.std.specs.Option.{option_map_or}
@@ -9,8 +9,11 @@ use Rattle.osm_base.specs.declared.content.Content.{Content}
 use Rattle.osm_table.specs.declared.entry.Base.TheVariants.{New, Live, Gone}
 use Rattle.osm_table.specs.declared.entry.Entry.{Entry}
 use Rattle.osm_table.specs.declared.entry.Entry.TheVariants.{Incomplete, Known}
-use Rattle.osm_table.specs.Table.{TableValue, entry_of, mine_of, is_incomplete, is_new, IsPositive, IsThere, IfContent}
+use Rattle.osm_table.specs.Table.{TableValue, entry_of, mine_of, version_of, is_incomplete, is_new, IsPositive, IsThere, IfContent}
 use Rattle.dataset.specs.Sound.{IsSound, IsSoundEntry}
+use Rattle.upload_order.specs.declared.change.Change.{Change}
+use Rattle.upload_order.specs.declared.change.Change.TheVariants.{Create, Modify}
+use Rattle.upload_order.specs.Plan.{version_at, up_entry}
 use Rattle.upload_order.specs.Bases.{base_in, is_based}
 use Rattle.upload_order.specs.Kinds.{is_rising, is_update, is_falling, at_key}
 use Rattle.upload_order.proofs.Entries.{IsIn, in_any}
@@ -86,3 +89,15 @@ first_calm t done last k ks (next d l x js f b u free before a) e c h m r g i n 
     let one : e ≡ f = both e f (entry_of t k) h u.entry in
     let two : c ≡ b = both c b (mine_of f) (ap mine_of (sym one) ∙ m) u.mine in
     true_false (d r) (before r (subst (λ (x : Content). refers x r ≡ true) two g) i) n
+
+pub version_case : (e : Entry) → version_at (Some e) ≡ version_of (base_in e)
+version_case Incomplete = refl
+version_case (Known b m d) = refl
+
+-- the change that is sent of an object
+pub up_case : (k : Key) (e : Entry) (c : Content) → mine_of e ≡ Some c → up_entry k (Some e) ≡ cond (is_new (base_in e)) (Create k c) (Modify k (version_of (base_in e)) c)
+up_case k Incomplete c h = cc
+up_case k (Known b None d) c h = cc
+up_case k (Known New (Some x) d) c h = ap (Create k) (both x c (Some x) refl h)
+up_case k (Known (Live v b n) (Some x) d) c h = ap (Modify k v) (both x c (Some x) refl h)
+up_case k (Known (Gone v n) (Some x) d) c h = ap (Modify k v) (both x c (Some x) refl h)

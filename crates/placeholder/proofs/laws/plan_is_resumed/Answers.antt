@@ -1,3 +1,6 @@
+use Rattle.placeholder.proofs.Fallen.{sound_again}
+use Rattle.placeholder.proofs.RemovedPlan.{downs_rest}
+use Rattle.placeholder.proofs.ClearedPlan.{starts}
 use Rattle.placeholder.proofs.Changed.{plan_rest}
 use Rattle.placeholder.proofs.Clear.{not_refused}
 use Rattle.placeholder.proofs.Parts.{not_falling}
