@@ -8,3 +8,6 @@ pub mod Cleared
 pub mod ClearedPlan
 pub mod Fallen
 pub mod RemovedPlan
+pub mod Moved
+pub mod Created
+pub mod Resumed

@@ -1,15 +1,8 @@
-use Rattle.placeholder.proofs.Fallen.{sound_again}
-use Rattle.placeholder.proofs.RemovedPlan.{downs_rest}
-use Rattle.placeholder.proofs.ClearedPlan.{starts}
-use Rattle.placeholder.proofs.Changed.{plan_rest}
-use Rattle.placeholder.proofs.Clear.{not_refused}
-use Rattle.placeholder.proofs.Parts.{not_falling}
-use Rattle.placeholder.proofs.Whole.{first_calm}
-use Rattle.placeholder.proofs.Rest.{ups_again}
+use Rattle.placeholder.proofs.Resumed.{ready_again, rest_again}
 use Rattle.placeholder.proofs.laws.plan_is_resumed.Goals as goal
 
 pub returns-clause-ready : goal.returns-clause-ready
-returns-clause-ready c = ?
+returns-clause-ready c = λ w t change cs id ready e answer. ready_again w t change cs id ready e answer
 
 pub returns-clause-rest : goal.returns-clause-rest
-returns-clause-rest c = ?
+returns-clause-rest c = λ w t change cs id ready e answer. rest_again w t change cs id ready e answer
