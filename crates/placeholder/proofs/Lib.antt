@@ -11,3 +11,6 @@ pub mod RemovedPlan
 pub mod Moved
 pub mod Created
 pub mod Resumed
+pub mod Names
+pub mod LookUps
+pub mod After

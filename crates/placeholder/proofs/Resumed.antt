@@ -105,6 +105,12 @@ pub record IsLeft (u : TableValue) (v : World) (cs : List Change) : Type 0 where
 abbrev pub IsResumed : TableValue → World → Change → List Change → ℤ → Type 0
 IsResumed t w c cs p = IsLeft (confirmed t c p) (after w c p) (left_after c p cs)
 
+-- the object of a change stands in the table, and one that is to be made has no id of a server
+abbrev pub IsKnownIn : TableValue → Change → Type 0
+IsKnownIn t (Create k c) = (is_positive k.id ≡ false) × ((e : Entry) × (entry_of t k ≡ Some e))
+IsKnownIn t (Modify k v c) = (e : Entry) × (entry_of t k ≡ Some e)
+IsKnownIn t (Delete k v) = (e : Entry) × (entry_of t k ≡ Some e)
+
 module _ (t : TableValue) (w : World) (ready : IsReady w t) (p : ℤ) where
   abbrev s : Sound t
   s = sound_of t ready.sound
@@ -216,6 +222,41 @@ module _ (t : TableValue) (w : World) (ready : IsReady w t) (p : ℤ) where
 
   pub resumed : (c : Change) (cs : List Change) → plan t ≡ c ∷ cs → IsAnswer w t c p → IsResumed t w c cs p
   resumed c cs e fresh = by_ups (ups t) refl c cs e fresh
+
+  known_up : (k : Key) (ks : List Key) → ups t ≡ k ∷ ks → IsKnownIn t (up_of t k)
+  known_up k ks head =
+      let x = first_up t _ _ k ks (subst (λ (xs : List Key). IsOrdered t (λ _. false) xs (ups_done t s)) head (ups_ordered t s ok.no_stuck)) in
+      let change : up_of t k ≡ cond (is_new (base_in x.0)) (Create k x.1) (Modify k (version_of (base_in x.0)) x.1) = ap (up_entry k) x.2.entry ∙ up_case k x.0 x.1 x.2.mine in
+      subst (IsKnownIn t) (sym change) (by_base x.0 x.1 x.2 (is_new (base_in x.0)) refl) where
+    by_base : (e : Entry) (c : Content) → IsUp t k e c → (b : Bool) → is_new (base_in e) ≡ b → IsKnownIn t (cond b (Create k c) (Modify k (version_of (base_in e)) c))
+    by_base e c u true n = ((s.negative k e u.entry n (mine_known e c u.mine)).0, (e, u.entry))
+    by_base e c u false n = (e, u.entry)
+
+  known_down : (d : Down) (ds : List Down) → downs t ≡ d ∷ ds → IsKnownIn t (down_of t d)
+  known_down (Clear k) ds head =
+      let o = downs_ordered t s in
+      let x = first_clear t o.0 k ds (subst (λ (xs : List Down). IsDown t (start_left t) xs o.0) head o.1) in
+      (x.0, x.1)
+  known_down (Remove k b) ds head =
+      let o = downs_ordered t s in
+      let x = first_remove t (start_left t) o.0 k b ds (subst (λ (xs : List Down). IsDown t (start_left t) xs o.0) head o.1) in
+      (x.0, x.1)
+
+  known_by_downs : (ds : List Down) → ups t ≡ [] → downs t ≡ ds → (c : Change) (cs : List Change) → plan t ≡ c ∷ cs → IsKnownIn t c
+  known_by_downs [] none h c cs e = absurd (nothing (sym (no_ups_plan t none ∙ ap (map (down_of t)) h) ∙ e)) where
+    nothing : [] ≡ c ∷ cs → ⊥
+    nothing x = cc
+  known_by_downs (d ∷ ds) none h c cs e =
+      subst (IsKnownIn t) (head_is (down_of t d) c (map (down_of t) ds) cs (sym (no_ups_plan t none ∙ ap (map (down_of t)) h) ∙ e)).0 (known_down d ds h)
+
+  known_by_ups : (ks : List Key) → ups t ≡ ks → (c : Change) (cs : List Change) → plan t ≡ c ∷ cs → IsKnownIn t c
+  known_by_ups [] h c cs e = known_by_downs (downs t) h refl c cs e
+  known_by_ups (k ∷ ks) h c cs e =
+      let whole : plan t ≡ up_of t k ∷ (map (up_of t) ks ++ map (down_of t) (downs t)) = ap (λ (xs : List Key). map (up_of t) xs ++ map (down_of t) (downs t)) h in
+      subst (IsKnownIn t) (head_is (up_of t k) c _ cs (sym whole ∙ e)).0 (known_up k ks h)
+
+  pub first_known : (c : Change) (cs : List Change) → plan t ≡ c ∷ cs → IsKnownIn t c
+  first_known c cs e = known_by_ups (ups t) refl c cs e
 
   -- the server takes the change
   pub first_accepted : (c : Change) (cs : List Change) → plan t ≡ c ∷ cs → IsFresh w t c p → refusal w c p ≡ None

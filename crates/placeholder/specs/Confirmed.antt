@@ -8,6 +8,7 @@ use Rattle.std.specs.FinMap as fin
 use Rattle.osm_base.specs.Rank.{rank_cmp}
 use Rattle.osm_base.specs.Meta.{empty_meta}
 use Rattle.osm_base.specs.declared.key.Key.{Key}
+use Rattle.osm_base.specs.declared.content.Content.{Content}
 use Rattle.osm_table.specs.declared.entry.Base.{Base}
 use Rattle.osm_table.specs.declared.entry.Base.TheVariants.{New, Live, Gone}
 use Rattle.osm_table.specs.declared.entry.Conflict.{Conflict}
@@ -46,13 +47,16 @@ based_on base None = Incomplete
 based_on base (Some Incomplete) = Incomplete
 based_on base (Some (Known old mine conflict)) = Known base mine conflict
 
+-- an object that was just made
+abbrev pub made_entry : Content → Entry
+made_entry content = Known (Live 1 content empty_meta) (Some content) None
+
 -- The table after the answer to one change. The entry has the base that the change left. After a Create the object stands
 -- under the id that the server gave, and no longer under its placeholder, as a key and in all contents.
 abbrev pub confirmed : TableValue → Change → ℤ → TableValue
 confirmed t (Create k c) id =
     let f = moved k id in
-    let made : Entry = Known (Live 1 (renamed f c) empty_meta) (Some (renamed f c)) None in
-    record { entries = fin.insert (fin.remove (moved_entries f t.entries) k) (with_id k id) made; next = t.next }
+    record { entries = fin.insert (fin.remove (moved_entries f t.entries) k) (with_id k id) (made_entry (renamed f c)); next = t.next }
 confirmed t (Modify k version c) id = with_entry t k (based_on (Live (version + 1) c empty_meta) (entry_of t k))
 confirmed t (Delete k version) id = with_entry t k (based_on (Gone (version + 1) empty_meta) (entry_of t k))
 

@@ -1,0 +1,148 @@
+-- After the answers to any number of first changes the table is again clear to be sent, and its plan is the rest.
+use Rattle.std.proofs.Common.{◌≡◌, ℕ, ◌+◌, ℤ, Bool, true, false, List, [], ◌∷◌, ◌++◌, map, Option, Some, None, refl, sym, ◌∙◌, ap, subst, inl, inr}
+use Rattle.osm_base.specs.Rank.{is_key}
+use Rattle.osm_base.specs.Meta.{empty_meta}
+use Rattle.osm_base.specs.declared.key.Key.{Key}
+use Rattle.osm_base.proofs.RisingKeys.{one_key}
+use Rattle.osm_table.specs.declared.entry.Base.TheVariants.{Live, Gone}
+use Rattle.osm_table.specs.declared.entry.Entry.{Entry}
+use Rattle.osm_table.specs.Table.{TableValue, entry_of, with_entry}
+use Rattle.upload_order.specs.declared.change.Change.{Change}
+use Rattle.upload_order.specs.declared.change.Change.TheVariants.{Create, Modify, Delete}
+use Rattle.upload_order.specs.Plan.{plan}
+use Rattle.upload_order.specs.Rename.{Names, named, called, with_id, renamed, is_positive}
+use Rattle.upload_order.specs.Run.{Ran, Ended, Stopped, on_refusal, run_from, pick_for, picks_left, picked, IsAmong, AreFresh}
+use Rattle.upload_order.specs.World.{World, Refusal, IsFresh, refusal, after}
+use Rattle.upload_order.proofs.Basics.{decide, true_false, none_some, both}
+use Rattle.upload_order.proofs.Runs.{fresh_first, fresh_rest, other_pick}
+use Rattle.placeholder.specs.Answers.{IsAnswer, IsWithin, AreWithin, AreAnswers}
+use Rattle.placeholder.specs.Confirmed.{moved, based_on, moved_change, named_by, confirmed, confirmed_from, confirmed_all, names_from, names_of}
+use Rattle.placeholder.specs.Resumed.{IsReady, left_after}
+use Rattle.placeholder.proofs.LookUps.{made_none, made_gone, set_none}
+use Rattle.placeholder.proofs.Names.{AreGiven, AreAmong, head_name, tail_name, called_more, changes_once, changes_stay, after_same}
+use Rattle.placeholder.proofs.Resumed.{IsKnownIn, first_known, ready_again, rest_again}
+
+-- The names are of ids that a server gave, the server has them too, and their placeholders are gone from the table.
+record AreAnswered (ns : Names) (w : World) (t : TableValue) : Type 0 where
+  given : AreGiven ns
+  among : AreAmong ns w.names
+  gone : (r : Key) (p : ℤ) → named ns r ≡ Some p → is_positive r.id ≡ false → entry_of t r ≡ None
+
+-- What is asked of a change with other references, and what follows it.
+module _ (f : Key → Key) where
+  fresh_moved : (w : World) (t : TableValue) (c : Change) (p : ℤ) → IsFresh w t c p → IsFresh w t (moved_change f c) p
+  fresh_moved w t (Create k c) p h = h
+  fresh_moved w t (Modify k v c) p h = h
+  fresh_moved w t (Delete k v) p h = h
+
+  within_moved : (c : Change) (p : ℤ) → IsWithin c p → IsWithin (moved_change f c) p
+  within_moved (Create k c) p h = h
+  within_moved (Modify k v c) p h = h
+  within_moved (Delete k v) p h = h
+
+  known_moved : (t : TableValue) (c : Change) → IsKnownIn t (moved_change f c) → IsKnownIn t c
+  known_moved t (Create k c) h = h
+  known_moved t (Modify k v c) h = h
+  known_moved t (Delete k v) h = h
+
+fresh_table : (w : World) (t u : TableValue) (cs : List Change) (ps : List ℤ) → ((q : Key) → IsAmong q (picked cs ps) → entry_of t q ≡ None → entry_of u q ≡ None) → AreFresh w t cs ps → AreFresh w u cs ps
+fresh_table w t u [] ps h f = tt
+fresh_table w t u (Create k c ∷ cs) [] h f = absurd f
+fresh_table w t u (Create k c ∷ cs) (p ∷ ps) h f = (f.0, f.1, h (with_id k p) (inl refl) f.2, f.3, fresh_table w t u cs ps (λ q i n. h q (inr i) n) f.4)
+fresh_table w t u (Modify k x c ∷ cs) ps h f = fresh_table w t u cs ps h f
+fresh_table w t u (Delete k x ∷ cs) ps h f = fresh_table w t u cs ps h f
+
+-- the ids that are left are new to the confirmed table
+fresh_confirmed : (f : Key → Key) (w v : World) (t : TableValue) (c : Change) (cs : List Change) (ps : List ℤ) → IsKnownIn t c → AreFresh w t (c ∷ cs) ps → AreFresh v t cs (picks_left c ps) → AreFresh v (confirmed t (moved_change f c) (pick_for c ps)) cs (picks_left c ps)
+fresh_confirmed f w v t (Create k c) cs [] known fresh later = absurd fresh
+fresh_confirmed f w v t (Create k c) cs (p ∷ ps) known fresh later =
+    fresh_table v t (confirmed t (Create k (renamed f c)) p) cs ps (λ q i n. made_none t k (renamed f c) p q (other_pick q (with_id k p) (picked cs ps) fresh.3 i) n) later
+fresh_confirmed f w v t (Modify k x c) cs ps known fresh later =
+    fresh_table v t (with_entry t k (based_on (Live (x + 1) (renamed f c) empty_meta) (entry_of t k))) cs ps (λ q i n. set_none t k q known.0 (based_on (Live (x + 1) (renamed f c) empty_meta) (entry_of t k)) known.1 n) later
+fresh_confirmed f w v t (Delete k x) cs ps known fresh later =
+    fresh_table v t (with_entry t k (based_on (Gone (x + 1) empty_meta) (entry_of t k))) cs ps (λ q i n. set_none t k q known.0 (based_on (Gone (x + 1) empty_meta) (entry_of t k)) known.1 n) later
+
+-- a key that a server gave is no placeholder
+not_given : (r q : Key) → is_positive r.id ≡ false → is_positive q.id ≡ true → is_key r q ≡ false
+not_given r q n p = elim (decide (is_key r q)) [ inl i ↦ true_false (is_positive q.id) p (ap (λ (x : Key). is_positive x.id) (sym (one_key r q i)) ∙ n) | inr i ↦ i ]
+
+no_name : (ns : Names) (w : World) (t : TableValue) (k : Key) (e : Entry) → AreAnswered ns w t → is_positive k.id ≡ false → entry_of t k ≡ Some e → named ns k ≡ None
+no_name ns w t k e a n h = by_name (named ns k) refl where
+  by_name : (o : Option ℤ) → named ns k ≡ o → o ≡ None
+  by_name None x = refl
+  by_name (Some p) x = none_some e (entry_of t k) (a.gone k p x n) h
+
+answered_again : (f : Key → Key) (ns : Names) (w : World) (t : TableValue) (c : Change) (p : ℤ) → AreAnswered ns w t → IsKnownIn t c → IsFresh w t c p → AreAnswered (named_by c p ns) (after w c p) (confirmed t (moved_change f c) p)
+answered_again f ns w t (Create k c) p a known fresh = record {
+  given = λ r x h. elim (decide (is_key r k)) [
+    | inl i ↦ subst (λ y. is_positive y ≡ true) (both p x (named ((k, p) ∷ ns) r) (head_name k p ns r i) h) fresh.0
+    | inr i ↦ a.given r x (sym (tail_name k p ns r i) ∙ h)
+  ];
+  among = λ r x h. elim (decide (is_key r k)) [
+    | inl i ↦ head_name k p w.names r i ∙ sym (head_name k p ns r i) ∙ h
+    | inr i ↦ tail_name k p w.names r i ∙ a.among r x (sym (tail_name k p ns r i) ∙ h)
+  ];
+  gone = λ r x h n.
+      let away = not_given r (with_id k p) n fresh.0 in
+      elim (decide (is_key r k)) [
+        | inl i ↦ made_gone t k (renamed f c) p r away i
+        | inr i ↦ made_none t k (renamed f c) p r away (a.gone r x (sym (tail_name k p ns r i) ∙ h) n)
+      ];
+}
+answered_again f ns w t (Modify k v c) p a known fresh = record {
+  given = a.given;
+  among = a.among;
+  gone = λ r x h n. set_none t k r known.0 (based_on (Live (v + 1) (renamed f c) empty_meta) (entry_of t k)) known.1 (a.gone r x h n);
+}
+answered_again f ns w t (Delete k v) p a known fresh = record {
+  given = a.given;
+  among = a.among;
+  gone = λ r x h n. set_none t k r known.0 (based_on (Gone (v + 1) empty_meta) (entry_of t k)) known.1 (a.gone r x h n);
+}
+
+left_again : (ns : Names) (w : World) (t : TableValue) (c : Change) (p : ℤ) (cs : List Change) → AreAnswered ns w t → IsKnownIn t c → left_after (moved_change (called ns) c) p (map (moved_change (called ns)) cs) ≡ map (moved_change (called (named_by c p ns))) cs
+left_again ns w t (Create k c) p cs a known = changes_once (moved k p) ns (called ((k, p) ∷ ns)) (called_more k p ns a.given (no_name ns w t k known.1.0 a known.0 known.1.1)) cs
+left_again ns w t (Modify k v c) p cs a known = refl
+left_again ns w t (Delete k v) p cs a known = refl
+
+abbrev world_of : World → Ran → World
+world_of w (Ended v) = v
+world_of w (Stopped n r) = w
+
+run_step : (o : Option Refusal) (n : ℕ) (rest : Ran) (v : World) → on_refusal o n rest ≡ Ended v → (o ≡ None) × (rest ≡ Ended v)
+run_step None n rest v e = (refl, e)
+run_step (Some r) n rest v e = cc
+
+joined : (f : Change → Change) (xs ys : List Change) → map f (xs ++ ys) ≡ map f xs ++ map f ys
+joined f [] ys = refl
+joined f (x ∷ xs) ys = ap (λ (zs : List Change). f x ∷ zs) (joined f xs ys)
+
+-- what the table is after the answers
+abbrev IsThrough : World → TableValue → List Change → Type 0
+IsThrough v u ds = IsReady v u × (plan u ≡ ds)
+
+through : (v : World) (cs ds : List Change) (ns : Names) (n : ℕ) (w : World) (t : TableValue) (ps : List ℤ) → IsReady w t → AreAnswered ns w t → plan t ≡ map (moved_change (called ns)) (cs ++ ds) → AreAnswers w t cs ps → run_from n w cs ps ≡ Ended v
+    → IsThrough v (confirmed_from ns t cs ps) (map (moved_change (called (names_from ns cs ps))) ds)
+through v [] ds ns n w t ps ready a whole answers run = (subst (λ (x : World). IsReady x t) (ap (world_of w) run) ready, whole)
+through v (c ∷ cs) ds ns n w t ps ready a whole answers run =
+    let p = pick_for c ps in
+    let f = called ns in
+    let step = run_step (refusal w c p) n (run_from (n + 1) (after w c p) cs (picks_left c ps)) v run in
+    let fresh = fresh_first w t c cs ps answers.0 in
+    let answer : IsAnswer w t (moved_change f c) p = (fresh_moved f w t c p fresh, within_moved f c p answers.1.0) in
+    let known = known_moved f t c (first_known t w ready p (moved_change f c) (map (moved_change f) (cs ++ ds)) whole) in
+    let same = after_same w ns a.given a.among c p in
+    let later = fresh_rest w t c cs ps step.0 answers.0 in
+    through v cs ds (named_by c p ns) (n + 1) (after w c p) (confirmed t (moved_change f c) p) (picks_left c ps)
+    (subst (λ (x : World). IsReady x (confirmed t (moved_change f c) p)) same (ready_again w t (moved_change f c) (map (moved_change f) (cs ++ ds)) p ready whole answer))
+    (answered_again f ns w t c p a known fresh)
+    (rest_again w t (moved_change f c) (map (moved_change f) (cs ++ ds)) p ready whole answer ∙ left_again ns w t c p (cs ++ ds) a known)
+    (fresh_confirmed f w (after w c p) t c cs ps known answers.0 later, answers.1.1)
+    step.1
+
+none_answered : (w : World) (t : TableValue) → AreAnswered [] w t
+none_answered w t = record { given = λ r p h. cc; among = λ r p h. cc; gone = λ r p h n. cc }
+
+pub after_all : (w v : World) (t : TableValue) (cs ds : List Change) (ps : List ℤ) → IsReady w t → plan t ≡ cs ++ ds → AreAnswers w t cs ps → run_from 1 w cs ps ≡ Ended v
+    → IsReady v (confirmed_all t cs ps) × (plan (confirmed_all t cs ps) ≡ map (moved_change (called (names_of cs ps))) ds)
+after_all w v t cs ds ps ready whole answers run = through v cs ds [] 1 w t ps ready (none_answered w t) (whole ∙ sym (changes_stay (cs ++ ds))) answers run

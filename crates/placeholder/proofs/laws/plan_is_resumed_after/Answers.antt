@@ -1,0 +1,8 @@
+use Rattle.placeholder.proofs.After.{after_all}
+use Rattle.placeholder.proofs.laws.plan_is_resumed_after.Goals as goal
+
+pub returns-clause-ready : goal.returns-clause-ready
+returns-clause-ready c = λ w v t cs ds ids ready whole answers run. (after_all w v t cs ds ids ready whole answers run).0
+
+pub returns-clause-rest : goal.returns-clause-rest
+returns-clause-rest c = λ w v t cs ds ids ready whole answers run. (after_all w v t cs ds ids ready whole answers run).1
