@@ -1,5 +1,5 @@
 -- After the answers to any number of first changes the table is again clear to be sent, and its plan is the rest.
-use Rattle.std.proofs.Common.{◌≡◌, ℕ, ◌+◌, ℤ, Bool, true, false, List, [], ◌∷◌, ◌++◌, map, Option, Some, None, refl, sym, ◌∙◌, ap, subst, inl, inr}
+use Rattle.std.proofs.Common.{◌≡◌, ℕ, ◌+◌, ℤ, true, false, List, [], ◌∷◌, ◌++◌, map, Option, Some, None, refl, sym, ◌∙◌, ap, subst, inl, inr}
 use Rattle.osm_base.specs.Rank.{is_key}
 use Rattle.osm_base.specs.Meta.{empty_meta}
 use Rattle.osm_base.specs.declared.key.Key.{Key}
@@ -15,7 +15,7 @@ use Rattle.upload_order.specs.Run.{Ran, Ended, Stopped, on_refusal, run_from, pi
 use Rattle.upload_order.specs.World.{World, Refusal, IsFresh, refusal, after}
 use Rattle.upload_order.proofs.Basics.{decide, true_false, none_some, both}
 use Rattle.upload_order.proofs.Runs.{fresh_first, fresh_rest, other_pick}
-use Rattle.placeholder.specs.Answers.{IsAnswer, IsWithin, AreWithin, AreAnswers}
+use Rattle.placeholder.specs.Answers.{IsAnswer, IsWithin, AreAnswers}
 use Rattle.placeholder.specs.Confirmed.{moved, based_on, moved_change, named_by, confirmed, confirmed_from, confirmed_all, names_from, names_of}
 use Rattle.placeholder.specs.Resumed.{IsReady, left_after}
 use Rattle.placeholder.proofs.LookUps.{made_none, made_gone, set_none}

@@ -1,11 +1,10 @@
 -- The steps down depend on what the bases of the keys that fall refer to, and on their versions.
-use Rattle.std.proofs.Common.{◌≡◌, ℕ, zero, suc, Bool, true, false, cond, not, ◌&&◌, ◌||◌, List, [], ◌∷◌, map, Option, Some, None, refl, sym, ◌∙◌, ap, subst, inl, inr}
-use Rattle.std.specs.List.{list_any, find, filter}
+use Rattle.std.proofs.Common.{◌≡◌, ℕ, zero, suc, Bool, true, cond, not, ◌&&◌, ◌||◌, List, [], ◌∷◌, map, Option, Some, None, refl, ◌∙◌, ap, subst, inl, inr}
+use Rattle.std.specs.List.{list_any, find}
 use Rattle.osm_base.specs.Rank.{is_key}
 use Rattle.osm_base.specs.declared.key.Key.{Key}
 use Rattle.osm_table.specs.declared.entry.Entry.{Entry}
 use Rattle.osm_table.specs.Table.{TableValue, entry_of}
-use Rattle.upload_order.specs.declared.change.Change.{Change}
 use Rattle.upload_order.specs.declared.change.Change.TheVariants.{Modify, Delete}
 use Rattle.upload_order.specs.declared.down.Down.{Down}
 use Rattle.upload_order.specs.declared.down.Down.TheVariants.{Clear, Remove}
@@ -53,7 +52,7 @@ module _ (t u : TableValue) where
   fall_same zero items h = refl
   fall_same (suc n) items h =
       next_same (find (is_unused (held_refers t) items) items) (λ k. fall (held_refers t) n (without_item k items)) (λ k. fall (held_refers u) n (without_item k items)) _ (fall_clear (find (uses_some (held_refers t) items) items) (λ k. fall (held_refers u) n (map (emptied k) items))) (λ k. fall_same n (without_item k items) (alike_drop items k h))
-        (clear_same (find (uses_some (held_refers t) items) items) (λ k. fall (held_refers t) n (map (emptied k) items)) (λ k. fall (held_refers u) n (map (emptied k) items)) (λ k. fall_same n (map (emptied k) items) (alike_mark items k h)))
+      (clear_same (find (uses_some (held_refers t) items) items) (λ k. fall (held_refers t) n (map (emptied k) items)) (λ k. fall (held_refers u) n (map (emptied k) items)) (λ k. fall_same n (map (emptied k) items) (alike_mark items k h)))
       ∙ ap (λ o. fall_next o (λ k. fall (held_refers u) n (without_item k items)) (fall_clear (find (uses_some (held_refers t) items) items) (λ k. fall (held_refers u) n (map (emptied k) items)))) (find_item (is_unused (held_refers t) items) (is_unused (held_refers u) items) items (λ x i. ap not (any_item x.0 items (λ j m. h j x m i))))
       ∙ ap (λ o. fall_next (find (is_unused (held_refers u) items) items) (λ k. fall (held_refers u) n (without_item k items)) (fall_clear o (λ k. fall (held_refers u) n (map (emptied k) items)))) (find_item (uses_some (held_refers t) items) (uses_some (held_refers u) items) items (λ x i. any_used x items (λ j m. h x j i m)))
 

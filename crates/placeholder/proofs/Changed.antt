@@ -1,11 +1,9 @@
 -- After one object was changed on the server the table is again clear to be sent, and its plan is the rest.
-use Rattle.std.proofs.Common.{◌≡◌, ℕ, ◌+◌, ◌≤◌, Bool, true, false, not, List, [], ◌∷◌, ◌++◌, map, length, Option, Some, None, refl, sym, ◌∙◌, ap, subst, inl, inr, arith}
-use Rattle.std.specs.List.{list_any}
+use Rattle.std.proofs.Common.{◌≡◌, ◌+◌, ◌≤◌, Bool, true, false, not, List, ◌∷◌, ◌++◌, map, length, Option, Some, None, refl, sym, ◌∙◌, ap, subst, inl, inr, arith}
 use Rattle.std.specs.Option.{option_map_or}
 use Rattle.osm_base.specs.Rank.{is_key}
 use Rattle.osm_base.specs.Content.{refers}
 use Rattle.osm_base.specs.Meta.{empty_meta}
-use Rattle.osm_base.specs.Same.{same_content}
 use Rattle.osm_base.specs.declared.key.Kind.{Kind}
 use Rattle.osm_base.specs.declared.key.Kind.TheVariants as kind
 use Rattle.osm_base.specs.declared.key.Key.{Key}
@@ -13,8 +11,8 @@ use Rattle.osm_base.specs.declared.content.Content.{Content}
 use Rattle.osm_base.proofs.RisingKeys.{one_key, key_itself}
 use Rattle.osm_base.proofs.SameLaws.{same_content_decides}
 use Rattle.osm_table.specs.declared.entry.Entry.{Entry}
-use Rattle.osm_table.specs.declared.entry.Entry.TheVariants.{Incomplete, Known}
-use Rattle.osm_table.specs.declared.entry.Base.TheVariants.{New, Live, Gone}
+use Rattle.osm_table.specs.declared.entry.Entry.TheVariants.{Known}
+use Rattle.osm_table.specs.declared.entry.Base.TheVariants.{Live}
 use Rattle.osm_table.specs.Table.{TableValue, entry_of, with_entry, mine_of, version_of, is_new, is_incomplete, IsThere, IsPositive}
 use Rattle.dataset.specs.Exact.{mine_at}
 use Rattle.dataset.specs.Sound.{IsSound, IsSoundEntry}
@@ -24,9 +22,9 @@ use Rattle.upload_order.specs.Bases.{base_in, is_based}
 use Rattle.upload_order.specs.Kinds.{is_rising, is_update, is_falling, is_sent, held_of, held_at, at_key, content_refers, mine_refers, held_refers}
 use Rattle.upload_order.specs.Fall.{Item, falls}
 use Rattle.upload_order.specs.Order.{without}
-use Rattle.upload_order.specs.Plan.{made, ups, up_of, up_entry, plain_removes, downs, down_of, version_at, plan}
+use Rattle.upload_order.specs.Plan.{ups, up_of, up_entry, plain_removes, downs, down_of, version_at, plan}
 use Rattle.upload_order.specs.Refused.{is_open, vouches, keeps}
-use Rattle.upload_order.specs.Rename.{called, renamed, is_positive}
+use Rattle.upload_order.specs.Rename.{called, renamed}
 use Rattle.upload_order.specs.World.{World, WorldEntry, content_in, Holds, Alone, put_in}
 use Rattle.upload_order.proofs.Along.{at_is, passed, means_itself}
 use Rattle.upload_order.proofs.Basics.{decide, true_false, both, at_key_put, at_other}
@@ -65,15 +63,15 @@ module _ (t : TableValue) (is : IsSound t) (ok : IsClear t) (k : Key) (e : Entry
   -- an entry of u is the new one, or one of t
   cases_u : (P : Key → Entry → Type 0) → ((j : Key) (f : Entry) → is_key j k ≡ false → entry_of t j ≡ Some f → P j f) → P k e2 → (j : Key) (f : Entry) → entry_of answered j ≡ Some f → P j f
   cases_u P there here j f h = elim (decide (is_key j k)) [
-      inl i ↦ subst (λ (x : Key). P x f) (sym (one_key j k i)) (subst (λ (x : Entry). P k x) (both e2 f (entry_of answered j) (at_u j i) h) here)
-      | inr i ↦ there j f i (sym (off_u j i) ∙ h)
-    ]
+    | inl i ↦ subst (λ (x : Key). P x f) (sym (one_key j k i)) (subst (λ (x : Entry). P k x) (both e2 f (entry_of answered j) (at_u j i) h) here)
+    | inr i ↦ there j f i (sym (off_u j i) ∙ h)
+  ]
 
   back : (test : Key → Entry → Bool) → ((j : Key) → test j e2 ≡ false) → (j : Key) (f : Entry) → entry_of answered j ≡ Some f → test j f ≡ true → (is_key j k ≡ false) × ((g : Entry) × (entry_of t j ≡ Some g) × (test j g ≡ true))
   back test idle j f h g = elim (decide (is_key j k)) [
-      inl i ↦ true_false (test j f) g (ap (test j) (both f e2 (entry_of answered j) h (at_u j i)) ∙ idle j)
-      | inr i ↦ (i, (f, sym (off_u j i) ∙ h, g))
-    ]
+    | inl i ↦ true_false (test j f) g (ap (test j) (both f e2 (entry_of answered j) h (at_u j i)) ∙ idle j)
+    | inr i ↦ (i, (f, sym (off_u j i) ∙ h, g))
+  ]
 
   rising : (kd : Kind) → without k (keys_where t (rising_of kd)) ≡ keys_where answered (rising_of kd)
   rising kd = without_where t answered k (rising_of kd) (rising_of kd) (λ j f n h g. (f, off_u j n ∙ h, g)) (back (rising_of kd) (λ j. not_rising kd j.kind e2 refl))
@@ -96,9 +94,9 @@ module _ (t : TableValue) (is : IsSound t) (ok : IsClear t) (k : Key) (e : Entry
   -- k doesn't fall
   not_fallen : (j : Key) (f : Entry) → entry_of t j ≡ Some f → is_falling f ≡ true → is_key j k ≡ false
   not_fallen j f h g = elim (decide (is_key j k)) [
-      inl i ↦ true_false (is_falling f) g (ap is_falling (both f e (entry_of t k) (ap (entry_of t) (sym (one_key j k i)) ∙ h) up.entry) ∙ up_falls e c up.mine)
-      | inr i ↦ i
-    ]
+    | inl i ↦ true_false (is_falling f) g (ap is_falling (both f e (entry_of t k) (ap (entry_of t) (sym (one_key j k i)) ∙ h) up.entry) ∙ up_falls e c up.mine)
+    | inr i ↦ i
+  ]
 
   falling : (kd : Kind) → keys_where t (falling_of kd) ≡ keys_where answered (falling_of kd)
   falling kd = same_where t answered (falling_of kd) (falling_of kd)
@@ -123,7 +121,7 @@ module _ (t : TableValue) (is : IsSound t) (ok : IsClear t) (k : Key) (e : Entry
   pub plan_rest : plan t ≡ up_of t k ∷ plan answered
   plan_rest =
       let not_k : (j : Key) → IsIn j ks → is_key j k ≡ false = λ j i. elim (decide (is_key j k)) [
-        inl x ↦ absurd (once t answered s ok.no_stuck k ks head rising updates same (subst (λ (y : Key). IsIn y ks) (one_key j k x) i))
+        | inl x ↦ absurd (once t answered s ok.no_stuck k ks head rising updates same (subst (λ (y : Key). IsIn y ks) (one_key j k x) i))
         | inr x ↦ x
       ] in
       let d = downs_ordered t s in
@@ -173,24 +171,24 @@ module _ (t : TableValue) (is : IsSound t) (ok : IsClear t) (k : Key) (e : Entry
   -- A voucher still vouches.
   vouches_again : (w r : Key) (f : Entry) → entry_of t w ≡ Some f → vouches f r ≡ true → (u : Key) × (g : Entry) × (entry_of answered u ≡ Some g) × (vouches g r ≡ true)
   vouches_again w r f h v = elim (decide (is_key w k)) [
-      inr i ↦ (w, f, off_u w i ∙ h, v)
-      | inl i ↦ (
+    | inr i ↦ (w, f, off_u w i ∙ h, v)
+    | inl i ↦ (
         let one : f ≡ e = both f e (entry_of t k) (ap (entry_of t) (sym (one_key w k i)) ∙ h) up.entry in
         let x = (and_both (option_map_or (λ c. refers c r) (held_of e) false) (keeps (mine_of e) r) (ap (λ (y : Entry). vouches y r) (sym one) ∙ v)).1 in
         let y : refers c r ≡ true = ap (λ o. option_map_or (λ c. refers c r) o true) (sym up.mine) ∙ x in
         (k, e2, at_u k (key_itself k), both_and (refers c r) (refers c r) y y))
-    ]
+  ]
 
   pub clear_again : IsClear answered
   clear_again = record {
     no_conflict = λ j f h. cases_u (λ j f. is_open f ≡ false) (λ j f n x. ok.no_conflict j f x) refl j f h;
     vouched = λ j r f d h m sent g i. cases_u (λ j f. (d : Content) → mine_of f ≡ Some d → is_sent f ≡ true → refers d r ≡ true → (u : Key) × (g : Entry) × (entry_of answered u ≡ Some g) × (vouches g r ≡ true))
-      (λ j f n x d m sent g.
+        (λ j f n x d m sent g.
         let away : is_key r k ≡ false = elim (decide (is_key r k)) [ inl y ↦ (let z : at_key answered is_incomplete r ≡ false = ap (λ (o : Option Entry). option_map_or is_incomplete o false) (at_u r y) in true_false (at_key answered is_incomplete r) i z) | inr y ↦ y ] in
         let v = ok.vouched j r f d x m sent g (ap (λ (o : Option Entry). option_map_or is_incomplete o false) (sym (off_u r away)) ∙ i) in
         vouches_again v.0 r v.1 v.2 v.3)
-      (λ d m sent g. true_false (is_sent e2) sent no_update) j f h d m sent g;
-    no_stuck = stuck_again t answered s ok.no_stuck k ks head rising updates same
+        (λ d m sent g. true_false (is_sent e2) sent no_update) j f h d m sent g;
+    no_stuck = stuck_again t answered s ok.no_stuck k ks head rising updates same;
   }
 
   module _ (w : World) (holds : Holds w t) (alone : Alone w t) where
@@ -202,13 +200,13 @@ module _ (t : TableValue) (is : IsSound t) (ok : IsClear t) (k : Key) (e : Entry
 
     pub holds_again : Holds w2 answered
     holds_again j f h b = elim (decide (is_key j k)) [
-        inl i ↦ (
+      | inl i ↦ (
           let one : e2 ≡ f = both e2 f (entry_of answered j) (at_u j i) h in
           at_key_put w.entries k j _ i
           ∙ ap (λ (d : Content). let x : WorldEntry = record { version = version_of (base_in e) + 1; content = Some d } in Some x) kept_refs
           ∙ ap (λ (g : Entry). let x : WorldEntry = record { version = version_of (base_in g); content = held_of g } in Some x) one)
-        | inr i ↦ at_other w.entries k j _ i ∙ holds j f (sym (off_u j i) ∙ h) b
-      ]
+      | inr i ↦ at_other w.entries k j _ i ∙ holds j f (sym (off_u j i) ∙ h) b
+    ]
 
     pub alone_again : Alone w2 answered
     alone_again q r d n h f =

@@ -1,5 +1,5 @@
 -- What a table is that is clear to be sent.
-use Rattle.std.proofs.Common.{◌≡◌, Bool, true, false, not, ◌&&◌, is_some, cond, List, [], ◌∷◌, Option, Some, None, refl, sym, ◌∙◌, ap, subst, inl, inr}
+use Rattle.std.proofs.Common.{◌≡◌, Bool, true, false, not, ◌&&◌, is_some, cond, List, [], ◌∷◌, Option, Some, None, refl, sym, ◌∙◌, ap, inl, inr}
 use Rattle.std.specs.List.{list_any, find, filter}
 use Rattle.std.specs.Option.{option_map_or, option_map, option_or}
 use Rattle.std.specs.FinMap as fin
@@ -13,7 +13,7 @@ use Rattle.upload_order.specs.declared.refusal.PlanRefusal.TheVariants.{Incomple
 use Rattle.upload_order.specs.Kinds.{at_key, is_sent}
 use Rattle.upload_order.specs.Plan.{made}
 use Rattle.upload_order.specs.Refused.{is_open, open_of, open_refusal, vouches, vouches_at, is_loose, refs_sent, loose_of, loose_among, loose_refusal, stuck_of, stuck_refusal, upload_refusal}
-use Rattle.upload_order.proofs.Basics.{decide, true_false, none_some}
+use Rattle.upload_order.proofs.Basics.{decide, true_false}
 use Rattle.upload_order.proofs.ClearLaw.{or_none, none_among, and_not, entry_is, clear_stuck}
 use Rattle.upload_order.proofs.Entries.{IsIn, find_none, none_found, in_filter, filter_in, any_in, in_any}
 use Rattle.upload_order.proofs.Lists.{any_is, any_of}
@@ -80,16 +80,16 @@ and_true false b e = refl
 pub not_refused : (t : TableValue) → IsClear t → upload_refusal t ≡ None
 not_refused t ok =
     let none_open : open_refusal t ≡ None = ap open_of (no_member (filter (at_key t is_open) (keys_by_rank t)) (λ k i.
-      let x = entry_at is_open (entry_of t k) (in_filter (at_key t is_open) (keys_by_rank t) k i).1 in
-      true_false (is_open x.0) x.2 (ok.no_conflict k x.0 x.1))) in
+    let x = entry_at is_open (entry_of t k) (in_filter (at_key t is_open) (keys_by_rank t) k i).1 in
+    true_false (is_open x.0) x.2 (ok.no_conflict k x.0 x.1))) in
     let loose : loose_refusal t ≡ None = none_of_any (is_loose t) t (keys_by_rank t) (λ k. find_none (is_loose t) (refs_sent (entry_of t k)) (λ r i.
-      elim (decide (at_key t is_incomplete r)) [
-        | inl y ↦ (
-            let x = sent_ref (entry_of t k) r i in
-            let v = ok.vouched k r x.0 x.1 x.2 x.3 x.4 x.5 y in
-            and_true (at_key t is_incomplete r) (list_any (vouches_at t r) (keys_by_rank t)) (any_of (vouches_at t r) (keys_by_rank t) v.0 (is_there t v.0 v.1 v.2) (ap (λ o. option_map_or (λ e. vouches e r) o false) v.2 ∙ v.3)))
-        | inr n ↦ ap (λ b. b && not (list_any (vouches_at t r) (keys_by_rank t))) n
-      ])) in
+    elim (decide (at_key t is_incomplete r)) [
+      | inl y ↦ (
+          let x = sent_ref (entry_of t k) r i in
+          let v = ok.vouched k r x.0 x.1 x.2 x.3 x.4 x.5 y in
+          and_true (at_key t is_incomplete r) (list_any (vouches_at t r) (keys_by_rank t)) (any_of (vouches_at t r) (keys_by_rank t) v.0 (is_there t v.0 v.1 v.2) (ap (λ o. option_map_or (λ e. vouches e r) o false) v.2 ∙ v.3)))
+      | inr n ↦ ap (λ b. b && not (list_any (vouches_at t r) (keys_by_rank t))) n
+    ])) in
     let stuck : stuck_refusal t ≡ None = ap stuck_of ok.no_stuck in
     ap (λ (o : Option PlanRefusal). option_or o (option_or (loose_refusal t) (stuck_refusal t))) none_open
     ∙ ap (λ (o : Option PlanRefusal). option_or o (stuck_refusal t)) loose

@@ -1,6 +1,6 @@
 -- After one relation was emptied on the server, the steps down are the rest.
-use Rattle.std.proofs.Common.{◌≡◌, ℕ, zero, suc, ◌+◌, ◌≤◌, Bool, true, false, cond, not, ◌&&◌, ◌||◌, List, [], ◌∷◌, ◌++◌, map, length, Option, Some, None, refl, sym, ◌∙◌, ap, subst, ◌⊎◌, inl, inr, arith}
-use Rattle.std.specs.List.{list_any, find, filter}
+use Rattle.std.proofs.Common.{◌≡◌, ℕ, zero, suc, ◌+◌, ◌≤◌, Bool, true, false, cond, not, ◌&&◌, ◌||◌, List, [], ◌∷◌, map, length, Option, Some, None, refl, sym, ◌∙◌, ap, subst, inl, inr, arith}
+use Rattle.std.specs.List.{list_any, find}
 use Rattle.std.specs.Option.{option_map}
 use Rattle.osm_base.specs.Rank.{is_key}
 use Rattle.osm_base.specs.declared.key.Key.{Key}
@@ -10,13 +10,12 @@ use Rattle.upload_order.specs.declared.change.Change.TheVariants.{Modify, Delete
 use Rattle.upload_order.specs.Plan.{empty_relation, down_of, version_at, later}
 use Rattle.upload_order.specs.Kinds.{held_refers}
 use Rattle.upload_order.specs.Fall.{Item, whole, item_uses, is_unused, uses_some, without_item, emptied, fall, fall_next, fall_clear}
-use Rattle.upload_order.specs.declared.down.Down.{Down}
 use Rattle.upload_order.specs.declared.down.Down.TheVariants.{Clear, Remove}
 use Rattle.osm_base.proofs.RisingKeys.{one_key, key_itself}
-use Rattle.upload_order.proofs.Basics.{key_same, decide, true_false, both}
+use Rattle.upload_order.proofs.Basics.{decide, true_false}
 use Rattle.upload_order.proofs.Entries.{IsIn, found_in, in_filter, in_map, map_in}
 use Rattle.upload_order.proofs.PlanUps.{and_both}
-use Rattle.upload_order.proofs.PlanDowns.{not_true, weight, worth, lighter_drop, lighter_mark, positive_worth}
+use Rattle.upload_order.proofs.PlanDowns.{not_true, weight, lighter_drop, lighter_mark, positive_worth}
 use Rattle.upload_order.proofs.Lists.{any_is}
 
 -- t has k emptied among its items; in u the object of k is empty, and k stands as one that was not emptied
@@ -34,9 +33,9 @@ module _ (t u : TableValue) (k : Key) (empty : (r : Key) → held_refers u k r �
 
   use_same : (items : List Item) (a : Alike items) (i j : Item) → IsIn i items → IsIn j items → item_uses (held_refers u) j.0 (g i) ≡ item_uses (held_refers t) j.0 i
   use_same items a i j x y = elim (decide (is_key i.0 k)) [
-      inl m ↦ (λ l. (not (cond (m l) false i.1) && held_refers u (one_key i.0 k m l) j.0)) ∙ empty j.0 ∙ sym (ap (λ b. not b && held_refers t i.0 j.0) (a.marked i x m))
-      | inr m ↦ (λ l. (not (cond (m l) false i.1) && held_refers u i.0 j.0)) ∙ ap (λ b. not i.1 && b) (sym (a.held i j x y m))
-    ]
+    | inl m ↦ (λ l. (not (cond (m l) false i.1) && held_refers u (one_key i.0 k m l) j.0)) ∙ empty j.0 ∙ sym (ap (λ b. not b && held_refers t i.0 j.0) (a.marked i x m))
+    | inr m ↦ (λ l. (not (cond (m l) false i.1) && held_refers u i.0 j.0)) ∙ ap (λ b. not i.1 && b) (sym (a.held i j x y m))
+  ]
 
   module _ (p q : Item → Bool) where
     any_mapped : (xs : List Item) → ((x : Item) → IsIn x xs → q (g x) ≡ p x) → list_any q (map g xs) ≡ list_any p xs
@@ -64,6 +63,7 @@ module _ (t u : TableValue) (k : Key) (empty : (r : Key) → held_refers u k r �
   mark_mapped j (x ∷ xs) n = λ i. (x.0, swap (is_key x.0 j) (is_key x.0 k) x.1 apart i) ∷ mark_mapped j xs n i where
     apart : is_key x.0 j ≡ true → is_key x.0 k ≡ false
     apart h = subst (λ (y : Key). is_key y k ≡ false) (sym (one_key x.0 j h)) n
+
     swap : (a b c : Bool) → (a ≡ true → b ≡ false) → cond a true (cond b false c) ≡ cond b false (cond a true c)
     swap true true c h = let z = h refl in cc
     swap true false c h = refl
@@ -74,25 +74,25 @@ module _ (t u : TableValue) (k : Key) (empty : (r : Key) → held_refers u k r �
   alike_drop j items a = record {
     held = λ x y m n. a.held x y (in_filter (λ i. not (is_key i.0 j)) items x m).0 (in_filter (λ i. not (is_key i.0 j)) items y n).0;
     marked = λ x m. a.marked x (in_filter (λ i. not (is_key i.0 j)) items x m).0;
-    version = λ x m. a.version x (in_filter (λ i. not (is_key i.0 j)) items x m).0
+    version = λ x m. a.version x (in_filter (λ i. not (is_key i.0 j)) items x m).0;
   }
 
   alike_mark : (j : Key) (items : List Item) → Alike items → Alike (map (emptied j) items)
   alike_mark j items a = record {
     held = λ x y m n h.
-      let v = map_in (emptied j) items x m in
-      let w = map_in (emptied j) items y n in
-      let e : v.0.0 ≡ x.0 = ap (λ (z : Item). z.0) v.2 in
-      let f : w.0.0 ≡ y.0 = ap (λ (z : Item). z.0) w.2 in
-      (λ i. held_refers t (sym e i) (sym f i)) ∙ a.held v.0 w.0 v.1 w.1 (ap (λ (z : Key). is_key z k) e ∙ h) ∙ (λ i. held_refers u (e i) (f i));
+        let v = map_in (emptied j) items x m in
+        let w = map_in (emptied j) items y n in
+        let e : v.0.0 ≡ x.0 = ap (λ (z : Item). z.0) v.2 in
+        let f : w.0.0 ≡ y.0 = ap (λ (z : Item). z.0) w.2 in
+        (λ i. held_refers t (sym e i) (sym f i)) ∙ a.held v.0 w.0 v.1 w.1 (ap (λ (z : Key). is_key z k) e ∙ h) ∙ (λ i. held_refers u (e i) (f i));
     marked = λ x m h.
-      let v = map_in (emptied j) items x m in
-      let e : v.0.0 ≡ x.0 = ap (λ (z : Item). z.0) v.2 in
-      ap (λ (z : Item). z.1) (sym v.2) ∙ still (is_key v.0.0 j) v.0.1 (a.marked v.0 v.1 (ap (λ (z : Key). is_key z k) e ∙ h));
+        let v = map_in (emptied j) items x m in
+        let e : v.0.0 ≡ x.0 = ap (λ (z : Item). z.0) v.2 in
+        ap (λ (z : Item). z.1) (sym v.2) ∙ still (is_key v.0.0 j) v.0.1 (a.marked v.0 v.1 (ap (λ (z : Key). is_key z k) e ∙ h));
     version = λ x m h.
-      let v = map_in (emptied j) items x m in
-      let e : v.0.0 ≡ x.0 = ap (λ (z : Item). z.0) v.2 in
-      subst (λ (z : Key). version_at (entry_of t z) ≡ version_at (entry_of u z)) e (a.version v.0 v.1 (ap (λ (z : Key). is_key z k) e ∙ h))
+        let v = map_in (emptied j) items x m in
+        let e : v.0.0 ≡ x.0 = ap (λ (z : Item). z.0) v.2 in
+        subst (λ (z : Key). version_at (entry_of t z) ≡ version_at (entry_of u z)) e (a.version v.0 v.1 (ap (λ (z : Key). is_key z k) e ∙ h));
   } where
     still : (b c : Bool) → c ≡ true → cond b true c ≡ true
     still true c e = refl
@@ -100,15 +100,15 @@ module _ (t u : TableValue) (k : Key) (empty : (r : Key) → held_refers u k r �
 
   remove_same : (items : List Item) (a : Alike items) (i : Item) → IsIn i items → down_of t (Remove i.0 i.1) ≡ down_of u (Remove i.0 (g i).1)
   remove_same items a i x = elim (decide (is_key i.0 k)) [
-      inl m ↦ (
+    | inl m ↦ (
         let one : i.0 ≡ k = one_key i.0 k m in
         ap (λ b. let d : Change = Delete i.0 (later b (version_at (entry_of t i.0))) in d) (a.marked i x m)
         ∙ ap (λ y. let d : Change = Delete i.0 (version_at (entry_of t y) + 1) in d) one
         ∙ ap (λ v. let d : Change = Delete i.0 v in d) (sym later_k)
         ∙ ap (λ y. let d : Change = Delete i.0 (version_at (entry_of u y)) in d) (sym one)
         ∙ ap (λ b. let d : Change = Delete i.0 (later (cond b false i.1) (version_at (entry_of u i.0))) in d) (sym m))
-      | inr m ↦ (λ l. let d : Change = Delete i.0 (later (cond (sym m l) false i.1) (a.version i x m l)) in d)
-    ]
+    | inr m ↦ (λ l. let d : Change = Delete i.0 (later (cond (sym m l) false i.1) (a.version i x m l)) in d)
+  ]
 
   abbrev Same : ℕ → Type 0
   Same n = (m : ℕ) (items : List Item) → weight items ≤ n → weight (map g items) ≤ m → Alike items → map (down_of t) (fall (held_refers t) n items) ≡ map (down_of u) (fall (held_refers u) m (map g items))
@@ -121,8 +121,8 @@ module _ (t u : TableValue) (k : Key) (empty : (r : Key) → held_refers u k r �
   empty_fall v (suc n) = refl
 
   clear_step : (n m : ℕ) → ((items : List Item) → weight items ≤ n → weight (map g items) ≤ m → Alike items → map (down_of t) (fall (held_refers t) n items) ≡ map (down_of u) (fall (held_refers u) m (map g items)))
-    → (items : List Item) → weight items ≤ suc n → weight (map g items) ≤ suc m → Alike items → (o : Option Item) → find (uses_some (held_refers t) items) items ≡ o
-    → map (down_of t) (fall_clear o (λ j. fall (held_refers t) n (map (emptied j) items))) ≡ map (down_of u) (fall_clear (option_map g o) (λ j. fall (held_refers u) m (map (emptied j) (map g items))))
+      → (items : List Item) → weight items ≤ suc n → weight (map g items) ≤ suc m → Alike items → (o : Option Item) → find (uses_some (held_refers t) items) items ≡ o
+      → map (down_of t) (fall_clear o (λ j. fall (held_refers t) n (map (emptied j) items))) ≡ map (down_of u) (fall_clear (option_map g o) (λ j. fall (held_refers u) m (map (emptied j) (map g items))))
   clear_step n m go items h l a None e = refl
   clear_step n m go items h l a (Some i) e =
       let f = found_in (uses_some (held_refers t) items) items i e in
@@ -139,8 +139,8 @@ module _ (t u : TableValue) (k : Key) (empty : (r : Key) → held_refers u k r �
       ∙ ap (λ (xs : List Item). down_of u (Clear i.0) ∷ map (down_of u) (fall (held_refers u) m xs)) (sym swap)
 
   next_step : (n m : ℕ) → ((items : List Item) → weight items ≤ n → weight (map g items) ≤ m → Alike items → map (down_of t) (fall (held_refers t) n items) ≡ map (down_of u) (fall (held_refers u) m (map g items)))
-    → (items : List Item) → weight items ≤ suc n → weight (map g items) ≤ suc m → Alike items → (o p : Option Item) → find (is_unused (held_refers t) items) items ≡ o → find (uses_some (held_refers t) items) items ≡ p
-    → map (down_of t) (fall_next o (λ j. fall (held_refers t) n (without_item j items)) (fall_clear p (λ j. fall (held_refers t) n (map (emptied j) items)))) ≡ map (down_of u) (fall_next (option_map g o) (λ j. fall (held_refers u) m (without_item j (map g items))) (fall_clear (option_map g p) (λ j. fall (held_refers u) m (map (emptied j) (map g items)))))
+      → (items : List Item) → weight items ≤ suc n → weight (map g items) ≤ suc m → Alike items → (o p : Option Item) → find (is_unused (held_refers t) items) items ≡ o → find (uses_some (held_refers t) items) items ≡ p
+      → map (down_of t) (fall_next o (λ j. fall (held_refers t) n (without_item j items)) (fall_clear p (λ j. fall (held_refers t) n (map (emptied j) items)))) ≡ map (down_of u) (fall_next (option_map g o) (λ j. fall (held_refers u) m (without_item j (map g items))) (fall_clear (option_map g p) (λ j. fall (held_refers u) m (map (emptied j) (map g items)))))
   next_step n m go items h l a None p e r = clear_step n m go items h l a p r
   next_step n m go items h l a (Some i) p e r =
       let f = found_in (is_unused (held_refers t) items) items i e in

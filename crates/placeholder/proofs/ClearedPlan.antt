@@ -1,28 +1,27 @@
 -- The plan after a relation was emptied is the rest of the plan.
-use Rattle.std.proofs.Common.{◌≡◌, ℕ, zero, suc, ◌+◌, ◌≤◌, Bool, true, false, cond, not, ◌&&◌, ◌||◌, List, [], ◌∷◌, ◌++◌, map, length, Option, Some, None, refl, sym, ◌∙◌, ap, subst, ◌⊎◌, inl, inr, arith}
-use Rattle.std.specs.List.{list_any, find, filter}
+use Rattle.std.proofs.Common.{◌≡◌, ℕ, zero, suc, ◌+◌, ◌≤◌, Bool, true, false, cond, not, List, [], ◌∷◌, ◌++◌, map, length, Option, Some, None, refl, sym, ◌∙◌, ap, subst, ◌⊎◌, inl, inr, arith}
+use Rattle.std.specs.List.{find}
 use Rattle.osm_base.specs.declared.key.Kind.TheVariants as kind
 use Rattle.osm_base.specs.Rank.{is_key}
 use Rattle.osm_base.specs.declared.key.Kind.{Kind}
 use Rattle.osm_base.specs.declared.key.Key.{Key}
-use Rattle.osm_base.specs.declared.content.Content.{Content}
 use Rattle.osm_table.specs.declared.entry.Entry.{Entry}
 use Rattle.osm_table.specs.declared.entry.Entry.TheVariants.{Known}
 use Rattle.osm_table.specs.declared.entry.Base.TheVariants.{Live}
 use Rattle.osm_table.specs.Table.{TableValue, entry_of, with_entry, version_of}
 use Rattle.upload_order.specs.declared.change.Change.{Change}
 use Rattle.upload_order.specs.declared.change.Change.TheVariants.{Delete}
-use Rattle.upload_order.specs.Plan.{empty_relation, plain_removes, downs, down_of, version_at, later}
+use Rattle.upload_order.specs.Plan.{empty_relation, plain_removes, downs, down_of, version_at}
 use Rattle.upload_order.specs.Bases.{base_in}
 use Rattle.upload_order.specs.Kinds.{is_falling, held_refers, held_at, content_refers}
 use Rattle.osm_base.specs.Meta.{empty_meta}
-use Rattle.upload_order.proofs.PlanUps.{kind_is, and_both, kind_one, kind_self}
+use Rattle.upload_order.proofs.PlanUps.{kind_is, and_both, kind_self}
 use Rattle.upload_order.proofs.Where.{falling_of, falling_both, keys_where, falling_items, in_where}
 use Rattle.upload_order.specs.Fall.{Item, is_unused, uses_some, item_uses, without_item, emptied, fall, falls, fall_next, fall_clear}
 use Rattle.upload_order.specs.declared.down.Down.{Down}
 use Rattle.upload_order.specs.declared.down.Down.TheVariants.{Clear, Remove}
 use Rattle.osm_base.proofs.RisingKeys.{one_key, key_itself}
-use Rattle.upload_order.proofs.Basics.{key_same, decide, true_false, both, at_key_put, at_other}
+use Rattle.upload_order.proofs.Basics.{decide, true_false, both, at_key_put, at_other}
 use Rattle.upload_order.proofs.Entries.{IsIn, found_in, map_in}
 use Rattle.upload_order.proofs.Lists.{any_is}
 use Rattle.upload_order.proofs.PlanDowns.{not_true, weight, lighter_mark}
@@ -109,9 +108,9 @@ module _ (t : TableValue) (k : Key) (e : Entry) (entry : entry_of t k ≡ Some e
       let y = in_where t (falling_of kd) x i in
       let z = (falling_both kd x.kind y.0 y.2).0 in
       sym (off_u x (apart x z (decide (is_key x k)))) where
-    apart : (x : Key) → x.kind ≡ kd → ((is_key x k ≡ true) ⊎ (is_key x k ≡ false)) → is_key x k ≡ false
-    apart x z (inl h) = true_false (kind_is kd kind.Relation) (subst (λ (y : Kind). kind_is kd y ≡ true) (sym z ∙ ap (λ (y : Key). y.kind) (one_key x k h) ∙ is_relation) (kind_self kd)) n
-    apart x z (inr h) = h
+        apart : (x : Key) → x.kind ≡ kd → ((is_key x k ≡ true) ⊎ (is_key x k ≡ false)) → is_key x k ≡ false
+        apart x z (inl h) = true_false (kind_is kd kind.Relation) (subst (λ (y : Kind). kind_is kd y ≡ true) (sym z ∙ ap (λ (y : Key). y.kind) (one_key x k h) ∙ is_relation) (kind_self kd)) n
+        apart x z (inr h) = h
 
   removes_same : (xs : List Key) → ((x : Key) → IsIn x xs → entry_of t x ≡ entry_of u x) → map (down_of t) (plain_removes xs) ≡ map (down_of u) (plain_removes xs)
   removes_same [] h = refl
@@ -127,7 +126,7 @@ module _ (t : TableValue) (k : Key) (e : Entry) (entry : entry_of t k ≡ Some e
   alike = record {
     held = λ i j x y n. ap (λ o. content_refers (held_at o) j.0) (sym (off_u i.0 n));
     marked = λ i x h. let v = map_in (emptied k) (falling_items t) i x in ap (λ (y : Item). y.1) (sym v.2) ∙ ap (λ b. cond b true v.0.1) (ap (λ (y : Item). is_key y.0 k) v.2 ∙ h);
-    version = λ i x n. ap version_at (sym (off_u i.0 n))
+    version = λ i x n. ap version_at (sym (off_u i.0 n));
   }
 
   abbrev both_lengths : ℕ
@@ -138,20 +137,20 @@ module _ (t : TableValue) (k : Key) (e : Entry) (entry : entry_of t k ≡ Some e
   downs_rest ds head =
       let rest = plain_removes (keys_where t (falling_of kind.Way)) ++ plain_removes (keys_where t (falling_of kind.Node)) in
       elim (front (fall (held_refers t) both_lengths (falling_items t)) rest k ds head) [
-        inl a ↦ absurd (no_clear (keys_where t (falling_of kind.Way)) (keys_where t (falling_of kind.Node)) k ds a.1)
+        | inl a ↦ absurd (no_clear (keys_where t (falling_of kind.Way)) (keys_where t (falling_of kind.Node)) k ds a.1)
         | inr a ↦ (
-          let b = starts t both_lengths (falling_items t) k a.0 a.1 in
-          let f = found_in (uses_some (held_refers t) (falling_items t)) (falling_items t) b.2.0 b.2.1 in
-          let j = any_is (λ j. item_uses (held_refers t) j.0 b.2.0) (falling_items t) f.1 in
-          let whole : b.2.0.1 ≡ false = not_true b.2.0.1 (and_both (not b.2.0.1) (held_refers t b.2.0.0 j.0.0) j.2).0 in
-          let less = lighter_mark k (falling_items t) b.2.0 f.0 b.2.2 whole in
-          let w = whole_weight (keys_where t (falling_of kind.Relation)) in
-          let c = b.1 in
-          let back = items_again (keys_where t (falling_of kind.Relation)) in
-          let sim = cleared_same t u k empty_now later_now b.0 both_lengths (map (emptied k) (falling_items t)) (omega (arith, less, w, c)) (subst (λ (xs : List Item). weight xs ≤ both_lengths) (sym back) (omega (arith, w))) alike in
-          let whole_fall : map (down_of t) a.0 ≡ map (down_of u) (fall (held_refers u) both_lengths (falling_items t)) = ap (map (down_of t)) b.3 ∙ sim ∙ ap (λ (xs : List Item). map (down_of u) (fall (held_refers u) both_lengths xs)) back in
-          let low : map (down_of t) rest ≡ map (down_of u) rest = map_joined (down_of t) (plain_removes (keys_where t (falling_of kind.Way))) (plain_removes (keys_where t (falling_of kind.Node))) ∙ (λ i. removes_same (keys_where t (falling_of kind.Way)) (kept kind.Way refl) i ++ removes_same (keys_where t (falling_of kind.Node)) (kept kind.Node refl) i) ∙ sym (map_joined (down_of u) (plain_removes (keys_where t (falling_of kind.Way))) (plain_removes (keys_where t (falling_of kind.Node)))) in
-          sym (
+            let b = starts t both_lengths (falling_items t) k a.0 a.1 in
+            let f = found_in (uses_some (held_refers t) (falling_items t)) (falling_items t) b.2.0 b.2.1 in
+            let j = any_is (λ j. item_uses (held_refers t) j.0 b.2.0) (falling_items t) f.1 in
+            let whole : b.2.0.1 ≡ false = not_true b.2.0.1 (and_both (not b.2.0.1) (held_refers t b.2.0.0 j.0.0) j.2).0 in
+            let less = lighter_mark k (falling_items t) b.2.0 f.0 b.2.2 whole in
+            let w = whole_weight (keys_where t (falling_of kind.Relation)) in
+            let c = b.1 in
+            let back = items_again (keys_where t (falling_of kind.Relation)) in
+            let sim = cleared_same t u k empty_now later_now b.0 both_lengths (map (emptied k) (falling_items t)) (omega (arith, less, w, c)) (subst (λ (xs : List Item). weight xs ≤ both_lengths) (sym back) (omega (arith, w))) alike in
+            let whole_fall : map (down_of t) a.0 ≡ map (down_of u) (fall (held_refers u) both_lengths (falling_items t)) = ap (map (down_of t)) b.3 ∙ sim ∙ ap (λ (xs : List Item). map (down_of u) (fall (held_refers u) both_lengths xs)) back in
+            let low : map (down_of t) rest ≡ map (down_of u) rest = map_joined (down_of t) (plain_removes (keys_where t (falling_of kind.Way))) (plain_removes (keys_where t (falling_of kind.Node))) ∙ (λ i. removes_same (keys_where t (falling_of kind.Way)) (kept kind.Way refl) i ++ removes_same (keys_where t (falling_of kind.Node)) (kept kind.Node refl) i) ∙ sym (map_joined (down_of u) (plain_removes (keys_where t (falling_of kind.Way))) (plain_removes (keys_where t (falling_of kind.Node)))) in
+            sym (
             ap (map (down_of t)) (sym a.2)
             ∙ map_joined (down_of t) a.0 rest
             ∙ (λ i. whole_fall i ++ low i)

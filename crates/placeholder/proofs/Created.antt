@@ -1,9 +1,9 @@
 -- After one object was made on the server the table is again clear to be sent, and its plan is the rest, renamed.
-use Rattle.std.proofs.Common.{◌≡◌, ℕ, ◌+◌, ℤ, Bool, true, false, cond, not, ◌&&◌, ◌||◌, List, [], ◌∷◌, ◌++◌, map, length, Option, Some, None, refl, sym, ◌∙◌, ap, subst, ◌⊎◌, inl, inr, arith}
+use Rattle.std.proofs.Common.{◌≡◌, ◌+◌, ℤ, Bool, true, false, cond, not, ◌&&◌, ◌||◌, List, [], ◌∷◌, ◌++◌, map, length, Option, Some, None, refl, sym, ◌∙◌, ap, subst, inl, inr, arith}
 use Rattle.std.specs.Option.{option_map, option_map_or, unwrap_or}
 use Rattle.std.specs.Cmp.{both_ways}
 use Rattle.std.specs.FinMap as fin
-use Rattle.osm_base.specs.Rank.{rank_cmp, is_key}
+use Rattle.osm_base.specs.Rank.{is_key}
 use Rattle.osm_base.specs.RankLaws.{rank_total}
 use Rattle.osm_base.specs.Content.{refers}
 use Rattle.osm_base.specs.Meta.{empty_meta}
@@ -21,16 +21,16 @@ use Rattle.osm_table.specs.Table.{TableValue, entry_of, mine_of, version_of, is_
 use Rattle.dataset.specs.Exact.{mine_at}
 use Rattle.dataset.specs.Sound.{IsSound, IsSoundEntry, LivesIn}
 use Rattle.upload_order.specs.declared.change.Change.{Change}
-use Rattle.upload_order.specs.declared.change.Change.TheVariants.{Create, Modify, Delete}
+use Rattle.upload_order.specs.declared.change.Change.TheVariants.{Create}
 use Rattle.upload_order.specs.declared.down.Down.{Down}
 use Rattle.upload_order.specs.declared.down.Down.TheVariants.{Clear, Remove}
 use Rattle.upload_order.specs.Bases.{base_in, is_based}
 use Rattle.upload_order.specs.Kinds.{is_rising, is_update, is_falling, is_sent, held_of, held_at, at_key, content_refers, mine_refers, held_refers}
 use Rattle.upload_order.specs.Fall.{Item, falls}
 use Rattle.upload_order.specs.Order.{without}
-use Rattle.upload_order.specs.Plan.{made, ups, up_of, up_entry, plain_removes, downs, down_of, version_at, plan}
+use Rattle.upload_order.specs.Plan.{ups, up_of, up_entry, plain_removes, downs, down_of, version_at, plan}
 use Rattle.upload_order.specs.Refused.{is_open, vouches}
-use Rattle.upload_order.specs.Rename.{Names, called, with_id, renamed, is_positive}
+use Rattle.upload_order.specs.Rename.{called, with_id, renamed, is_positive}
 use Rattle.upload_order.specs.World.{World, WorldEntry, stands, content_in, content_at, IsSoundWorld, Holds, Alone}
 use Rattle.upload_order.proofs.Along.{at_is, passed, means_itself, not_based}
 use Rattle.upload_order.proofs.Basics.{key_same, decide, true_false, both, none_some, at_key_put, at_other}
@@ -46,7 +46,7 @@ use Rattle.upload_order.proofs.Worlds.{called_meant}
 use Rattle.placeholder.specs.Confirmed.{moved, moved_entry, moved_entries, moved_change, confirmed}
 use Rattle.placeholder.proofs.Alike.{fall_same, steps_same}
 use Rattle.placeholder.proofs.Clear.{IsClear}
-use Rattle.placeholder.proofs.Moved.{same_rising, same_falling, moved_mine, moved_held, get_moved, kind_moved, same_new, same_incomplete, same_based, same_version, same_version_at, same_open, fits_renamed, moved_sound, moved_there}
+use Rattle.placeholder.proofs.Moved.{same_rising, same_falling, moved_mine, moved_held, get_moved, kind_moved, same_incomplete, same_based, same_version, same_version_at, same_open, fits_renamed, moved_sound, moved_there}
 use Rattle.placeholder.proofs.Parts.{rising_alike, falling_alike, not_rising, not_falling}
 use Rattle.placeholder.proofs.Rest.{same_where, without_where, ups_again, stuck_again, once, ordered}
 use Rattle.placeholder.proofs.Whole.{given_id, all_refs, stands_there, used_ref, up_falls, based_up, new_up, first_calm}
@@ -89,11 +89,11 @@ module _ (k : Key) (p : ℤ) (negative : is_positive k.id ≡ false) where
   renamed_other : (c : Content) (r : Key) → is_key r k ≡ false → is_key r q ≡ false → refers (renamed f c) r ≡ refers c r
   renamed_other c r n m = both_ways (refers (renamed f c) r) (refers c r)
       (λ h.
-        let x = renamed_from ((k, p) ∷ []) c r h in
-        elim (decide (is_key x.0 k)) [
-          inl i ↦ true_false (is_key r q) (key_same r q (sym x.2 ∙ f_here x.0 i)) m
-          | inr i ↦ subst (λ (y : Key). refers c y ≡ true) (sym (f_other x.0 i) ∙ x.2) x.1
-        ])
+      let x = renamed_from ((k, p) ∷ []) c r h in
+      elim (decide (is_key x.0 k)) [
+        | inl i ↦ true_false (is_key r q) (key_same r q (sym x.2 ∙ f_here x.0 i)) m
+        | inr i ↦ subst (λ (y : Key). refers c y ≡ true) (sym (f_other x.0 i) ∙ x.2) x.1
+      ])
       (λ h. subst (λ (y : Key). refers (renamed f c) y ≡ true) (f_other r n) (renamed_to ((k, p) ∷ []) c r h))
 
   refers_other : (o : Option Content) (r : Key) → is_key r k ≡ false → is_key r q ≡ false → content_refers (option_map (renamed f) o) r ≡ content_refers o r
@@ -107,13 +107,13 @@ module _ (k : Key) (p : ℤ) (negative : is_positive k.id ≡ false) where
   -- a renamed mine never comes to equal its base
   same_again : (c b : Content) → refers b k ≡ false → refers b q ≡ false → same_content (renamed f c) b ≡ same_content c b
   same_again c b n m = elim (decide (refers c k)) [
-      inr i ↦ ap (λ x. same_content x b) (renamed_free c i)
-      | inl i ↦ (
+    | inr i ↦ ap (λ x. same_content x b) (renamed_free c i)
+    | inl i ↦ (
         let new : refers (renamed f c) q ≡ true = subst (λ (y : Key). refers (renamed f c) y ≡ true) (f_here k (key_itself k)) (renamed_to ((k, p) ∷ []) c k i) in
         let a : same_content (renamed f c) b ≡ false = elim (decide (same_content (renamed f c) b)) [ inl x ↦ true_false (refers b q) (ap (λ y. refers y q) (sym (same_law (renamed f c) b x)) ∙ new) m | inr x ↦ x ] in
         let d : same_content c b ≡ false = elim (decide (same_content c b)) [ inl x ↦ true_false (refers b k) (ap (λ y. refers y k) (sym (same_law c b x)) ∙ i) n | inr x ↦ x ] in
         a ∙ sym d)
-    ]
+  ]
 
   same_update : (e : Entry) → ((b : Content) → held_of e ≡ Some b → (refers b k ≡ false) × (refers b q ≡ false)) → is_update (moved_entry f e) ≡ is_update e
   same_update Incomplete h = refl
@@ -130,7 +130,7 @@ module _ (k : Key) (p : ℤ) (negative : is_positive k.id ≡ false) where
 
   -- The first change of t creates the object of k, and the table has its answer.
   module _ (t : TableValue) (is : IsSound t) (ok : IsClear t) (w : World) (sound : IsSoundWorld w) (holds : Holds w t) (alone : Alone w t) (e : Entry) (c : Content) (up : IsUp t k e c) (new : is_new (base_in e) ≡ true)
-    (given : IsPositive p) (empty : stands w q ≡ None) (absent : entry_of t q ≡ None) (ks : List Key) (head : ups t ≡ k ∷ ks) where
+      (given : IsPositive p) (empty : stands w q ≡ None) (absent : entry_of t q ≡ None) (ks : List Key) (head : ups t ≡ k ∷ ks) where
     abbrev s : Sound t
     s = sound_of t is
 
@@ -165,23 +165,24 @@ module _ (k : Key) (p : ℤ) (negative : is_positive k.id ≡ false) where
 
     cases_u : (P : Key → Entry → Type 0) → ((j : Key) (g : Entry) → is_key j k ≡ false → is_key j q ≡ false → entry_of t j ≡ Some g → P j (moved_entry f g)) → P q e2 → (j : Key) (g : Entry) → entry_of u j ≡ Some g → P j g
     cases_u P old here j g h = elim (decide (is_key j q)) [
-        inl i ↦ subst (λ (x : Key). P x g) (sym (one_key j q i)) (subst (λ (x : Entry). P q x) (both e2 g (entry_of u j) (at_u j i) h) here)
-        | inr i ↦ (elim (decide (is_key j k)) [
-          inl n ↦ none_some g (entry_of u j) (gone_u j i n) h
-          | inr n ↦ (let x = some_moved (entry_of t j) g (sym (off_u j i n) ∙ h) in subst (λ (y : Entry). P j y) x.2 (old j x.0 n i x.1))
-        ])
-      ]
+      | inl i ↦ subst (λ (x : Key). P x g) (sym (one_key j q i)) (subst (λ (x : Entry). P q x) (both e2 g (entry_of u j) (at_u j i) h) here)
+      | inr i ↦ (elim (decide (is_key j k)) [
+        | inl n ↦ none_some g (entry_of u j) (gone_u j i n) h
+        | inr n ↦ (let x = some_moved (entry_of t j) g (sym (off_u j i n) ∙ h) in subst (λ (y : Entry). P j y) x.2 (old j x.0 n i x.1))
+      ])
+    ]
 
     not_refers : (b : Content) (r : Key) → (refers b r ≡ true → ⊥) → refers b r ≡ false
     not_refers b r h = elim (decide (refers b r)) [ inl x ↦ absurd (h x) | inr x ↦ x ]
 
     -- no base refers to the placeholder, nor to the pick
     base_free : (j : Key) (g : Entry) (b : Content) → entry_of t j ≡ Some g → held_of g ≡ Some b → (refers b k ≡ false) × (refers b q ≡ false)
-    base_free j g b h m =
-        (not_refers b k (λ x. true_false (is_positive k.id) (s.held_refs j k g b h m x) negative),
-          not_refers b q (λ x.
-            let y = sound j q b (ap content_in (holds j g h (based_held g b m)) ∙ m) x in
-            none_some y.0 (content_at w q) (ap content_in empty) y.1)) where
+    base_free j g b h m = (
+      not_refers b k (λ x. true_false (is_positive k.id) (s.held_refs j k g b h m x) negative),
+      not_refers b q (λ x.
+          let y = sound j q b (ap content_in (holds j g h (based_held g b m)) ∙ m) x in
+          none_some y.0 (content_at w q) (ap content_in empty) y.1),
+    ) where
       based_held : (g : Entry) (b : Content) → held_of g ≡ Some b → is_based g ≡ true
       based_held Incomplete b h = cc
       based_held (Known New m d) b h = cc
@@ -199,8 +200,8 @@ module _ (k : Key) (p : ℤ) (negative : is_positive k.id ≡ false) where
     tested test same idle = without_where t u k test test
         (λ j g n h x. (moved_entry f g, there j g n h, same j g h ∙ x))
         (λ j g h x. cases_u (λ j g. test j g ≡ true → (is_key j k ≡ false) × ((i : Entry) × (entry_of t j ≡ Some i) × (test j i ≡ true)))
-          (λ j g n m h x. (n, (g, h, sym (same j g h) ∙ x)))
-          (λ x. true_false (test q e2) x idle) j g h x)
+        (λ j g n m h x. (n, (g, h, sym (same j g h) ∙ x)))
+        (λ x. true_false (test q e2) x idle) j g h x)
 
     rising : (kd : Kind) → without k (keys_where t (rising_of kd)) ≡ keys_where u (rising_of kd)
     rising kd = tested (rising_of kd) (λ j g h. rising_alike kd j.kind (moved_entry f g) g (same_rising f g)) (not_rising kd q.kind e2 refl)
@@ -292,25 +293,25 @@ module _ (k : Key) (p : ℤ) (negative : is_positive k.id ≡ false) where
           own_sound j g h;
       closed = λ j g h. cases_u (λ j g. LivesIn u g)
           (λ j g n a h r x.
-            let d = used_ref (mine_of (moved_entry f g)) r x in
-            let b = old_mine g d.0 d.1 in
-            refs_u b.0 (λ r y. stands_there t r (s.refs j r g b.0 h b.1 y)) r (subst (λ (y : Content). refers y r ≡ true) (sym b.2) d.2))
+          let d = used_ref (mine_of (moved_entry f g)) r x in
+          let b = old_mine g d.0 d.1 in
+          refs_u b.0 (λ r y. stands_there t r (s.refs j r g b.0 h b.1 y)) r (subst (λ (y : Content). refers y r ≡ true) (sym b.2) d.2))
           (λ r x. refs_u c (λ r y. stands_there t r (s.refs k r e c up.entry up.mine y)) r x) j g h;
       number = is.number;
     }
 
     pub holds_again : Holds (record { entries = fin.insert w.entries q (record { version = 1; content = Some (renamed (called w.names) c) }); names = (k, p) ∷ w.names }) u
     holds_again j g h b = elim (decide (is_key j q)) [
-        inl i ↦ (
+      | inl i ↦ (
           let one : e2 ≡ g = both e2 g (entry_of u j) (at_u j i) h in
           let kept : renamed (called w.names) c ≡ c = renamed_itself (called w.names) c (λ r x. called_meant w.names r r (means_itself w.names r (positive_ref r x))) in
           at_key_put w.entries q j _ i
           ∙ ap (λ (d : Content). let x : WorldEntry = record { version = 1; content = Some d } in Some x) (kept ∙ sym mine_kept)
           ∙ ap (λ (y : Entry). let x : WorldEntry = record { version = version_of (base_in y); content = held_of y } in Some x) one)
-        | inr i ↦ at_other w.entries q j _ i ∙ cases_u (λ j g. is_key j q ≡ false → is_based g ≡ true → stands w j ≡ Some (record { version = version_of (base_in g); content = held_of g }))
+      | inr i ↦ at_other w.entries q j _ i ∙ cases_u (λ j g. is_key j q ≡ false → is_based g ≡ true → stands w j ≡ Some (record { version = version_of (base_in g); content = held_of g }))
           (λ j g n a h i b. holds j g h (sym (same_based f g) ∙ b) ∙ (λ x. let y : WorldEntry = record { version = sym (same_version f g) x; content = held_moved j g h x } in Some y))
           (λ i b. true_false (is_key q q) (key_itself q) i) j g h i b
-      ] where
+    ] where
       held_moved : (j : Key) (g : Entry) → entry_of t j ≡ Some g → held_of g ≡ held_of (moved_entry f g)
       held_moved j g h = stay (held_of g) (λ b m. (base_free j g b h m).0) ∙ sym (moved_held f g) where
         stay : (o : Option Content) → ((b : Content) → o ≡ Some b → refers b k ≡ false) → o ≡ option_map (renamed f) o
@@ -332,31 +333,31 @@ module _ (k : Key) (p : ℤ) (negative : is_positive k.id ≡ false) where
     incomplete_there r i =
         let x = passed is_incomplete (entry_of u r) i in
         cases_u (λ r g. is_incomplete g ≡ true → (is_key r k ≡ false) × (is_key r q ≡ false) × (at_key t is_incomplete r ≡ true))
-          (λ r g n m h y. (n, m, at_is t is_incomplete r g true h (sym (same_incomplete f g) ∙ y)))
-          (λ y. cc) r x.0 x.1 x.2
+        (λ r g n m h y. (n, m, at_is t is_incomplete r g true h (sym (same_incomplete f g) ∙ y)))
+        (λ y. cc) r x.0 x.1 x.2
 
     vouches_again : (v r : Key) (g : Entry) → is_key r k ≡ false → is_key r q ≡ false → entry_of t v ≡ Some g → vouches g r ≡ true → (x : Key) × (y : Entry) × (entry_of u x ≡ Some y) × (vouches y r ≡ true)
     vouches_again v r g n m h a = elim (decide (is_key v k)) [
-        inr i ↦ (v, moved_entry f g, there v g i h, same_vouch g r n m ∙ a)
-        | inl i ↦ (
+      | inr i ↦ (v, moved_entry f g, there v g i h, same_vouch g r n m ∙ a)
+      | inl i ↦ (
           let one : g ≡ e = both g e (entry_of t k) (ap (entry_of t) (sym (one_key v k i)) ∙ h) up.entry in
           let no : vouches g r ≡ false = and_left (content_refers (held_of g) r) (option_map_or (λ c. refers c r) (mine_of g) true) (ap (λ o. content_refers o r) (new_holds_nothing g (ap (λ y. is_new (base_in y)) one ∙ new))) in
           true_false (vouches g r) a no)
-      ]
+    ]
 
     pub clear_again : IsClear u
     clear_again = record {
       no_conflict = λ j g h. cases_u (λ j g. is_open g ≡ false) (λ j g n m h. same_open f g ∙ ok.no_conflict j g h) refl j g h;
       vouched = λ j r g d h m sent x i. cases_u (λ j g. (d : Content) → mine_of g ≡ Some d → is_sent g ≡ true → refers d r ≡ true → (v : Key) × (y : Entry) × (entry_of u v ≡ Some y) × (vouches y r ≡ true))
-        (λ j g n a h d m sent x.
+          (λ j g n a h d m sent x.
           let b = old_mine g d m in
           let z = incomplete_there r i in
           let y : refers b.0 r ≡ true = sym (renamed_other b.0 r z.0 z.1) ∙ subst (λ (y : Content). refers y r ≡ true) (sym b.2) x in
           let was : is_sent g ≡ true = (λ l. (sym (same_rising f g) l || sym (update_kept j g h) l)) ∙ sent in
           let v = ok.vouched j r g b.0 h b.1 was y z.2 in
           vouches_again v.0 r v.1 z.0 z.1 v.2 v.3)
-        (λ d m sent x. true_false (is_sent e2) sent self_update) j g h d m sent x;
-      no_stuck = stuck_again t u s ok.no_stuck k ks head rising updates same
+          (λ d m sent x. true_false (is_sent e2) sent self_update) j g h d m sent x;
+      no_stuck = stuck_again t u s ok.no_stuck k ks head rising updates same;
     }
 
     based_moved : (o : Option Entry) → option_map_or is_based (option_map (moved_entry f) o) false ≡ option_map_or is_based o false
@@ -367,7 +368,7 @@ module _ (k : Key) (p : ℤ) (negative : is_positive k.id ≡ false) where
     alone_again x r d n h g =
         let away : is_key x q ≡ false = elim (decide (is_key x q)) [ inl i ↦ (let z : at_key u is_based x ≡ true = ap (λ (o : Option Entry). option_map_or is_based o false) (at_u x i) in true_false (at_key u is_based x) z n) | inr i ↦ i ] in
         let idle : at_key t is_based x ≡ false = elim (decide (is_key x k)) [
-          inl i ↦ at_is t is_based x e false (ap (entry_of t) (one_key x k i) ∙ up.entry) (not_based e new)
+          | inl i ↦ at_is t is_based x e false (ap (entry_of t) (one_key x k i) ∙ up.entry) (not_based e new)
           | inr i ↦ sym (based_moved (entry_of t x)) ∙ ap (λ (o : Option Entry). option_map_or is_based o false) (sym (off_u x away i)) ∙ n
         ] in
         let y = passed is_falling (entry_of u r) g in
@@ -376,16 +377,16 @@ module _ (k : Key) (p : ℤ) (negative : is_positive k.id ≡ false) where
 
     not_fallen : (j : Key) (g : Entry) → entry_of t j ≡ Some g → is_falling g ≡ true → is_key j k ≡ false
     not_fallen j g h i = elim (decide (is_key j k)) [
-        inl x ↦ true_false (is_falling g) i (ap is_falling (both g e (entry_of t k) (ap (entry_of t) (sym (one_key j k x)) ∙ h) up.entry) ∙ up_falls e c up.mine)
-        | inr x ↦ x
-      ]
+      | inl x ↦ true_false (is_falling g) i (ap is_falling (both g e (entry_of t k) (ap (entry_of t) (sym (one_key j k x)) ∙ h) up.entry) ∙ up_falls e c up.mine)
+      | inr x ↦ x
+    ]
 
     falling : (kd : Kind) → keys_where t (falling_of kd) ≡ keys_where u (falling_of kd)
     falling kd = same_where t u (falling_of kd) (falling_of kd)
         (λ j g h i. (moved_entry f g, there j g (not_fallen j g h (falling_both kd j.kind g i).1) h, falling_alike kd j.kind (moved_entry f g) g (same_falling f g) ∙ i))
         (λ j g h i. cases_u (λ j g. falling_of kd j g ≡ true → (x : Entry) × (entry_of t j ≡ Some x) × (falling_of kd j x ≡ true))
-          (λ j g a b h i. (g, h, falling_alike kd j.kind g (moved_entry f g) (sym (same_falling f g)) ∙ i))
-          (λ i. true_false (falling_of kd q e2) i (not_falling kd q.kind e2 refl)) j g h i)
+        (λ j g a b h i. (g, h, falling_alike kd j.kind g (moved_entry f g) (sym (same_falling f g)) ∙ i))
+        (λ i. true_false (falling_of kd q e2) i (not_falling kd q.kind e2 refl)) j g h i)
 
     held_same : (i j : Item) → IsIn i (falling_items t) → IsIn j (falling_items t) → held_refers t i.0 j.0 ≡ held_refers u i.0 j.0
     held_same i j a b =
@@ -399,11 +400,11 @@ module _ (k : Key) (p : ℤ) (negative : is_positive k.id ≡ false) where
         ∙ ap (λ o. content_refers o j.0) (held_kept m.0 x.0 x.1)
         ∙ sym (ap (λ o. content_refers (held_at o) j.0) (there m.0 x.0 n x.1))
         ∙ ap (λ y. held_refers u y j.0) (sym one) where
-      held_kept : (j : Key) (g : Entry) → entry_of t j ≡ Some g → held_of g ≡ held_of (moved_entry f g)
-      held_kept j g h = stay (held_of g) (λ b m. (base_free j g b h m).0) ∙ sym (moved_held f g) where
-        stay : (o : Option Content) → ((b : Content) → o ≡ Some b → refers b k ≡ false) → o ≡ option_map (renamed f) o
-        stay None h = refl
-        stay (Some b) h = ap (λ (y : Content). Some y) (sym (renamed_free b (h b refl)))
+          held_kept : (j : Key) (g : Entry) → entry_of t j ≡ Some g → held_of g ≡ held_of (moved_entry f g)
+          held_kept j g h = stay (held_of g) (λ b m. (base_free j g b h m).0) ∙ sym (moved_held f g) where
+            stay : (o : Option Content) → ((b : Content) → o ≡ Some b → refers b k ≡ false) → o ≡ option_map (renamed f) o
+            stay None h = refl
+            stay (Some b) h = ap (λ (y : Content). Some y) (sym (renamed_free b (h b refl)))
 
     downs_rest : downs t ≡ downs u
     downs_rest =
@@ -441,16 +442,18 @@ module _ (k : Key) (p : ℤ) (negative : is_positive k.id ≡ false) where
     pub plan_rest : (cs : List Change) × (plan t ≡ up_of t k ∷ cs) × (plan u ≡ map (moved_change f) cs)
     plan_rest =
         let line = ordered t u s ok.no_stuck k ks head rising updates same in
-        let apart : (j : Key) → IsIn j ks → (is_key j k ≡ false) × (is_key j q ≡ false) = λ j i.
-        (elim (decide (is_key j k)) as (λ _. is_key j k ≡ false) [ inl x ↦ absurd (once t u s ok.no_stuck k ks head rising updates same (subst (λ (y : Key). IsIn y ks) (one_key j k x) i)) | inr x ↦ x ],
-          let y = ordered_up t _ _ (k ∷ ks) line j (inr i) in not_q j y.0 y.1) in
-        let d = downs_ordered t s in
-        (map (up_of t) ks ++ map (down_of t) (downs t),
+        let apart : (j : Key) → IsIn j ks → (is_key j k ≡ false) × (is_key j q ≡ false) = λ j i. (
+          elim (decide (is_key j k)) as (λ _. is_key j k ≡ false) [ inl x ↦ absurd (once t u s ok.no_stuck k ks head rising updates same (subst (λ (y : Key). IsIn y ks) (one_key j k x) i)) | inr x ↦ x ],
+          let y = ordered_up t _ _ (k ∷ ks) line j (inr i) in not_q j y.0 y.1,
+        ) in
+        let d = downs_ordered t s in (
+          map (up_of t) ks ++ map (down_of t) (downs t),
           ap (λ (xs : List Key). map (up_of t) xs ++ map (down_of t) (downs t)) head,
           ap (λ (xs : List Key). map (up_of u) xs ++ map (down_of u) (downs u)) ups_rest
-          ∙ ap (λ (cs : List Change). cs ++ map (down_of u) (downs u)) (ups_moved ks apart)
-          ∙ ap (λ (cs : List Change). map (moved_change f) (map (up_of t) ks) ++ cs) (
-            ap (map (down_of u)) (sym downs_rest)
-            ∙ sym (steps_same t u (λ j g h i. ap version_at h ∙ sym (same_version_at f g) ∙ sym (ap version_at (there j g (not_fallen j g h i) h))) _ d.0 (downs t) d.1)
-            ∙ downs_moved (downs t))
-          ∙ joined (map (up_of t) ks) (map (down_of t) (downs t)))
+              ∙ ap (λ (cs : List Change). cs ++ map (down_of u) (downs u)) (ups_moved ks apart)
+              ∙ ap (λ (cs : List Change). map (moved_change f) (map (up_of t) ks) ++ cs) (
+              ap (map (down_of u)) (sym downs_rest)
+              ∙ sym (steps_same t u (λ j g h i. ap version_at h ∙ sym (same_version_at f g) ∙ sym (ap version_at (there j g (not_fallen j g h i) h))) _ d.0 (downs t) d.1)
+              ∙ downs_moved (downs t))
+              ∙ joined (map (up_of t) ks) (map (down_of t) (downs t)),
+        )

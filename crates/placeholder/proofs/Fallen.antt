@@ -1,5 +1,5 @@
 -- After one object was emptied or deleted on the server the table is again clear to be sent.
-use Rattle.std.proofs.Common.{◌≡◌, ℕ, Bool, true, false, List, [], ◌∷◌, ◌++◌, Option, Some, None, refl, sym, ◌∙◌, ap, subst, ◌⊎◌, inl, inr}
+use Rattle.std.proofs.Common.{◌≡◌, ℕ, Bool, true, false, List, [], ◌++◌, Option, Some, None, refl, sym, ◌∙◌, ap, subst, inl, inr}
 use Rattle.std.specs.List.{AllByRecursion}
 use Rattle.std.specs.Option.{option_map_or}
 use Rattle.osm_base.specs.Rank.{is_key}
@@ -13,12 +13,12 @@ use Rattle.osm_table.specs.declared.entry.Entry.{Entry}
 use Rattle.osm_table.specs.declared.entry.Entry.TheVariants.{Incomplete, Known}
 use Rattle.osm_table.specs.declared.entry.Base.{Base}
 use Rattle.osm_table.specs.declared.entry.Base.TheVariants.{New, Live, Gone}
-use Rattle.osm_table.specs.Table.{TableValue, entry_of, with_entry, mine_of, held_by, version_of, is_new, IsThere, IfContent, IsPositive}
+use Rattle.osm_table.specs.Table.{TableValue, entry_of, with_entry, held_by, version_of, is_new, IsThere, IfContent, IsPositive}
 use Rattle.dataset.specs.Sound.{IsSound, IsSoundEntry, BaseFits, HasVersion, LivesIn}
 use Rattle.upload_order.specs.Bases.{base_in, is_based}
 use Rattle.upload_order.specs.Kinds.{is_rising, is_update, is_falling, held_of, at_key, mine_refers}
 use Rattle.upload_order.specs.Order.{peeled}
-use Rattle.upload_order.specs.Plan.{made, ups, empty_relation}
+use Rattle.upload_order.specs.Plan.{ups, empty_relation}
 use Rattle.upload_order.specs.Refused.{is_open}
 use Rattle.upload_order.specs.World.{World, WorldEntry, content_in, Holds, Alone, put_in}
 use Rattle.upload_order.proofs.Along.{at_is, passed}
@@ -31,7 +31,6 @@ use Rattle.upload_order.proofs.Static.{IsUp, IsOrdered, no_more}
 use Rattle.upload_order.proofs.Where.{keys_where, rising_of, rising_both, in_where}
 use Rattle.placeholder.proofs.Clear.{IsClear, no_member}
 use Rattle.placeholder.proofs.Whole.{given_id}
-
 
 ordered_none : (t : TableValue) (done last : Key → Bool) → IsOrdered t done [] last → (k : Key) → last k ≡ done k
 ordered_none t done last (no_more d) k = refl
@@ -53,7 +52,7 @@ if_some P None h = tt
 if_some P (Some c) h = h c refl
 
 module _ (t : TableValue) (is : IsSound t) (ok : IsClear t) (k : Key) (e : Entry) (entry : entry_of t k ≡ Some e) (down : is_falling e ≡ true) (none : ups t ≡ [])
-  (b : Base) (not_new : is_new b ≡ false) (holds_empty : (d : Content) → held_by b ≡ Some d → (d ≡ empty_relation) × (k.kind ≡ kind.Relation)) (version : HasVersion b) where
+    (b : Base) (not_new : is_new b ≡ false) (holds_empty : (d : Content) → held_by b ≡ Some d → (d ≡ empty_relation) × (k.kind ≡ kind.Relation)) (version : HasVersion b) where
   abbrev s : Sound t
   s = sound_of t is
 
@@ -71,9 +70,9 @@ module _ (t : TableValue) (is : IsSound t) (ok : IsClear t) (k : Key) (e : Entry
 
   cases_u : (P : Key → Entry → Type 0) → ((j : Key) (f : Entry) → is_key j k ≡ false → entry_of t j ≡ Some f → P j f) → P k e2 → (j : Key) (f : Entry) → entry_of answered j ≡ Some f → P j f
   cases_u P there here j f h = elim (decide (is_key j k)) [
-      inl i ↦ subst (λ (x : Key). P x f) (sym (one_key j k i)) (subst (λ (x : Entry). P k x) (both e2 f (entry_of answered j) (at_u j i) h) here)
-      | inr i ↦ there j f i (sym (off_u j i) ∙ h)
-    ]
+    | inl i ↦ subst (λ (x : Key). P x f) (sym (one_key j k i)) (subst (λ (x : Entry). P k x) (both e2 f (entry_of answered j) (at_u j i) h) here)
+    | inr i ↦ there j f i (sym (off_u j i) ∙ h)
+  ]
 
   idle_base : (b : Base) → is_new b ≡ false → (is_rising (Known b None None) ≡ false) × (is_update (Known b None None) ≡ false) × (is_based (Known b None None) ≡ true)
   idle_base New h = cc
@@ -126,15 +125,15 @@ module _ (t : TableValue) (is : IsSound t) (ok : IsClear t) (k : Key) (e : Entry
   clear_again = record {
     no_conflict = λ j f h. cases_u (λ j f. is_open f ≡ false) (λ j f n x. ok.no_conflict j f x) refl j f h;
     vouched = λ j r f d h m sent g i. absurd (elim (or_cases (is_rising f) (is_update f) sent) [ inl y ↦ no_rising j f h y | inr y ↦ no_update j f h y ]);
-    no_stuck = ap (λ (xs : List Key). (peeled (mine_refers answered) xs).stuck) (none_rising kind.Relation)
+    no_stuck = ap (λ (xs : List Key). (peeled (mine_refers answered) xs).stuck) (none_rising kind.Relation);
   }
 
   module _ (w : World) (holds : Holds w t) (alone : Alone w t) where
     pub holds_again : Holds (put_in w k (version_of b) (held_by b)) answered
     holds_again j f h c = elim (decide (is_key j k)) [
-        inl i ↦ at_key_put w.entries k j _ i ∙ ap (λ (g : Entry). let x : WorldEntry = record { version = version_of (base_in g); content = held_of g } in Some x) (both e2 f (entry_of answered j) (at_u j i) h)
-        | inr i ↦ at_other w.entries k j _ i ∙ holds j f (sym (off_u j i) ∙ h) c
-      ]
+      | inl i ↦ at_key_put w.entries k j _ i ∙ ap (λ (g : Entry). let x : WorldEntry = record { version = version_of (base_in g); content = held_of g } in Some x) (both e2 f (entry_of answered j) (at_u j i) h)
+      | inr i ↦ at_other w.entries k j _ i ∙ holds j f (sym (off_u j i) ∙ h) c
+    ]
 
     pub alone_again : Alone (put_in w k (version_of b) (held_by b)) answered
     alone_again q r d n h f =

@@ -1,22 +1,19 @@
 -- What a table has at each key after one answer.
-use Rattle.std.proofs.Common.{◌≡◌, ◌+◌, ℤ, Bool, true, false, cond, Option, Some, None, refl, sym, ◌∙◌, ap, inl, inr}
+use Rattle.std.proofs.Common.{◌≡◌, ℤ, Bool, true, false, cond, Option, Some, None, refl, ◌∙◌, ap, inl, inr}
 use Rattle.std.specs.Option.{option_map}
 use Rattle.std.specs.FinMap as fin
-use Rattle.osm_base.specs.Rank.{rank_cmp, is_key}
+use Rattle.osm_base.specs.Rank.{is_key}
 use Rattle.osm_base.specs.RankLaws.{rank_total}
-use Rattle.osm_base.specs.Meta.{empty_meta}
 use Rattle.osm_base.specs.declared.key.Key.{Key}
 use Rattle.osm_base.specs.declared.content.Content.{Content}
 use Rattle.osm_base.proofs.RisingKeys.{one_key}
-use Rattle.osm_table.specs.declared.entry.Base.TheVariants.{Live, Gone}
 use Rattle.osm_table.specs.declared.entry.Entry.{Entry}
-use Rattle.osm_table.specs.declared.entry.Entry.TheVariants.{Known}
 use Rattle.osm_table.specs.Table.{TableValue, entry_of, with_entry}
 use Rattle.osm_table.proofs.Each.{get_with}
-use Rattle.upload_order.specs.declared.change.Change.TheVariants.{Create, Modify, Delete}
+use Rattle.upload_order.specs.declared.change.Change.TheVariants.{Create}
 use Rattle.upload_order.specs.Rename.{with_id, renamed}
 use Rattle.upload_order.proofs.Basics.{decide, none_some}
-use Rattle.placeholder.specs.Confirmed.{moved, moved_entry, moved_entries, based_on, made_entry, confirmed}
+use Rattle.placeholder.specs.Confirmed.{moved, moved_entry, moved_entries, made_entry, confirmed}
 use Rattle.placeholder.proofs.Moved.{get_moved}
 
 -- after an object was made

@@ -1,5 +1,5 @@
 -- Entries with other references.
-use Rattle.std.proofs.Common.{◌≡◌, ℕ, ℤ, Bool, true, false, cond, not, ◌&&◌, List, [], ◌∷◌, map, length, Option, Some, None, refl, sym, ◌∙◌, ap, subst, IsTrue}
+use Rattle.std.proofs.Common.{◌≡◌, ℕ, Bool, true, false, cond, ◌&&◌, List, [], ◌∷◌, map, Option, Some, None, refl, sym, ◌∙◌, ap, subst, IsTrue}
 use Rattle.std.specs.Prelude.{IsSome, nat_le}
 use Rattle.std.specs.List.{list_all, AllByRecursion}
 use Rattle.std.specs.Option.{option_map}
@@ -23,8 +23,7 @@ use Rattle.upload_order.specs.Kinds.{is_rising, is_update, is_falling, held_of}
 use Rattle.upload_order.specs.Plan.{version_at}
 use Rattle.upload_order.specs.Refused.{is_open}
 use Rattle.upload_order.specs.Rename.{renamed}
-use Rattle.placeholder.specs.Confirmed.{moved_base, moved_entry, moved_entries}
-
+use Rattle.placeholder.specs.Confirmed.{moved_entry, moved_entries}
 
 -- the tests of an entry don't see the names
 pub same_rising : (f : Key → Key) (e : Entry) → is_rising (moved_entry f e) ≡ is_rising e

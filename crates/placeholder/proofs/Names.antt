@@ -1,5 +1,5 @@
 -- Names given one after the other are names given at once.
-use Rattle.std.proofs.Common.{◌≡◌, ◌+◌, ℤ, Bool, true, false, cond, List, [], ◌∷◌, map, Option, Some, None, refl, sym, ◌∙◌, ap, subst, ◌⊎◌, inl, inr}
+use Rattle.std.proofs.Common.{◌≡◌, ◌+◌, ℤ, Bool, true, false, cond, List, [], ◌∷◌, map, Option, Some, None, refl, sym, ◌∙◌, ap, inl, inr}
 use Rattle.std.specs.Option.{unwrap_or}
 use Rattle.std.specs.FinMap as fin
 use Rattle.osm_base.specs.Rank.{is_key}
@@ -11,9 +11,9 @@ use Rattle.osm_base.specs.declared.content.Content.TheVariants as content
 use Rattle.osm_base.proofs.RisingKeys.{one_key}
 use Rattle.upload_order.specs.declared.change.Change.{Change}
 use Rattle.upload_order.specs.declared.change.Change.TheVariants.{Create, Modify, Delete}
-use Rattle.upload_order.specs.Rename.{Names, named, id_meant, with_id, called, renamed, is_positive}
+use Rattle.upload_order.specs.Rename.{Names, named, with_id, called, renamed, is_positive}
 use Rattle.upload_order.specs.World.{World, WorldEntry, put_in, after}
-use Rattle.upload_order.proofs.Basics.{decide, true_false, none_some}
+use Rattle.upload_order.proofs.Basics.{decide, none_some}
 use Rattle.upload_order.proofs.Renaming.{renamed_same, renamed_itself}
 use Rattle.placeholder.specs.Confirmed.{moved, moved_change}
 

@@ -1,5 +1,5 @@
 -- Whether an entry is in a part of the plan depends on its kind of change alone.
-use Rattle.std.proofs.Common.{◌≡◌, Bool, true, false, refl}
+use Rattle.std.proofs.Common.{◌≡◌, false, refl}
 use Rattle.osm_base.specs.declared.key.Kind.{Kind}
 use Rattle.osm_base.specs.declared.key.Kind.TheVariants as kind
 use Rattle.osm_table.specs.declared.entry.Entry.{Entry}

@@ -1,6 +1,6 @@
 -- The plan after an object was deleted is the rest of the plan.
 use Rattle.std.proofs.Common.{◌≡◌, ℕ, zero, suc, ◌+◌, ◌≤◌, Bool, true, false, cond, not, List, [], ◌∷◌, ◌++◌, map, length, Option, Some, None, refl, sym, ◌∙◌, ap, subst, ◌⊎◌, inl, inr, arith}
-use Rattle.std.specs.List.{find, filter}
+use Rattle.std.specs.List.{find}
 use Rattle.osm_base.specs.Rank.{is_key}
 use Rattle.osm_base.specs.Meta.{empty_meta}
 use Rattle.osm_base.specs.declared.key.Kind.{Kind}
@@ -11,7 +11,6 @@ use Rattle.osm_table.specs.declared.entry.Entry.{Entry}
 use Rattle.osm_table.specs.declared.entry.Entry.TheVariants.{Known}
 use Rattle.osm_table.specs.declared.entry.Base.TheVariants.{Gone}
 use Rattle.osm_table.specs.Table.{TableValue, entry_of, with_entry, version_of}
-use Rattle.upload_order.specs.declared.change.Change.{Change}
 use Rattle.upload_order.specs.declared.change.Change.TheVariants.{Delete}
 use Rattle.upload_order.specs.declared.down.Down.{Down}
 use Rattle.upload_order.specs.declared.down.Down.TheVariants.{Clear, Remove}
@@ -27,10 +26,9 @@ use Rattle.upload_order.proofs.PlanUps.{kind_is, kind_self}
 use Rattle.upload_order.proofs.PlanDowns.{weight, lighter_drop}
 use Rattle.upload_order.proofs.Where.{keys_where, falling_of, falling_items, falling_both, distinct_where, in_where}
 use Rattle.placeholder.proofs.Cleared.{unmarked, Alike, cleared_same, whole_weight}
-use Rattle.placeholder.proofs.ClearedPlan.{map_joined, rest_of, is_clear}
+use Rattle.placeholder.proofs.ClearedPlan.{map_joined, rest_of}
 use Rattle.placeholder.proofs.Rest.{without_where, without_absent, without_head}
 use Rattle.placeholder.proofs.Whole.{version_case}
-
 
 abbrev removed_key : Key → List Down → Key
 removed_key d [] = d
@@ -83,9 +81,9 @@ module _ (t : TableValue) (k : Key) (e : Entry) (entry : entry_of t k ≡ Some e
 
   not_there : (kd : Kind) (j : Key) (f : Entry) → entry_of u j ≡ Some f → falling_of kd j f ≡ true → is_key j k ≡ false
   not_there kd j f h g = elim (decide (is_key j k)) [
-      inl i ↦ true_false (is_falling f) (falling_both kd j.kind f g).1 (ap is_falling (both f e2 (entry_of u j) h (at_u j i)))
-      | inr i ↦ i
-    ]
+    | inl i ↦ true_false (is_falling f) (falling_both kd j.kind f g).1 (ap is_falling (both f e2 (entry_of u j) h (at_u j i)))
+    | inr i ↦ i
+  ]
 
   falling : (kd : Kind) → without k (keys_where t (falling_of kd)) ≡ keys_where u (falling_of kd)
   falling kd = without_where t u k (falling_of kd) (falling_of kd) (λ j f n h g. (f, off_u j n ∙ h, g)) (λ j f h g. let n = not_there kd j f h g in (n, (f, sym (off_u j n) ∙ h, g)))
@@ -126,7 +124,7 @@ module _ (t : TableValue) (k : Key) (e : Entry) (entry : entry_of t k ≡ Some e
   alike = record {
     held = λ i j x y n. ap (λ o. content_refers (held_at o) j.0) (sym (off_u i.0 n));
     marked = λ i x h. true_false (is_key i.0 k) h (item_apart i x);
-    version = λ i x n. ap version_at (sym (off_u i.0 n))
+    version = λ i x n. ap version_at (sym (off_u i.0 n));
   }
 
   -- the fall of what is left, in both tables
@@ -174,27 +172,27 @@ module _ (t : TableValue) (k : Key) (e : Entry) (entry : entry_of t k ≡ Some e
       let n = length (keys_where t (falling_of kind.Relation)) + length (keys_where t (falling_of kind.Relation)) in
       let w = whole_weight (keys_where t (falling_of kind.Relation)) in
       elim (front (fall (held_refers t) n (falling_items t)) (plain_removes ways ++ plain_removes nodes) k b ds head) [
-        inr a ↦ (
-          let x = starts t n (falling_items t) k b a.0 a.1 in
-          let f = found_in (is_unused (held_refers t) (falling_items t)) (falling_items t) x.2.0 x.2.1 in
-          let m = map_in mk (keys_where t (falling_of kind.Relation)) x.2.0 f.0 in
-          let kd : k.kind ≡ kind.Relation = kind_at kind.Relation (subst (λ (y : Key). IsIn y (keys_where t (falling_of kind.Relation))) (ap (λ (z : Item). z.0) m.2 ∙ x.2.2) m.1) in
-          let less = lighter_drop (λ j. not (is_key j.0 k)) (falling_items t) x.2.0 f.0 (ap not (key_same x.2.0.0 k x.2.2)) in
-          let c = x.1 in
-          let fits : weight (falling_items u) ≤ x.0 = subst (λ (xs : List Item). weight xs ≤ x.0) items_u (omega (arith, less, w, c)) in
-          assemble a.0 ds ((λ i. a.0 ++ (plain_removes (sym (other_kind kind.Relation kind.Way kd refl) i) ++ plain_removes (sym (other_kind kind.Relation kind.Node kd refl) i))) ∙ a.2)
+        | inr a ↦ (
+            let x = starts t n (falling_items t) k b a.0 a.1 in
+            let f = found_in (is_unused (held_refers t) (falling_items t)) (falling_items t) x.2.0 x.2.1 in
+            let m = map_in mk (keys_where t (falling_of kind.Relation)) x.2.0 f.0 in
+            let kd : k.kind ≡ kind.Relation = kind_at kind.Relation (subst (λ (y : Key). IsIn y (keys_where t (falling_of kind.Relation))) (ap (λ (z : Item). z.0) m.2 ∙ x.2.2) m.1) in
+            let less = lighter_drop (λ j. not (is_key j.0 k)) (falling_items t) x.2.0 f.0 (ap not (key_same x.2.0.0 k x.2.2)) in
+            let c = x.1 in
+            let fits : weight (falling_items u) ≤ x.0 = subst (λ (xs : List Item). weight xs ≤ x.0) items_u (omega (arith, less, w, c)) in
+            assemble a.0 ds ((λ i. a.0 ++ (plain_removes (sym (other_kind kind.Relation kind.Way kd refl) i) ++ plain_removes (sym (other_kind kind.Relation kind.Node kd refl) i))) ∙ a.2)
             (ap (map (down_of t)) (x.3 ∙ ap (fall (held_refers t) x.0) items_u) ∙ fall_both x.0 fits))
         | inl a ↦ (
-          elim (removes_front ways nodes k b ds a.1) [
-            inl c ↦ (
-              let h = head_in kind.Way c.0 c.1 in
-              let rels = ap (map mk) (other_kind kind.Way kind.Relation h.0 refl) in
-              assemble [] ds ((λ i. plain_removes (sym h.1 i) ++ plain_removes (sym (other_kind kind.Way kind.Node h.0 refl) i)) ∙ c.2)
-                (ap (map (down_of t)) (sym a.0 ∙ ap (fall (held_refers t) n) rels) ∙ fall_both n (subst (λ (xs : List Item). weight xs ≤ n) rels (omega (arith, w)))))
-            | inr c ↦ (
-              let h = head_in kind.Node c.1.0 c.1.1 in
-              let rels = ap (map mk) (other_kind kind.Node kind.Relation h.0 refl) in
-              assemble [] ds ((λ i. plain_removes ((sym (other_kind kind.Node kind.Way h.0 refl) ∙ c.0) i) ++ plain_removes (sym h.1 i)) ∙ c.1.2)
-                (ap (map (down_of t)) (sym a.0 ∙ ap (fall (held_refers t) n) rels) ∙ fall_both n (subst (λ (xs : List Item). weight xs ≤ n) rels (omega (arith, w)))))
-          ])
+            elim (removes_front ways nodes k b ds a.1) [
+              | inl c ↦ (
+                  let h = head_in kind.Way c.0 c.1 in
+                  let rels = ap (map mk) (other_kind kind.Way kind.Relation h.0 refl) in
+                  assemble [] ds ((λ i. plain_removes (sym h.1 i) ++ plain_removes (sym (other_kind kind.Way kind.Node h.0 refl) i)) ∙ c.2)
+                  (ap (map (down_of t)) (sym a.0 ∙ ap (fall (held_refers t) n) rels) ∙ fall_both n (subst (λ (xs : List Item). weight xs ≤ n) rels (omega (arith, w)))))
+              | inr c ↦ (
+                  let h = head_in kind.Node c.1.0 c.1.1 in
+                  let rels = ap (map mk) (other_kind kind.Node kind.Relation h.0 refl) in
+                  assemble [] ds ((λ i. plain_removes ((sym (other_kind kind.Node kind.Way h.0 refl) ∙ c.0) i) ++ plain_removes (sym h.1 i)) ∙ c.1.2)
+                  (ap (map (down_of t)) (sym a.0 ∙ ap (fall (held_refers t) n) rels) ∙ fall_both n (subst (λ (xs : List Item). weight xs ≤ n) rels (omega (arith, w)))))
+            ])
       ]

@@ -1,7 +1,7 @@
 -- The plan of a table whose first change is settled is the rest of the plan.
-use Rattle.std.proofs.Common.{◌≡◌, ℕ, zero, suc, ◌+◌, ◌≤◌, Bool, true, false, cond, not, ◌||◌, List, [], ◌∷◌, ◌++◌, length, Option, Some, None, refl, sym, ◌∙◌, ap, subst, ◌⊎◌, inl, inr, arith}
+use Rattle.std.proofs.Common.{◌≡◌, ℕ, zero, suc, ◌≤◌, Bool, true, false, cond, not, ◌||◌, List, [], ◌∷◌, ◌++◌, length, Option, Some, None, refl, sym, ◌∙◌, ap, subst, ◌⊎◌, inl, inr, arith}
 use Rattle.std.specs.Prelude.{T}
-use Rattle.std.specs.List.{list_any, find, filter}
+use Rattle.std.specs.List.{list_any, find}
 use Rattle.std.specs.Option.{option_map_or}
 use Rattle.std.specs.Cmp.{both_ways}
 use Rattle.osm_base.specs.Rank.{is_key}
@@ -13,7 +13,7 @@ use Rattle.osm_base.proofs.ByRank.{rises_keys}
 use Rattle.osm_base.proofs.RisingKeys.{one_key, key_itself, rises_filter, same_keys}
 use Rattle.osm_table.specs.declared.entry.Entry.{Entry}
 use Rattle.osm_table.specs.Table.{TableValue, entry_of, keys_by_rank}
-use Rattle.upload_order.specs.Kinds.{is_rising, is_update, mine_refers}
+use Rattle.upload_order.specs.Kinds.{is_update, mine_refers}
 use Rattle.upload_order.specs.Order.{without, is_ready, Peeled, peel_found, peel}
 use Rattle.upload_order.specs.Plan.{made, ups}
 use Rattle.upload_order.proofs.Basics.{decide, true_false}
@@ -24,7 +24,6 @@ use Rattle.upload_order.proofs.Peel.{peel_from, peel_all}
 use Rattle.upload_order.proofs.PlanUps.{kind_is, ups_ordered, ups_done}
 use Rattle.upload_order.proofs.Static.{IsOrdered, no_more, next, with_key}
 use Rattle.upload_order.proofs.Where.{keys_where, rising_of, rising_both, in_where, where_in}
-
 
 pub rises_where : (t : TableValue) (test : Key → Entry → Bool) → T (rises (keys_where t test))
 rises_where t test = rises_filter (λ k. option_map_or (test k) (entry_of t k) false) (keys_by_rank t) (rises_keys t.entries)
@@ -113,8 +112,8 @@ module _ (t u : TableValue) where
   peel_step n m go left h g same =
       let e : find (is_ready (mine_refers t) left) left ≡ find (is_ready (mine_refers u) left) left = find_same (is_ready (mine_refers t) left) (is_ready (mine_refers u) left) left (λ x i. ap not (any_same left x (λ r j. same x r i j))) in
       peel_found_same n m left (λ k i.
-        let less = less_filter (λ x. not (is_key x k)) left k i (ap not (key_itself k)) in
-        go (without k left) (omega (arith, h, less)) (omega (arith, g, less)) (λ j r a b. same j r (in_filter (λ x. not (is_key x k)) left j a).0 (in_filter (λ x. not (is_key x k)) left r b).0)) (find (is_ready (mine_refers t) left) left) (λ k f. (found_in (is_ready (mine_refers t) left) left k f).0)
+      let less = less_filter (λ x. not (is_key x k)) left k i (ap not (key_itself k)) in
+      go (without k left) (omega (arith, h, less)) (omega (arith, g, less)) (λ j r a b. same j r (in_filter (λ x. not (is_key x k)) left j a).0 (in_filter (λ x. not (is_key x k)) left r b).0)) (find (is_ready (mine_refers t) left) left) (λ k f. (found_in (is_ready (mine_refers t) left) left k f).0)
       ∙ ap (λ o. peel_found left o (λ k. peel (mine_refers u) m (without k left))) e
 
   -- and not on the number of steps, if there are enough
@@ -130,6 +129,7 @@ cons_head x k xs ks e = (ap (λ l. head_or l x) e, ap tail_of e) where
   head_or : List Key → Key → Key
   head_or [] y = y
   head_or (z ∷ zs) y = z
+
   tail_of : List Key → List Key
   tail_of [] = []
   tail_of (z ∷ zs) = zs
@@ -157,10 +157,9 @@ module _ (t : TableValue) where
 
 -- The changes of t begin with k, and u is t with k settled.
 module _ (t u : TableValue) (s : Sound t) (clear : (made t).stuck ≡ []) (k : Key) (ks : List Key) (head : ups t ≡ k ∷ ks)
-  (rising : (kd : Kind) → without k (keys_where t (rising_of kd)) ≡ keys_where u (rising_of kd))
-  (updates : without k (keys_where t (λ j e. is_update e)) ≡ keys_where u (λ j e. is_update e))
-  (same : (j r : Key) → IsIn j (keys_where u (rising_of kind.Relation)) → IsIn r (keys_where u (rising_of kind.Relation)) → mine_refers t j r ≡ mine_refers u j r) where
-
+    (rising : (kd : Kind) → without k (keys_where t (rising_of kd)) ≡ keys_where u (rising_of kd))
+    (updates : without k (keys_where t (λ j e. is_update e)) ≡ keys_where u (λ j e. is_update e))
+    (same : (j r : Key) → IsIn j (keys_where u (rising_of kind.Relation)) → IsIn r (keys_where u (rising_of kind.Relation)) → mine_refers t j r ≡ mine_refers u j r) where
   pub ordered : IsOrdered t (λ _. false) (k ∷ ks) (ups_done t s)
   ordered = subst (λ (xs : List Key). IsOrdered t (λ _. false) xs (ups_done t s)) head (ups_ordered t s clear)
 
@@ -184,13 +183,13 @@ module _ (t u : TableValue) (s : Sound t) (clear : (made t).stuck ≡ []) (k : K
   relation_first i =
       let kd = kind_at kind.Relation i in
       elim (front (keys_where t (rising_of kind.Node)) _ k ks head) [
-        inr a ↦ apart_kind kind.Node kind.Relation (starts kind.Node a.0 a.1) kd refl
+        | inr a ↦ apart_kind kind.Node kind.Relation (starts kind.Node a.0 a.1) kd refl
         | inl a ↦ (elim (front (keys_where t (rising_of kind.Way)) _ k ks a.1) [
-          inr b ↦ apart_kind kind.Way kind.Relation (starts kind.Way b.0 b.1) kd refl
+          | inr b ↦ apart_kind kind.Way kind.Relation (starts kind.Way b.0 b.1) kd refl
           | inl b ↦ (elim (front (made t).order _ k ks b.1) [
-            inr c ↦ c
+            | inr c ↦ c
             | inl c ↦ (elim (peel_all t (length (keys_where t (rising_of kind.Relation))) (keys_where t (rising_of kind.Relation)) k i) [
-              inl d ↦ absurd (subst (λ (xs : List Key). IsIn k xs) c.0 d)
+              | inl d ↦ absurd (subst (λ (xs : List Key). IsIn k xs) c.0 d)
               | inr d ↦ absurd (subst (λ (xs : List Key). IsIn k xs) clear d)
             ])
           ])
@@ -199,23 +198,26 @@ module _ (t u : TableValue) (s : Sound t) (clear : (made t).stuck ≡ []) (k : K
 
   order_again : (m : ℕ) → length (keys_where u (rising_of kind.Relation)) ≤ m → ((peel (mine_refers u) m (keys_where u (rising_of kind.Relation))).order ≡ without k (made t).order) × ((peel (mine_refers u) m (keys_where u (rising_of kind.Relation))).stuck ≡ (made t).stuck)
   order_again m b = elim (decide (list_any (is_key k) (keys_where t (rising_of kind.Relation)))) [
-      inl i ↦ there (any_in (keys_where t (rising_of kind.Relation)) k i)
-      | inr n ↦ absent (λ i. true_false (list_any (is_key k) (keys_where t (rising_of kind.Relation))) (in_any (keys_where t (rising_of kind.Relation)) k i) n)
-    ] where
+    | inl i ↦ there (any_in (keys_where t (rising_of kind.Relation)) k i)
+    | inr n ↦ absent (λ i. true_false (list_any (is_key k) (keys_where t (rising_of kind.Relation))) (in_any (keys_where t (rising_of kind.Relation)) k i) n)
+  ] where
     absent : (IsIn k (keys_where t (rising_of kind.Relation)) → ⊥) → ((peel (mine_refers u) m (keys_where u (rising_of kind.Relation))).order ≡ without k (made t).order) × ((peel (mine_refers u) m (keys_where u (rising_of kind.Relation))).stuck ≡ (made t).stuck)
     absent n =
         let one : keys_where t (rising_of kind.Relation) ≡ keys_where u (rising_of kind.Relation) = sym (without_absent k (keys_where t (rising_of kind.Relation)) n) ∙ rising kind.Relation in
-        let shift : peel (mine_refers t) (length (keys_where t (rising_of kind.Relation))) (keys_where u (rising_of kind.Relation)) ≡ peel (mine_refers u) m (keys_where u (rising_of kind.Relation)) = peel_same t u (length (keys_where t (rising_of kind.Relation))) m (keys_where u (rising_of kind.Relation)) (let z = ap (λ (xs : List Key). length xs) one in omega (arith, z)) b same in
-        (ap (λ (p : Peeled). p.order) (sym shift) ∙ ap (λ (xs : List Key). (peel (mine_refers t) (length (keys_where t (rising_of kind.Relation))) xs).order) (sym one) ∙ sym (without_absent k (made t).order (λ i. n (peel_from t (length (keys_where t (rising_of kind.Relation))) (keys_where t (rising_of kind.Relation)) k i))),
-          ap (λ (p : Peeled). p.stuck) (sym shift) ∙ ap (λ (xs : List Key). (peel (mine_refers t) (length (keys_where t (rising_of kind.Relation))) xs).stuck) (sym one))
+        let shift : peel (mine_refers t) (length (keys_where t (rising_of kind.Relation))) (keys_where u (rising_of kind.Relation)) ≡ peel (mine_refers u) m (keys_where u (rising_of kind.Relation)) = peel_same t u (length (keys_where t (rising_of kind.Relation))) m (keys_where u (rising_of kind.Relation)) (let z = ap (λ (xs : List Key). length xs) one in omega (arith, z)) b same in (
+          ap (λ (p : Peeled). p.order) (sym shift) ∙ ap (λ (xs : List Key). (peel (mine_refers t) (length (keys_where t (rising_of kind.Relation))) xs).order) (sym one) ∙ sym (without_absent k (made t).order (λ i. n (peel_from t (length (keys_where t (rising_of kind.Relation))) (keys_where t (rising_of kind.Relation)) k i))),
+          ap (λ (p : Peeled). p.stuck) (sym shift) ∙ ap (λ (xs : List Key). (peel (mine_refers t) (length (keys_where t (rising_of kind.Relation))) xs).stuck) (sym one),
+        )
+
     there : IsIn k (keys_where t (rising_of kind.Relation)) → ((peel (mine_refers u) m (keys_where u (rising_of kind.Relation))).order ≡ without k (made t).order) × ((peel (mine_refers u) m (keys_where u (rising_of kind.Relation))).stuck ≡ (made t).stuck)
     there i =
         let f = relation_first i in
         let g = begins t (length (keys_where t (rising_of kind.Relation))) (keys_where t (rising_of kind.Relation)) k f.0 (omega arith) f.1 in
         let gone : IsIn k (peel (mine_refers t) g.0 (without k (keys_where t (rising_of kind.Relation)))).order → ⊥ = λ j. true_false (is_key k k) (key_itself k) (not_true (is_key k k) (in_filter (λ x. not (is_key x k)) (keys_where t (rising_of kind.Relation)) k (peel_from t g.0 (without k (keys_where t (rising_of kind.Relation))) k j)).1) in
-        let shift : peel (mine_refers t) g.0 (keys_where u (rising_of kind.Relation)) ≡ peel (mine_refers u) m (keys_where u (rising_of kind.Relation)) = peel_same t u g.0 m (keys_where u (rising_of kind.Relation)) (let z = ap (λ (xs : List Key). length xs) (rising kind.Relation) in let y = g.1 in omega (arith, z, y)) b same in
-        (ap (λ (p : Peeled). p.order) (sym shift) ∙ ap (λ (xs : List Key). (peel (mine_refers t) g.0 xs).order) (sym (rising kind.Relation)) ∙ sym (ap (without k) g.2 ∙ without_head k _ gone),
-          ap (λ (p : Peeled). p.stuck) (sym shift) ∙ ap (λ (xs : List Key). (peel (mine_refers t) g.0 xs).stuck) (sym (rising kind.Relation)) ∙ sym g.3)
+        let shift : peel (mine_refers t) g.0 (keys_where u (rising_of kind.Relation)) ≡ peel (mine_refers u) m (keys_where u (rising_of kind.Relation)) = peel_same t u g.0 m (keys_where u (rising_of kind.Relation)) (let z = ap (λ (xs : List Key). length xs) (rising kind.Relation) in let y = g.1 in omega (arith, z, y)) b same in (
+          ap (λ (p : Peeled). p.order) (sym shift) ∙ ap (λ (xs : List Key). (peel (mine_refers t) g.0 xs).order) (sym (rising kind.Relation)) ∙ sym (ap (without k) g.2 ∙ without_head k _ gone),
+          ap (λ (p : Peeled). p.stuck) (sym shift) ∙ ap (λ (xs : List Key). (peel (mine_refers t) g.0 xs).stuck) (sym (rising kind.Relation)) ∙ sym g.3,
+        )
 
   -- the keys of the changes of u are the rest
   pub ups_again : ups u ≡ ks
@@ -225,12 +227,12 @@ module _ (t u : TableValue) (s : Sound t) (clear : (made t).stuck ≡ []) (k : K
       without_append k (keys_where t (rising_of kind.Node)) _
       ∙ ap (λ (xs : List Key). xs ++ without k (keys_where t (rising_of kind.Way) ++ ((made t).order ++ keys_where t (λ j e. is_update e)))) (rising kind.Node)
       ∙ ap (λ (xs : List Key). keys_where u (rising_of kind.Node) ++ xs) (
-        without_append k (keys_where t (rising_of kind.Way)) _
-        ∙ ap (λ (xs : List Key). xs ++ without k ((made t).order ++ keys_where t (λ j e. is_update e))) (rising kind.Way)
-        ∙ ap (λ (xs : List Key). keys_where u (rising_of kind.Way) ++ xs) (
-          without_append k (made t).order _
-          ∙ ap (λ (xs : List Key). xs ++ without k (keys_where t (λ j e. is_update e))) (sym relations.0)
-          ∙ ap (λ (xs : List Key). (made u).order ++ xs) updates)) in
+      without_append k (keys_where t (rising_of kind.Way)) _
+      ∙ ap (λ (xs : List Key). xs ++ without k ((made t).order ++ keys_where t (λ j e. is_update e))) (rising kind.Way)
+      ∙ ap (λ (xs : List Key). keys_where u (rising_of kind.Way) ++ xs) (
+      without_append k (made t).order _
+      ∙ ap (λ (xs : List Key). xs ++ without k (keys_where t (λ j e. is_update e))) (sym relations.0)
+      ∙ ap (λ (xs : List Key). (made u).order ++ xs) updates)) in
       sym parts ∙ ap (without k) head ∙ without_head k ks once
 
   pub stuck_again : (made u).stuck ≡ []

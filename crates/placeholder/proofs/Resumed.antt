@@ -1,5 +1,5 @@
 -- After one answer the table is again clear to be sent, and its plan is the rest.
-use Rattle.std.proofs.Common.{◌≡◌, ℕ, ◌+◌, ◌≤◌, ℤ, Bool, true, false, cond, List, [], ◌∷◌, ◌++◌, map, length, Option, Some, None, refl, sym, ◌∙◌, ap, subst, ◌⊎◌, inl, inr, arith}
+use Rattle.std.proofs.Common.{◌≡◌, ℕ, ◌+◌, ◌≤◌, ℤ, Bool, true, false, cond, List, [], ◌∷◌, ◌++◌, map, length, Option, Some, None, refl, sym, ◌∙◌, ap, subst, inl, inr, arith}
 use Rattle.osm_base.specs.Meta.{empty_meta}
 use Rattle.osm_base.specs.declared.key.Kind.TheVariants as kind
 use Rattle.osm_base.specs.declared.key.Key.{Key}
@@ -19,14 +19,14 @@ use Rattle.upload_order.specs.Kinds.{is_falling, at_key, held_refers}
 use Rattle.upload_order.specs.Fall.{Item, uses_some, fall}
 use Rattle.upload_order.specs.Plan.{ups, up_of, up_entry, plain_removes, downs, down_of, version_at, later, empty_relation, plan}
 use Rattle.upload_order.specs.Refused.{is_open}
-use Rattle.upload_order.specs.Rename.{called, with_id, renamed, is_positive}
-use Rattle.upload_order.specs.World.{World, IsSoundWorld, IsFresh, Holds, Alone, Accepts, IsEdited, refusal, after, put_in}
+use Rattle.upload_order.specs.Rename.{called, renamed, is_positive}
+use Rattle.upload_order.specs.World.{World, IsFresh, Holds, Alone, Accepts, IsEdited, refusal, after, put_in}
 use Rattle.upload_order.proofs.Accepted.{plan_accepted}
 use Rattle.upload_order.proofs.Along.{means_itself, mine_known, up_based}
 use Rattle.upload_order.proofs.Basics.{both}
 use Rattle.upload_order.proofs.Conditions.{Sound}
 use Rattle.upload_order.proofs.Downs.{falling_based}
-use Rattle.upload_order.proofs.Entries.{IsIn, found_in, map_in}
+use Rattle.upload_order.proofs.Entries.{found_in, map_in}
 use Rattle.upload_order.proofs.PlanUps.{ups_ordered, ups_done}
 use Rattle.upload_order.proofs.PlanDowns.{downs_ordered}
 use Rattle.upload_order.proofs.Runs.{sound_backs}
@@ -46,12 +46,12 @@ use Rattle.placeholder.proofs.Fallen as fallen
 use Rattle.placeholder.proofs.RemovedPlan as removed
 use Rattle.placeholder.proofs.Whole.{version_case, up_case}
 
-
 head_is : (c d : Change) (cs ds : List Change) → c ∷ cs ≡ d ∷ ds → (c ≡ d) × (cs ≡ ds)
 head_is c d cs ds e = (ap (λ l. first_or l c) e, ap rest_of e) where
   first_or : List Change → Change → Change
   first_or [] x = x
   first_or (y ∷ ys) x = y
+
   rest_of : List Change → List Change
   rest_of [] = []
   rest_of (y ∷ ys) = ys
@@ -85,13 +85,13 @@ clear_relation t k ds head =
     let nodes = keys_where t (falling_of kind.Node) in
     let n = length (keys_where t (falling_of kind.Relation)) + length (keys_where t (falling_of kind.Relation)) in
     elim (cleared.front (fall (held_refers t) n (falling_items t)) (plain_removes ways ++ plain_removes nodes) k ds head) [
-      inl a ↦ absurd (cleared.no_clear ways nodes k ds a.1)
+      | inl a ↦ absurd (cleared.no_clear ways nodes k ds a.1)
       | inr a ↦ (
-        let b = cleared.starts t n (falling_items t) k a.0 a.1 in
-        let f = found_in (uses_some (held_refers t) (falling_items t)) (falling_items t) b.2.0 b.2.1 in
-        let m = map_in (λ j. let x : Item = (j, false) in x) (keys_where t (falling_of kind.Relation)) b.2.0 f.0 in
-        let y = in_where t (falling_of kind.Relation) m.0 m.1 in
-        sym (ap (λ (x : Key). x.kind) (ap (λ (z : Item). z.0) m.2 ∙ b.2.2)) ∙ (falling_both kind.Relation m.0.kind y.0 y.2).0)
+          let b = cleared.starts t n (falling_items t) k a.0 a.1 in
+          let f = found_in (uses_some (held_refers t) (falling_items t)) (falling_items t) b.2.0 b.2.1 in
+          let m = map_in (λ j. let x : Item = (j, false) in x) (keys_where t (falling_of kind.Relation)) b.2.0 f.0 in
+          let y = in_where t (falling_of kind.Relation) m.0 m.1 in
+          sym (ap (λ (x : Key). x.kind) (ap (λ (z : Item). z.0) m.2 ∙ b.2.2)) ∙ (falling_both kind.Relation m.0.kind y.0 y.2).0)
     ]
 
 -- The table u can be sent to the world v but for v's being sound, and its plan is the list.
@@ -133,33 +133,33 @@ module _ (t : TableValue) (w : World) (ready : IsReady w t) (p : ℤ) where
       let x = first_up t _ _ k ks (subst (λ (xs : List Key). IsOrdered t (λ _. false) xs (ups_done t s)) head (ups_ordered t s ok.no_stuck)) in
       let change : up_of t k ≡ cond (is_new (base_in x.0)) (Create k x.1) (Modify k (version_of (base_in x.0)) x.1) = ap (up_entry k) x.2.entry ∙ up_case k x.0 x.1 x.2.mine in
       by_base x.0 x.1 x.2 (is_new (base_in x.0)) refl change where
-    by_base : (e : Entry) (c : Content) → IsUp t k e c → (b : Bool) → is_new (base_in e) ≡ b → up_of t k ≡ cond b (Create k c) (Modify k (version_of (base_in e)) c) → IsResumed t w (up_of t k) cs p
-    by_base e c u true n same =
-        let negative = (s.negative k e u.entry n (mine_known e c u.mine)).0 in
-        let f = subst (λ (x : Change). IsAnswer w t x p) same fresh in
-        let r = created.plan_rest k p negative t ready.sound ok w ready.world ready.holds ready.alone e c u n f.1 f.0.1 f.0.2 ks head in
-        let tail : r.0 ≡ cs = (head_is (up_of t k) (up_of t k) r.0 cs (sym r.1 ∙ whole)).1 in
-        subst (λ (x : Change). IsResumed t w x cs p) (sym same) (record {
-          sound = created.sound_again k p negative t ready.sound ok w ready.world ready.holds ready.alone e c u n f.1 f.0.1 f.0.2 ks head;
-          clear = created.clear_again k p negative t ready.sound ok w ready.world ready.holds ready.alone e c u n f.1 f.0.1 f.0.2 ks head;
-          holds = created.holds_again k p negative t ready.sound ok w ready.world ready.holds ready.alone e c u n f.1 f.0.1 f.0.2 ks head;
-          alone = created.alone_again k p negative t ready.sound ok w ready.world ready.holds ready.alone e c u n f.1 f.0.1 f.0.2 ks head;
-          rest = r.2 ∙ ap (map (moved_change (moved k p))) tail
-        })
-    by_base e c u false n same =
-        let bound : version_of (base_in e) + 1 ≤ 2000000000 = (subst (λ (x : Change). IsAnswer w t x p) same fresh).1 in
-        let r = changed.plan_rest t ready.sound ok k e c u n ks head bound in
-        let tail = (head_is (up_of t k) (up_of t k) _ cs (sym r ∙ whole)).1 in
-        subst (λ (x : Change). IsResumed t w x cs p) (sym same) (modified k (version_of (base_in e)) c cs (Known (Live (version_of (base_in e) + 1) c empty_meta) (Some c) None)
-          (ap (based_on (Live (version_of (base_in e) + 1) c empty_meta)) u.entry ∙ answered_up (Live (version_of (base_in e) + 1) c empty_meta) e c u.mine (ok.no_conflict k e u.entry))
-          (self k (s.positive k e u.entry (inr (up_based e c u.mine n))))
-          (record {
-            sound = changed.sound_again t ready.sound ok k e c u n ks head bound;
-            clear = changed.clear_again t ready.sound ok k e c u n ks head bound;
-            holds = changed.holds_again t ready.sound ok k e c u n ks head bound w ready.holds ready.alone;
-            alone = changed.alone_again t ready.sound ok k e c u n ks head bound w ready.holds ready.alone;
-            rest = tail
-          }))
+        by_base : (e : Entry) (c : Content) → IsUp t k e c → (b : Bool) → is_new (base_in e) ≡ b → up_of t k ≡ cond b (Create k c) (Modify k (version_of (base_in e)) c) → IsResumed t w (up_of t k) cs p
+        by_base e c u true n same =
+            let negative = (s.negative k e u.entry n (mine_known e c u.mine)).0 in
+            let f = subst (λ (x : Change). IsAnswer w t x p) same fresh in
+            let r = created.plan_rest k p negative t ready.sound ok w ready.world ready.holds ready.alone e c u n f.1 f.0.1 f.0.2 ks head in
+            let tail : r.0 ≡ cs = (head_is (up_of t k) (up_of t k) r.0 cs (sym r.1 ∙ whole)).1 in
+            subst (λ (x : Change). IsResumed t w x cs p) (sym same) (record {
+              sound = created.sound_again k p negative t ready.sound ok w ready.world ready.holds ready.alone e c u n f.1 f.0.1 f.0.2 ks head;
+              clear = created.clear_again k p negative t ready.sound ok w ready.world ready.holds ready.alone e c u n f.1 f.0.1 f.0.2 ks head;
+              holds = created.holds_again k p negative t ready.sound ok w ready.world ready.holds ready.alone e c u n f.1 f.0.1 f.0.2 ks head;
+              alone = created.alone_again k p negative t ready.sound ok w ready.world ready.holds ready.alone e c u n f.1 f.0.1 f.0.2 ks head;
+              rest = r.2 ∙ ap (map (moved_change (moved k p))) tail;
+            })
+        by_base e c u false n same =
+            let bound : version_of (base_in e) + 1 ≤ 2000000000 = (subst (λ (x : Change). IsAnswer w t x p) same fresh).1 in
+            let r = changed.plan_rest t ready.sound ok k e c u n ks head bound in
+            let tail = (head_is (up_of t k) (up_of t k) _ cs (sym r ∙ whole)).1 in
+            subst (λ (x : Change). IsResumed t w x cs p) (sym same) (modified k (version_of (base_in e)) c cs (Known (Live (version_of (base_in e) + 1) c empty_meta) (Some c) None)
+            (ap (based_on (Live (version_of (base_in e) + 1) c empty_meta)) u.entry ∙ answered_up (Live (version_of (base_in e) + 1) c empty_meta) e c u.mine (ok.no_conflict k e u.entry))
+            (self k (s.positive k e u.entry (inr (up_based e c u.mine n))))
+            (record {
+              sound = changed.sound_again t ready.sound ok k e c u n ks head bound;
+              clear = changed.clear_again t ready.sound ok k e c u n ks head bound;
+              holds = changed.holds_again t ready.sound ok k e c u n ks head bound w ready.holds ready.alone;
+              alone = changed.alone_again t ready.sound ok k e c u n ks head bound w ready.holds ready.alone;
+              rest = tail;
+            }))
 
   no_ups_plan : (v : TableValue) → ups v ≡ [] → plan v ≡ map (down_of v) (downs v)
   no_ups_plan v h = ap (λ (xs : List Key). map (up_of v) xs ++ map (down_of v) (downs v)) h
@@ -175,15 +175,15 @@ module _ (t : TableValue) (w : World) (ready : IsReady w t) (p : ℤ) where
       let here : version_at (entry_of t k) ≡ version_of (base_in e) = ap version_at x.1 ∙ version_case e in
       let version : HasVersion b = (omega arith, subst (λ (v : ℕ). v + 1 ≤ 2000000000) here answer.1) in
       subst (λ (v : ℕ). IsResumed t w (Modify k v empty_relation) (map (down_of t) ds) p) (sym here) (modified k (version_of (base_in e)) empty_relation (map (down_of t) ds) (Known b None None)
-        (ap (based_on b) x.1 ∙ answered_down b e x.2 (ok.no_conflict k e x.1))
-        (self k (s.positive k e x.1 (inr (falling_based e x.2))))
-        (record {
-          sound = fallen.sound_again t ready.sound ok k e x.1 x.2 none b refl empty version;
-          clear = fallen.clear_again t ready.sound ok k e x.1 x.2 none b refl empty version;
-          holds = fallen.holds_again t ready.sound ok k e x.1 x.2 none b refl empty version w ready.holds ready.alone;
-          alone = fallen.alone_again t ready.sound ok k e x.1 x.2 none b refl empty version w ready.holds ready.alone;
-          rest = no_ups_plan (with_entry t k (Known b None None)) (fallen.ups_none t ready.sound ok k e x.1 x.2 none b refl empty version) ∙ cleared.downs_rest t k e x.1 x.2 kd ds head
-        }))
+      (ap (based_on b) x.1 ∙ answered_down b e x.2 (ok.no_conflict k e x.1))
+      (self k (s.positive k e x.1 (inr (falling_based e x.2))))
+      (record {
+        sound = fallen.sound_again t ready.sound ok k e x.1 x.2 none b refl empty version;
+        clear = fallen.clear_again t ready.sound ok k e x.1 x.2 none b refl empty version;
+        holds = fallen.holds_again t ready.sound ok k e x.1 x.2 none b refl empty version w ready.holds ready.alone;
+        alone = fallen.alone_again t ready.sound ok k e x.1 x.2 none b refl empty version w ready.holds ready.alone;
+        rest = no_ups_plan (with_entry t k (Known b None None)) (fallen.ups_none t ready.sound ok k e x.1 x.2 none b refl empty version) ∙ cleared.downs_rest t k e x.1 x.2 kd ds head;
+      }))
   down_first (Remove k c) ds none head answer =
       let o = downs_ordered t s in
       let x = first_remove t (start_left t) o.0 k c ds (subst (λ (xs : List Down). IsDown t (start_left t) xs o.0) head o.1) in
@@ -193,15 +193,15 @@ module _ (t : TableValue) (w : World) (ready : IsReady w t) (p : ℤ) where
       let first : later c (version_at (entry_of t k)) ≡ version_of (base_in e) = ap (λ f. later f (version_at (entry_of t k))) (to_go_some (at_key t is_falling k) c x.3).1 ∙ ap version_at x.1 ∙ version_case e in
       let version : HasVersion b = (omega arith, subst (λ (v : ℕ). v + 1 ≤ 2000000000) first answer.1) in
       subst (λ (v : ℕ). IsResumed t w (Delete k v) (map (down_of t) ds) p) (sym first) (deleted k (version_of (base_in e)) (map (down_of t) ds) (Known b None None)
-        (ap (based_on b) x.1 ∙ answered_down b e x.2 (ok.no_conflict k e x.1))
-        (self k (s.positive k e x.1 (inr (falling_based e x.2))))
-        (record {
-          sound = fallen.sound_again t ready.sound ok k e x.1 x.2 none b refl empty version;
-          clear = fallen.clear_again t ready.sound ok k e x.1 x.2 none b refl empty version;
-          holds = fallen.holds_again t ready.sound ok k e x.1 x.2 none b refl empty version w ready.holds ready.alone;
-          alone = fallen.alone_again t ready.sound ok k e x.1 x.2 none b refl empty version w ready.holds ready.alone;
-          rest = no_ups_plan (with_entry t k (Known b None None)) (fallen.ups_none t ready.sound ok k e x.1 x.2 none b refl empty version) ∙ removed.downs_rest t k e x.1 x.2 c ds head
-        }))
+      (ap (based_on b) x.1 ∙ answered_down b e x.2 (ok.no_conflict k e x.1))
+      (self k (s.positive k e x.1 (inr (falling_based e x.2))))
+      (record {
+        sound = fallen.sound_again t ready.sound ok k e x.1 x.2 none b refl empty version;
+        clear = fallen.clear_again t ready.sound ok k e x.1 x.2 none b refl empty version;
+        holds = fallen.holds_again t ready.sound ok k e x.1 x.2 none b refl empty version w ready.holds ready.alone;
+        alone = fallen.alone_again t ready.sound ok k e x.1 x.2 none b refl empty version w ready.holds ready.alone;
+        rest = no_ups_plan (with_entry t k (Known b None None)) (fallen.ups_none t ready.sound ok k e x.1 x.2 none b refl empty version) ∙ removed.downs_rest t k e x.1 x.2 c ds head;
+      }))
 
   moved_to : (c d : Change) (cs ds : List Change) → c ∷ cs ≡ d ∷ ds → (IsAnswer w t c p → IsResumed t w c cs p) → IsAnswer w t d p → IsResumed t w d ds p
   moved_to c d cs ds e f fresh =
@@ -228,9 +228,9 @@ module _ (t : TableValue) (w : World) (ready : IsReady w t) (p : ℤ) where
       let x = first_up t _ _ k ks (subst (λ (xs : List Key). IsOrdered t (λ _. false) xs (ups_done t s)) head (ups_ordered t s ok.no_stuck)) in
       let change : up_of t k ≡ cond (is_new (base_in x.0)) (Create k x.1) (Modify k (version_of (base_in x.0)) x.1) = ap (up_entry k) x.2.entry ∙ up_case k x.0 x.1 x.2.mine in
       subst (IsKnownIn t) (sym change) (by_base x.0 x.1 x.2 (is_new (base_in x.0)) refl) where
-    by_base : (e : Entry) (c : Content) → IsUp t k e c → (b : Bool) → is_new (base_in e) ≡ b → IsKnownIn t (cond b (Create k c) (Modify k (version_of (base_in e)) c))
-    by_base e c u true n = ((s.negative k e u.entry n (mine_known e c u.mine)).0, (e, u.entry))
-    by_base e c u false n = (e, u.entry)
+        by_base : (e : Entry) (c : Content) → IsUp t k e c → (b : Bool) → is_new (base_in e) ≡ b → IsKnownIn t (cond b (Create k c) (Modify k (version_of (base_in e)) c))
+        by_base e c u true n = ((s.negative k e u.entry n (mine_known e c u.mine)).0, (e, u.entry))
+        by_base e c u false n = (e, u.entry)
 
   known_down : (d : Down) (ds : List Down) → downs t ≡ d ∷ ds → IsKnownIn t (down_of t d)
   known_down (Clear k) ds head =

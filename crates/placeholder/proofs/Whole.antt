@@ -1,6 +1,5 @@
 -- What a sound table says of the entries of its changes.
-use Rattle.std.proofs.Common.{◌≡◌, ℕ, Bool, true, false, cond, List, [], ◌∷◌, Option, Some, None, refl, sym, ◌∙◌, ap, subst, ◌⊎◌, inl, inr, IsTrue}
-use Rattle.std.specs.Prelude.{IsSome}
+use Rattle.std.proofs.Common.{◌≡◌, ℕ, Bool, true, false, cond, List, [], ◌∷◌, Option, Some, None, refl, sym, ◌∙◌, ap, subst, ◌⊎◌, inl, inr}
 use Rattle.std.specs.List.{AllByRecursion}
 use Rattle.std.specs.Option.{option_map_or}
 use Rattle.osm_base.specs.Content.{refers, refs_of}
@@ -9,15 +8,14 @@ use Rattle.osm_base.specs.declared.content.Content.{Content}
 use Rattle.osm_table.specs.declared.entry.Base.TheVariants.{New, Live, Gone}
 use Rattle.osm_table.specs.declared.entry.Entry.{Entry}
 use Rattle.osm_table.specs.declared.entry.Entry.TheVariants.{Incomplete, Known}
-use Rattle.osm_table.specs.Table.{TableValue, entry_of, mine_of, version_of, is_incomplete, is_new, IsPositive, IsThere, IfContent}
+use Rattle.osm_table.specs.Table.{TableValue, entry_of, mine_of, version_of, is_incomplete, is_new, IsPositive, IsThere}
 use Rattle.dataset.specs.Sound.{IsSound, IsSoundEntry}
-use Rattle.upload_order.specs.declared.change.Change.{Change}
 use Rattle.upload_order.specs.declared.change.Change.TheVariants.{Create, Modify}
 use Rattle.upload_order.specs.Plan.{version_at, up_entry}
 use Rattle.upload_order.specs.Bases.{base_in, is_based}
-use Rattle.upload_order.specs.Kinds.{is_rising, is_update, is_falling, at_key}
+use Rattle.upload_order.specs.Kinds.{is_rising, is_falling, at_key}
 use Rattle.upload_order.proofs.Entries.{IsIn, in_any}
-use Rattle.upload_order.proofs.Static.{IsOrdered, no_more, next}
+use Rattle.upload_order.proofs.Static.{IsOrdered, next}
 use Rattle.upload_order.proofs.Basics.{both, true_false}
 
 pub all_from : (P : Key → Type 0) (ks : List Key) → ((r : Key) → IsIn r ks → P r) → AllByRecursion P ks

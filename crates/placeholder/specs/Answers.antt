@@ -1,5 +1,5 @@
 -- The answers that a server may give.
-use Rattle.std.specs.Prelude.{◌≤◌, ℕ, ◌+◌, ℤ, List, [], ◌∷◌}
+use Rattle.std.specs.Prelude.{◌≤◌, ◌+◌, ℤ, List, [], ◌∷◌}
 use Rattle.osm_table.specs.Table.{TableValue, IsPositive}
 use Rattle.upload_order.specs.declared.change.Change.{Change}
 use Rattle.upload_order.specs.declared.change.Change.TheVariants.{Create, Modify, Delete}

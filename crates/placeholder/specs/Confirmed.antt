@@ -2,7 +2,7 @@
 --
 -- For example the node n-1 was made and got the id 50. Then n50 stands in the table, with version 1 and with the content that
 -- was sent as its base and its mine; n-1 stands there no more, and a way that referred to n-1 refers to n50.
-use Rattle.std.specs.Prelude.{ℕ, ◌+◌, ℤ, List, [], ◌∷◌, map, Option, Some, None}
+use Rattle.std.specs.Prelude.{◌+◌, ℤ, List, [], ◌∷◌, map, Option, Some, None}
 use Rattle.std.specs.Option.{option_map}
 use Rattle.std.specs.FinMap as fin
 use Rattle.osm_base.specs.Rank.{rank_cmp}
