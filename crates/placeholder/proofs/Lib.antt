@@ -14,3 +14,4 @@ pub mod Resumed
 pub mod Names
 pub mod LookUps
 pub mod After
+mod Examples

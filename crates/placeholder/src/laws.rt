@@ -1,14 +1,30 @@
 //! What the definitions mean.
-ghost use Rattle.std.specs.Prelude.{◌≡◌, ◌∷◌, ◌++◌, List, map, ℤ};
-ghost use Rattle.osm_table.specs.Table.{TableValue};
+ghost use Rattle.std.specs.Prelude.{◌≡◌, ◌+◌, ◌∷◌, ◌++◌, if◌then◌else◌, List, map, None, Some, ℕ, ℤ};
+ghost use Rattle.std.specs.Option.{option_map};
+ghost use Rattle.osm_base.specs.Meta.{empty_meta};
+ghost use Rattle.osm_base.specs.Rank.{is_key};
+ghost use Rattle.osm_base.specs.declared.key.Key.{Key};
+ghost use Rattle.osm_base.specs.declared.content.Content.{Content};
+ghost use Rattle.osm_table.specs.declared.entry.Base.TheVariants.{Live, Gone};
+ghost use Rattle.osm_table.specs.Table.{TableValue, entry_of};
 ghost use Rattle.upload_order.specs.declared.change.Change.{Change};
+ghost use Rattle.upload_order.specs.declared.change.Change.TheVariants.{Create, Modify, Delete};
 ghost use Rattle.upload_order.specs.Plan.{plan};
-ghost use Rattle.upload_order.specs.Rename.{called};
+ghost use Rattle.upload_order.specs.Rename.{called, renamed, with_id};
 ghost use Rattle.upload_order.specs.Run.{run_from, Ended};
 ghost use Rattle.upload_order.specs.World.{World, after};
 ghost use Rattle.placeholder.specs.Answers.{IsAnswer, AreAnswers};
-ghost use Rattle.placeholder.specs.Confirmed.{confirmed, confirmed_all, moved_change, names_of};
+ghost use Rattle.placeholder.specs.Confirmed.{based_on, confirmed, confirmed_all, made_entry, moved, moved_change, moved_entry, names_of};
 ghost use Rattle.placeholder.specs.Resumed.{IsReady, left_after};
+
+/// What the confirmed table has at each key. An object that was made stands under its id, nothing under its placeholder, and
+/// all other contents refer to the id. An object that was changed or deleted stands on the base that the change left, and all
+/// else is as it was.
+pub fn confirmed_by_key()
+    ensures made { (t : TableValue) (k : Key) (c : Content) (id : ℤ) (j : Key) → entry_of (confirmed t (Create k c) id) j ≡ (if is_key j (with_id k id) then Some (made_entry (renamed (moved k id) c)) else (if is_key j k then None else option_map (moved_entry (moved k id)) (entry_of t j))) }
+    ensures modified { (t : TableValue) (k : Key) (version : ℕ) (c : Content) (id : ℤ) (j : Key) → entry_of (confirmed t (Modify k version c) id) j ≡ (if is_key j k then Some (based_on (Live (version + 1) c empty_meta) (entry_of t k)) else entry_of t j) }
+    ensures deleted { (t : TableValue) (k : Key) (version : ℕ) (id : ℤ) (j : Key) → entry_of (confirmed t (Delete k version) id) j ≡ (if is_key j k then Some (based_on (Gone (version + 1) empty_meta) (entry_of t k)) else entry_of t j) }
+{}
 
 /// After the answer to the first change of a plan the confirmed table can be sent to the server as it is then, and its plan
 /// is the rest of the plan, where a placeholder that was answered has the id that its object got.
