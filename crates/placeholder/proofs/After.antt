@@ -20,13 +20,8 @@ use Rattle.placeholder.specs.Confirmed.{moved, based_on, moved_change, named_by,
 use Rattle.placeholder.specs.Resumed.{IsReady, left_after}
 use Rattle.placeholder.proofs.LookUps.{made_none, made_gone, set_none}
 use Rattle.placeholder.proofs.Names.{AreGiven, AreAmong, head_name, tail_name, called_more, changes_once, changes_stay, after_same}
+use Rattle.placeholder.proofs.Named.{AreNamed, IsGivenTo, known_moved, named_again, left_again, none_named}
 use Rattle.placeholder.proofs.Resumed.{IsKnownIn, first_known, ready_again, rest_again}
-
--- The names are of ids that a server gave, the server has them too, and their placeholders are gone from the table.
-record AreAnswered (ns : Names) (w : World) (t : TableValue) : Type 0 where
-  given : AreGiven ns
-  among : AreAmong ns w.names
-  gone : (r : Key) (p : ℤ) → named ns r ≡ Some p → is_positive r.id ≡ false → entry_of t r ≡ None
 
 -- What is asked of a change with other references, and what follows it.
 module _ (f : Key → Key) where
@@ -39,11 +34,6 @@ module _ (f : Key → Key) where
   within_moved (Create k c) p h = h
   within_moved (Modify k v c) p h = h
   within_moved (Delete k v) p h = h
-
-  known_moved : (t : TableValue) (c : Change) → IsKnownIn t (moved_change f c) → IsKnownIn t c
-  known_moved t (Create k c) h = h
-  known_moved t (Modify k v c) h = h
-  known_moved t (Delete k v) h = h
 
 fresh_table : (w : World) (t u : TableValue) (cs : List Change) (ps : List ℤ) → ((q : Key) → IsAmong q (picked cs ps) → entry_of t q ≡ None → entry_of u q ≡ None) → AreFresh w t cs ps → AreFresh w u cs ps
 fresh_table w t u [] ps h f = tt
@@ -62,48 +52,14 @@ fresh_confirmed f w v t (Modify k x c) cs ps known fresh later =
 fresh_confirmed f w v t (Delete k x) cs ps known fresh later =
     fresh_table v t (with_entry t k (based_on (Gone (x + 1) empty_meta) (entry_of t k))) cs ps (λ q i n. set_none t k q known.0 (based_on (Gone (x + 1) empty_meta) (entry_of t k)) known.1 n) later
 
--- a key that a server gave is no placeholder
-not_given : (r q : Key) → is_positive r.id ≡ false → is_positive q.id ≡ true → is_key r q ≡ false
-not_given r q n p = elim (decide (is_key r q)) [ inl i ↦ true_false (is_positive q.id) p (ap (λ (x : Key). is_positive x.id) (sym (one_key r q i)) ∙ n) | inr i ↦ i ]
-
-no_name : (ns : Names) (w : World) (t : TableValue) (k : Key) (e : Entry) → AreAnswered ns w t → is_positive k.id ≡ false → entry_of t k ≡ Some e → named ns k ≡ None
-no_name ns w t k e a n h = by_name (named ns k) refl where
-  by_name : (o : Option ℤ) → named ns k ≡ o → o ≡ None
-  by_name None x = refl
-  by_name (Some p) x = none_some e (entry_of t k) (a.gone k p x n) h
-
-answered_again : (f : Key → Key) (ns : Names) (w : World) (t : TableValue) (c : Change) (p : ℤ) → AreAnswered ns w t → IsKnownIn t c → IsFresh w t c p → AreAnswered (named_by c p ns) (after w c p) (confirmed t (moved_change f c) p)
-answered_again f ns w t (Create k c) p a known fresh = record {
-  given = λ r x h. elim (decide (is_key r k)) [
-    | inl i ↦ subst (λ y. is_positive y ≡ true) (both p x (named ((k, p) ∷ ns) r) (head_name k p ns r i) h) fresh.0
-    | inr i ↦ a.given r x (sym (tail_name k p ns r i) ∙ h)
-  ];
-  among = λ r x h. elim (decide (is_key r k)) [
-    | inl i ↦ head_name k p w.names r i ∙ sym (head_name k p ns r i) ∙ h
-    | inr i ↦ tail_name k p w.names r i ∙ a.among r x (sym (tail_name k p ns r i) ∙ h)
-  ];
-  gone = λ r x h n.
-      let away = not_given r (with_id k p) n fresh.0 in
-      elim (decide (is_key r k)) [
-        | inl i ↦ made_gone t k (renamed f c) p r away i
-        | inr i ↦ made_none t k (renamed f c) p r away (a.gone r x (sym (tail_name k p ns r i) ∙ h) n)
-      ];
-}
-answered_again f ns w t (Modify k v c) p a known fresh = record {
-  given = a.given;
-  among = a.among;
-  gone = λ r x h n. set_none t k r known.0 (based_on (Live (v + 1) (renamed f c) empty_meta) (entry_of t k)) known.1 (a.gone r x h n);
-}
-answered_again f ns w t (Delete k v) p a known fresh = record {
-  given = a.given;
-  among = a.among;
-  gone = λ r x h n. set_none t k r known.0 (based_on (Gone (v + 1) empty_meta) (entry_of t k)) known.1 (a.gone r x h n);
-}
-
-left_again : (ns : Names) (w : World) (t : TableValue) (c : Change) (p : ℤ) (cs : List Change) → AreAnswered ns w t → IsKnownIn t c → left_after (moved_change (called ns) c) p (map (moved_change (called ns)) cs) ≡ map (moved_change (called (named_by c p ns))) cs
-left_again ns w t (Create k c) p cs a known = changes_once (moved k p) ns (called ((k, p) ∷ ns)) (called_more k p ns a.given (no_name ns w t k known.1.0 a known.0 known.1.1)) cs
-left_again ns w t (Modify k v c) p cs a known = refl
-left_again ns w t (Delete k v) p cs a known = refl
+-- the server has the names too
+among_again : (ns : Names) (w : World) (c : Change) (p : ℤ) → AreAmong ns w.names → AreAmong (named_by c p ns) (after w c p).names
+among_again ns w (Create k c) p m = λ r x h. elim (decide (is_key r k)) [
+  | inl i ↦ head_name k p w.names r i ∙ sym (head_name k p ns r i) ∙ h
+  | inr i ↦ tail_name k p w.names r i ∙ m r x (sym (tail_name k p ns r i) ∙ h)
+]
+among_again ns w (Modify k v c) p m = m
+among_again ns w (Delete k v) p m = m
 
 abbrev world_of : World → Ran → World
 world_of w (Ended v) = v
@@ -121,28 +77,31 @@ joined f (x ∷ xs) ys = ap (λ (zs : List Change). f x ∷ zs) (joined f xs ys)
 abbrev IsThrough : World → TableValue → List Change → Type 0
 IsThrough v u ds = IsReady v u × (plan u ≡ ds)
 
-through : (v : World) (cs ds : List Change) (ns : Names) (n : ℕ) (w : World) (t : TableValue) (ps : List ℤ) → IsReady w t → AreAnswered ns w t → plan t ≡ map (moved_change (called ns)) (cs ++ ds) → AreAnswers w t cs ps → run_from n w cs ps ≡ Ended v
+positive_pick : (w : World) (t : TableValue) (c : Change) (p : ℤ) → IsFresh w t c p → IsGivenTo c p
+positive_pick w t (Create k c) p h = h.0
+positive_pick w t (Modify k v c) p h = tt
+positive_pick w t (Delete k v) p h = tt
+
+through : (v : World) (cs ds : List Change) (ns : Names) (n : ℕ) (w : World) (t : TableValue) (ps : List ℤ) → IsReady w t → AreNamed ns t → AreAmong ns w.names → plan t ≡ map (moved_change (called ns)) (cs ++ ds) → AreAnswers w t cs ps → run_from n w cs ps ≡ Ended v
     → IsThrough v (confirmed_from ns t cs ps) (map (moved_change (called (names_from ns cs ps))) ds)
-through v [] ds ns n w t ps ready a whole answers run = (subst (λ (x : World). IsReady x t) (ap (world_of w) run) ready, whole)
-through v (c ∷ cs) ds ns n w t ps ready a whole answers run =
+through v [] ds ns n w t ps ready a m whole answers run = (subst (λ (x : World). IsReady x t) (ap (world_of w) run) ready, whole)
+through v (c ∷ cs) ds ns n w t ps ready a m whole answers run =
     let p = pick_for c ps in
     let f = called ns in
     let step = run_step (refusal w c p) n (run_from (n + 1) (after w c p) cs (picks_left c ps)) v run in
     let fresh = fresh_first w t c cs ps answers.0 in
     let answer : IsAnswer w t (moved_change f c) p = (fresh_moved f w t c p fresh, within_moved f c p answers.1.0) in
     let known = known_moved f t c (first_known t w ready p (moved_change f c) (map (moved_change f) (cs ++ ds)) whole) in
-    let same = after_same w ns a.given a.among c p in
+    let same = after_same w ns a.given m c p in
     let later = fresh_rest w t c cs ps step.0 answers.0 in
     through v cs ds (named_by c p ns) (n + 1) (after w c p) (confirmed t (moved_change f c) p) (picks_left c ps)
     (subst (λ (x : World). IsReady x (confirmed t (moved_change f c) p)) same (ready_again w t (moved_change f c) (map (moved_change f) (cs ++ ds)) p ready whole answer))
-    (answered_again f ns w t c p a known fresh)
-    (rest_again w t (moved_change f c) (map (moved_change f) (cs ++ ds)) p ready whole answer ∙ left_again ns w t c p (cs ++ ds) a known)
+    (named_again f ns t c p a known (positive_pick w t c p fresh))
+    (among_again ns w c p m)
+    (rest_again w t (moved_change f c) (map (moved_change f) (cs ++ ds)) p ready whole answer ∙ left_again ns t c p (cs ++ ds) a known)
     (fresh_confirmed f w (after w c p) t c cs ps known answers.0 later, answers.1.1)
     step.1
 
-none_answered : (w : World) (t : TableValue) → AreAnswered [] w t
-none_answered w t = record { given = λ r p h. cc; among = λ r p h. cc; gone = λ r p h n. cc }
-
 pub after_all : (w v : World) (t : TableValue) (cs ds : List Change) (ps : List ℤ) → IsReady w t → plan t ≡ cs ++ ds → AreAnswers w t cs ps → run_from 1 w cs ps ≡ Ended v
     → IsReady v (confirmed_all t cs ps) × (plan (confirmed_all t cs ps) ≡ map (moved_change (called (names_of cs ps))) ds)
-after_all w v t cs ds ps ready whole answers run = through v cs ds [] 1 w t ps ready (none_answered w t) (whole ∙ sym (changes_stay (cs ++ ds))) answers run
+after_all w v t cs ds ps ready whole answers run = through v cs ds [] 1 w t ps ready (none_named t) (λ r p h. cc) (whole ∙ sym (changes_stay (cs ++ ds))) answers run

@@ -13,5 +13,9 @@ pub mod Created
 pub mod Resumed
 pub mod Names
 pub mod LookUps
+pub mod Named
 pub mod After
 mod Examples
+pub mod Settled
+pub mod Steady
+pub mod Steadily

@@ -125,7 +125,7 @@ server_case : (f : Key → Key) (b : Content) → renamed f b ≡ b → AllByRec
 server_case f b e h = subst (λ (c : Content). AllByRecursion (λ r. IsPositive r.id) (refs_of c)) (sym e) h
 
 -- an entry that isn't in conflict is sound with other names, if these don't stand in its base
-pub moved_sound : (f : Key → Key) (n : ℕ) (k : Key) (g : Entry) → is_open g ≡ false → ((b : Content) → held_of g ≡ Some b → renamed f b ≡ b) → is_update (moved_entry f g) ≡ is_update g → IsSoundEntry n k g → IsSoundEntry n k (moved_entry f g)
+pub moved_sound : (f : Key → Key) (n : ℕ) (k : Key) (g : Entry) → is_open g ≡ false → ((b : Content) → held_of g ≡ Some b → renamed f b ≡ b) → (is_update (moved_entry f g) ≡ true → is_update g ≡ true) → IsSoundEntry n k g → IsSoundEntry n k (moved_entry f g)
 moved_sound f n k Incomplete o h u s = record { id = s.id; kinds = tt; server = tt; versions = tt; limits = λ changed. tt; conflict = tt }
 moved_sound f n k (Known b m (Some d)) o h u s = let x : true ≡ false = o in cc
 moved_sound f n k (Known New m None) o h u s = record {
@@ -149,7 +149,7 @@ moved_sound f n k (Known (Live v b x) (Some c) None) o h u s = record {
   kinds = (kind_moved f b ∙ s.kinds.0, kind_moved f c ∙ s.kinds.1, tt);
   server = (server_case f b (h b refl) s.server.0, tt);
   versions = s.versions;
-  limits = λ changed. fits_renamed f c ∙ s.limits (sym u ∙ changed);
+  limits = λ changed. fits_renamed f c ∙ s.limits (u changed);
   conflict = tt;
 }
 moved_sound f n k (Known (Gone v x) None None) o h u s = record { id = s.id; kinds = (tt, tt, tt); server = (tt, tt); versions = s.versions; limits = λ changed. tt; conflict = tt }

@@ -137,13 +137,13 @@ module _ (t : TableValue) (w : World) (ready : IsReady w t) (p : ℤ) where
         by_base e c u true n same =
             let negative = (s.negative k e u.entry n (mine_known e c u.mine)).0 in
             let f = subst (λ (x : Change). IsAnswer w t x p) same fresh in
-            let r = created.plan_rest k p negative t ready.sound ok w ready.world ready.holds ready.alone e c u n f.1 f.0.1 f.0.2 ks head in
+            let r = created.plan_rest k p negative t ready.sound ok.no_conflict e c u.entry u.mine f.1 f.0.2 ok w ready.world ready.holds ready.alone u.up n f.0.1 ks head in
             let tail : r.0 ≡ cs = (head_is (up_of t k) (up_of t k) r.0 cs (sym r.1 ∙ whole)).1 in
             subst (λ (x : Change). IsResumed t w x cs p) (sym same) (record {
-              sound = created.sound_again k p negative t ready.sound ok w ready.world ready.holds ready.alone e c u n f.1 f.0.1 f.0.2 ks head;
-              clear = created.clear_again k p negative t ready.sound ok w ready.world ready.holds ready.alone e c u n f.1 f.0.1 f.0.2 ks head;
-              holds = created.holds_again k p negative t ready.sound ok w ready.world ready.holds ready.alone e c u n f.1 f.0.1 f.0.2 ks head;
-              alone = created.alone_again k p negative t ready.sound ok w ready.world ready.holds ready.alone e c u n f.1 f.0.1 f.0.2 ks head;
+              sound = created.sound_again k p negative t ready.sound ok.no_conflict e c u.entry u.mine f.1 f.0.2 ok w ready.world ready.holds ready.alone u.up n f.0.1 ks head;
+              clear = created.clear_again k p negative t ready.sound ok.no_conflict e c u.entry u.mine f.1 f.0.2 ok w ready.world ready.holds ready.alone u.up n f.0.1 ks head;
+              holds = created.holds_again k p negative t ready.sound ok.no_conflict e c u.entry u.mine f.1 f.0.2 ok w ready.world ready.holds ready.alone u.up n f.0.1 ks head;
+              alone = created.alone_again k p negative t ready.sound ok.no_conflict e c u.entry u.mine f.1 f.0.2 ok w ready.world ready.holds ready.alone u.up n f.0.1 ks head;
               rest = r.2 ∙ ap (map (moved_change (moved k p))) tail;
             })
         by_base e c u false n same =

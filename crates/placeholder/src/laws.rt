@@ -13,7 +13,9 @@ ghost use Rattle.upload_order.specs.Plan.{plan};
 ghost use Rattle.upload_order.specs.Rename.{called, renamed, with_id};
 ghost use Rattle.upload_order.specs.Run.{run_from, Ended};
 ghost use Rattle.upload_order.specs.World.{World, after};
-ghost use Rattle.placeholder.specs.Answers.{IsAnswer, AreAnswers};
+ghost use Rattle.dataset.specs.Sound.{IsSound};
+ghost use Rattle.upload_order.specs.Refused.{upload_refusal};
+ghost use Rattle.placeholder.specs.Answers.{IsAnswer, AreAnswers, AreNew, AreWithin};
 ghost use Rattle.placeholder.specs.Confirmed.{based_on, confirmed, confirmed_all, made_entry, moved, moved_change, moved_entry, names_of};
 ghost use Rattle.placeholder.specs.Resumed.{IsReady, left_after};
 
@@ -39,4 +41,10 @@ pub fn plan_is_resumed()
 pub fn plan_is_resumed_after()
     ensures ready { (w v : World) (t : TableValue) (cs ds : List Change) (ids : List ℤ) → IsReady w t → plan t ≡ cs ++ ds → AreAnswers w t cs ids → run_from 1 w cs ids ≡ Ended v → IsReady v (confirmed_all t cs ids) }
     ensures rest { (w v : World) (t : TableValue) (cs ds : List Change) (ids : List ℤ) → IsReady w t → plan t ≡ cs ++ ds → AreAnswers w t cs ids → run_from 1 w cs ids ≡ Ended v → plan (confirmed_all t cs ids) ≡ map (moved_change (called (names_of cs ids))) ds }
+{}
+
+/// A confirmed table is sound whatever the server is that gave the answers, if they are within the limits and each id is new
+/// to the table.
+pub fn confirmed_is_sound()
+    ensures { (t : TableValue) (cs ds : List Change) (ids : List ℤ) → IsSound t → upload_refusal t ≡ None → plan t ≡ cs ++ ds → AreNew t cs ids → AreWithin cs ids → IsSound (confirmed_all t cs ids) }
 {}

@@ -8,4 +8,4 @@
 
 mod laws;
 
-pub use laws::{confirmed_by_key, plan_is_resumed, plan_is_resumed_after};
+pub use laws::{confirmed_by_key, confirmed_is_sound, plan_is_resumed, plan_is_resumed_after};
