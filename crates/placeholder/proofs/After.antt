@@ -1,25 +1,24 @@
 -- After the answers to any number of first changes the table is again clear to be sent, and its plan is the rest.
-use Rattle.std.proofs.Common.{◌≡◌, ℕ, ◌+◌, ℤ, true, false, List, [], ◌∷◌, ◌++◌, map, Option, Some, None, refl, sym, ◌∙◌, ap, subst, inl, inr}
+use Rattle.std.proofs.Common.{◌≡◌, ℕ, ◌+◌, ℤ, List, [], ◌∷◌, ◌++◌, map, Option, Some, None, refl, sym, ◌∙◌, ap, subst, inl, inr}
 use Rattle.osm_base.specs.Rank.{is_key}
 use Rattle.osm_base.specs.Meta.{empty_meta}
 use Rattle.osm_base.specs.declared.key.Key.{Key}
-use Rattle.osm_base.proofs.RisingKeys.{one_key}
 use Rattle.osm_table.specs.declared.entry.Base.TheVariants.{Live, Gone}
-use Rattle.osm_table.specs.declared.entry.Entry.{Entry}
 use Rattle.osm_table.specs.Table.{TableValue, entry_of, with_entry}
 use Rattle.upload_order.specs.declared.change.Change.{Change}
 use Rattle.upload_order.specs.declared.change.Change.TheVariants.{Create, Modify, Delete}
 use Rattle.upload_order.specs.Plan.{plan}
-use Rattle.upload_order.specs.Rename.{Names, named, called, with_id, renamed, is_positive}
+use Rattle.upload_order.specs.Rename.{Names, called, with_id, renamed}
 use Rattle.upload_order.specs.Run.{Ran, Ended, Stopped, on_refusal, run_from, pick_for, picks_left, picked, IsAmong, AreFresh}
-use Rattle.upload_order.specs.World.{World, Refusal, IsFresh, refusal, after}
-use Rattle.upload_order.proofs.Basics.{decide, true_false, none_some, both}
-use Rattle.upload_order.proofs.Runs.{fresh_first, fresh_rest, other_pick}
+use Rattle.upload_order.specs.World.{World, Accepts, IsEdited, Refusal, IsFresh, refusal, after}
+use Rattle.upload_order.proofs.Accepted.{plan_accepted}
+use Rattle.upload_order.proofs.Basics.{decide}
+use Rattle.upload_order.proofs.Runs.{sound_backs, runs_through, accepts_front, fresh_first, fresh_rest, other_pick}
 use Rattle.placeholder.specs.Answers.{IsAnswer, IsWithin, AreAnswers}
-use Rattle.placeholder.specs.Confirmed.{moved, based_on, moved_change, named_by, confirmed, confirmed_from, confirmed_all, names_from, names_of}
-use Rattle.placeholder.specs.Resumed.{IsReady, left_after}
-use Rattle.placeholder.proofs.LookUps.{made_none, made_gone, set_none}
-use Rattle.placeholder.proofs.Names.{AreGiven, AreAmong, head_name, tail_name, called_more, changes_once, changes_stay, after_same}
+use Rattle.placeholder.specs.Confirmed.{based_on, moved_change, named_by, confirmed, confirmed_from, confirmed_all, names_from, names_of}
+use Rattle.placeholder.specs.Resumed.{IsReady}
+use Rattle.placeholder.proofs.LookUps.{made_none, set_none}
+use Rattle.placeholder.proofs.Names.{AreAmong, head_name, tail_name, changes_stay, after_same}
 use Rattle.placeholder.proofs.Named.{AreNamed, IsGivenTo, known_moved, named_again, left_again, none_named}
 use Rattle.placeholder.proofs.Resumed.{IsKnownIn, first_known, ready_again, rest_again}
 
@@ -105,3 +104,10 @@ through v (c ∷ cs) ds ns n w t ps ready a m whole answers run =
 pub after_all : (w v : World) (t : TableValue) (cs ds : List Change) (ps : List ℤ) → IsReady w t → plan t ≡ cs ++ ds → AreAnswers w t cs ps → run_from 1 w cs ps ≡ Ended v
     → IsReady v (confirmed_all t cs ps) × (plan (confirmed_all t cs ps) ≡ map (moved_change (called (names_of cs ps))) ds)
 after_all w v t cs ds ps ready whole answers run = through v cs ds [] 1 w t ps ready (none_named t) (λ r p h. cc) (whole ∙ sym (changes_stay (cs ++ ds))) answers run
+
+-- the server takes the first changes
+pub front_taken : (w : World) (t : TableValue) (cs ds : List Change) (ps : List ℤ) → IsReady w t → plan t ≡ cs ++ ds → AreFresh w t cs ps → (v : World) × (run_from 1 w cs ps ≡ Ended v)
+front_taken w t cs ds ps ready whole fresh =
+    let all : Accepts t w (cs ++ ds) (IsEdited t w) = subst (λ (xs : List Change). Accepts t w xs (IsEdited t w)) whole (plan_accepted t w ready.sound ready.clear (sound_backs t w ready.world ready.holds) ready.holds ready.alone) in
+    let x = runs_through t (λ v. Accepts t v ds (IsEdited t w)) 1 w cs ps (accepts_front t w cs ds (IsEdited t w) all) fresh in
+    (x.0, x.1)

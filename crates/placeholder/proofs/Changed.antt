@@ -2,7 +2,7 @@
 use Rattle.std.proofs.Common.{◌≡◌, ◌+◌, ◌≤◌, Bool, true, false, not, List, ◌∷◌, ◌++◌, map, length, Option, Some, None, refl, sym, ◌∙◌, ap, subst, inl, inr, arith}
 use Rattle.std.specs.Option.{option_map_or}
 use Rattle.osm_base.specs.Rank.{is_key}
-use Rattle.osm_base.specs.Content.{refers}
+use Rattle.osm_base.specs.Content.{refers, fits}
 use Rattle.osm_base.specs.Meta.{empty_meta}
 use Rattle.osm_base.specs.declared.key.Kind.{Kind}
 use Rattle.osm_base.specs.declared.key.Kind.TheVariants as kind
@@ -13,10 +13,9 @@ use Rattle.osm_base.proofs.SameLaws.{same_content_decides}
 use Rattle.osm_table.specs.declared.entry.Entry.{Entry}
 use Rattle.osm_table.specs.declared.entry.Entry.TheVariants.{Known}
 use Rattle.osm_table.specs.declared.entry.Base.TheVariants.{Live}
-use Rattle.osm_table.specs.Table.{TableValue, entry_of, with_entry, mine_of, version_of, is_new, is_incomplete, IsThere, IsPositive}
+use Rattle.osm_table.specs.Table.{TableValue, entry_of, with_entry, mine_of, version_of, is_new, is_incomplete, IsPositive}
 use Rattle.dataset.specs.Exact.{mine_at}
-use Rattle.dataset.specs.Sound.{IsSound, IsSoundEntry}
-use Rattle.dataset.proofs.Changes.{set_sound}
+use Rattle.dataset.specs.Sound.{IsSound}
 use Rattle.upload_order.specs.declared.change.Change.{Change}
 use Rattle.upload_order.specs.Bases.{base_in, is_based}
 use Rattle.upload_order.specs.Kinds.{is_rising, is_update, is_falling, is_sent, held_of, held_at, at_key, content_refers, mine_refers, held_refers}
@@ -41,7 +40,8 @@ use Rattle.placeholder.proofs.Alike.{fall_same, steps_same, ups_same}
 use Rattle.placeholder.proofs.Clear.{IsClear}
 use Rattle.placeholder.proofs.Parts.{not_rising, not_falling}
 use Rattle.placeholder.proofs.Rest.{same_where, without_where, ups_again, stuck_again, once, ordered}
-use Rattle.placeholder.proofs.Whole.{given_id, all_refs, stands_there, up_falls, based_up, new_up, first_calm}
+use Rattle.placeholder.proofs.Settled.{IsServed, settled_sound, answered_up}
+use Rattle.placeholder.proofs.Whole.{given_id, up_falls, based_up, new_up, first_calm}
 
 -- The first change of t changes the object of k on the server, and u has its answer.
 module _ (t : TableValue) (is : IsSound t) (ok : IsClear t) (k : Key) (e : Entry) (c : Content) (up : IsUp t k e c) (old : is_new (base_in e) ≡ false) (ks : List Key) (head : ups t ≡ k ∷ ks) (bound : version_of (base_in e) + 1 ≤ 2000000000) where
@@ -148,25 +148,13 @@ module _ (t : TableValue) (is : IsSound t) (ok : IsClear t) (k : Key) (e : Entry
   one_content : (d : Content) → Some c ≡ Some d → c ≡ d
   one_content d h = both c d (Some c) refl h
 
-  entry_sound : IsSoundEntry t.next k e2
-  entry_sound = let kind = s.kinds k e c up.entry (inl up.mine) in record {
-    id = given_id t is k e up.entry (inr based);
-    kinds = (kind, kind, tt);
-    server = (all_refs (λ r. IsPositive r.id) c positive_key, tt);
-    versions = ((omega arith, bound), tt);
-    limits = λ changed. s.fit k e c up.entry up.mine up.up;
-    conflict = tt;
-  }
-
-  -- what is there in t is there in u
-  there_u : (r : Key) → IsThere (entry_of t r) → IsThere (entry_of answered r)
-  there_u r x = elim (decide (is_key r k)) [
-    | inl i ↦ subst IsThere (sym (at_u r i)) refl
-    | inr i ↦ subst IsThere (sym (off_u r i)) x
-  ]
-
   pub sound_again : IsSound answered
-  sound_again = set_sound t k e2 is entry_sound refl (λ r u. there_u r (stands_there t r (s.refs k r e c up.entry up.mine u)))
+  sound_again =
+      let calm_entry = ok.no_conflict k e up.entry in
+      subst (λ (x : Entry). IsSound (with_entry t k x)) (answered_up (Live (version_of (base_in e) + 1) c empty_meta) e c up.mine calm_entry)
+      (settled_sound t k e (Live (version_of (base_in e) + 1) c empty_meta) is up.entry calm_entry based refl (omega arith, bound)
+      (λ d h. subst (IsServed k) (one_content d h) (s.kinds k e c up.entry (inl up.mine), positive_key))
+      (λ d h. subst (λ (y : Content). fits y ≡ true) (both c d (mine_of e) up.mine h) (s.fit k e c up.entry up.mine up.up)))
 
   -- A voucher still vouches.
   vouches_again : (w r : Key) (f : Entry) → entry_of t w ≡ Some f → vouches f r ≡ true → (u : Key) × (g : Entry) × (entry_of answered u ≡ Some g) × (vouches g r ≡ true)

@@ -39,7 +39,7 @@ use Rattle.upload_order.proofs.Entries.{IsIn, map_in}
 use Rattle.upload_order.proofs.PlanDowns.{downs_ordered}
 use Rattle.upload_order.proofs.Renaming.{renamed_from, renamed_to, renamed_itself}
 use Rattle.upload_order.proofs.Sounds.{sound_of, positive_is}
-use Rattle.upload_order.proofs.Static.{IsUp, IsOrdered, no_more, next, with_key}
+use Rattle.upload_order.proofs.Static.{IsOrdered, no_more, next, with_key}
 use Rattle.upload_order.proofs.Turn.{same_law}
 use Rattle.upload_order.proofs.Where.{keys_where, rising_of, falling_of, falling_items, falling_both, in_where}
 use Rattle.upload_order.proofs.Worlds.{called_meant}

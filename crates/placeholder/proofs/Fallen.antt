@@ -1,20 +1,19 @@
 -- After one object was emptied or deleted on the server the table is again clear to be sent.
-use Rattle.std.proofs.Common.{◌≡◌, ℕ, Bool, true, false, List, [], ◌++◌, Option, Some, None, refl, sym, ◌∙◌, ap, subst, inl, inr}
-use Rattle.std.specs.List.{AllByRecursion}
+use Rattle.std.proofs.Common.{◌≡◌, Bool, true, false, List, [], ◌++◌, Option, Some, None, refl, sym, ◌∙◌, ap, subst, inl, inr}
 use Rattle.std.specs.Option.{option_map_or}
 use Rattle.osm_base.specs.Rank.{is_key}
-use Rattle.osm_base.specs.Content.{refs_of, kind_of_content}
+use Rattle.osm_base.specs.Content.{refers, kind_of_content}
 use Rattle.osm_base.specs.declared.key.Kind.{Kind}
 use Rattle.osm_base.specs.declared.key.Kind.TheVariants as kind
 use Rattle.osm_base.specs.declared.key.Key.{Key}
 use Rattle.osm_base.specs.declared.content.Content.{Content}
 use Rattle.osm_base.proofs.RisingKeys.{one_key}
 use Rattle.osm_table.specs.declared.entry.Entry.{Entry}
-use Rattle.osm_table.specs.declared.entry.Entry.TheVariants.{Incomplete, Known}
+use Rattle.osm_table.specs.declared.entry.Entry.TheVariants.{Known}
 use Rattle.osm_table.specs.declared.entry.Base.{Base}
 use Rattle.osm_table.specs.declared.entry.Base.TheVariants.{New, Live, Gone}
-use Rattle.osm_table.specs.Table.{TableValue, entry_of, with_entry, held_by, version_of, is_new, IsThere, IfContent, IsPositive}
-use Rattle.dataset.specs.Sound.{IsSound, IsSoundEntry, BaseFits, HasVersion, LivesIn}
+use Rattle.osm_table.specs.Table.{mine_of, TableValue, entry_of, with_entry, held_by, version_of, is_new}
+use Rattle.dataset.specs.Sound.{IsSound, HasVersion}
 use Rattle.upload_order.specs.Bases.{base_in, is_based}
 use Rattle.upload_order.specs.Kinds.{is_rising, is_update, is_falling, held_of, at_key, mine_refers}
 use Rattle.upload_order.specs.Order.{peeled}
@@ -22,7 +21,7 @@ use Rattle.upload_order.specs.Plan.{ups, empty_relation}
 use Rattle.upload_order.specs.Refused.{is_open}
 use Rattle.upload_order.specs.World.{World, WorldEntry, content_in, Holds, Alone, put_in}
 use Rattle.upload_order.proofs.Along.{at_is, passed}
-use Rattle.upload_order.proofs.Basics.{decide, true_false, both, or_cases, at_key_put, at_other}
+use Rattle.upload_order.proofs.Basics.{decide, true_false, both, none_some, or_cases, at_key_put, at_other}
 use Rattle.upload_order.proofs.Conditions.{Sound}
 use Rattle.upload_order.proofs.Downs.{falling_based}
 use Rattle.upload_order.proofs.PlanUps.{ups_ordered, ups_whole, ups_done, rising_mine, update_mine}
@@ -30,26 +29,11 @@ use Rattle.upload_order.proofs.Sounds.{sound_of}
 use Rattle.upload_order.proofs.Static.{IsUp, IsOrdered, no_more}
 use Rattle.upload_order.proofs.Where.{keys_where, rising_of, rising_both, in_where}
 use Rattle.placeholder.proofs.Clear.{IsClear, no_member}
-use Rattle.placeholder.proofs.Whole.{given_id}
+use Rattle.placeholder.proofs.Settled.{settled_sound, answered_down}
+use Rattle.placeholder.proofs.Whole.{falling_none}
 
 ordered_none : (t : TableValue) (done last : Key → Bool) → IsOrdered t done [] last → (k : Key) → last k ≡ done k
 ordered_none t done last (no_more d) k = refl
-
-falling_gone : (e : Entry) → is_falling e ≡ true → IsThere (Some e) → ⊥
-falling_gone Incomplete h x = let f : false ≡ true = h in cc
-falling_gone (Known New m d) h x = let f : false ≡ true = h in cc
-falling_gone (Known (Live v b n) None d) h x = let f : false ≡ true = x in cc
-falling_gone (Known (Live v b n) (Some c) d) h x = let f : false ≡ true = h in cc
-falling_gone (Known (Gone v n) m d) h x = let f : false ≡ true = h in cc
-
-base_fits : (n : ℕ) (k : Key) (b : Base) → is_new b ≡ false → IsPositive k.id → BaseFits n k b None None
-base_fits n k New h p = let f : true ≡ false = h in cc
-base_fits n k (Live v c m) h p = p
-base_fits n k (Gone v m) h p = p
-
-if_some : (P : Content → Type 0) (o : Option Content) → ((c : Content) → o ≡ Some c → P c) → IfContent o P
-if_some P None h = tt
-if_some P (Some c) h = h c refl
 
 module _ (t : TableValue) (is : IsSound t) (ok : IsClear t) (k : Key) (e : Entry) (entry : entry_of t k ≡ Some e) (down : is_falling e ≡ true) (none : ups t ≡ [])
     (b : Base) (not_new : is_new b ≡ false) (holds_empty : (d : Content) → held_by b ≡ Some d → (d ≡ empty_relation) × (k.kind ≡ kind.Relation)) (version : HasVersion b) where
@@ -98,28 +82,13 @@ module _ (t : TableValue) (is : IsSound t) (ok : IsClear t) (k : Key) (e : Entry
   pub ups_none : ups answered ≡ []
   ups_none = λ i. (none_rising kind.Node i ++ (none_rising kind.Way i ++ ((peeled (mine_refers answered) (none_rising kind.Relation i)).order ++ none_updated i)))
 
-  own_sound : IsSoundEntry t.next k e2
-  own_sound = record {
-    id = base_fits t.next k b not_new (given_id t is k e entry (inr (falling_based e down)));
-    kinds = (if_some (λ c. kind_of_content c ≡ k.kind) (held_by b) (λ d h. let z = holds_empty d h in ap kind_of_content z.0 ∙ sym z.1), tt, tt);
-    server = (if_some (λ c. AllByRecursion (λ r. IsPositive r.id) (refs_of c)) (held_by b) (λ d h. subst (λ (c : Content). AllByRecursion (λ r. IsPositive r.id) (refs_of c)) (sym (holds_empty d h).0) tt), tt);
-    versions = (version, tt);
-    limits = λ changed. tt;
-    conflict = tt;
-  }
-
-  kept_there : (r : Key) → IsThere (entry_of t r) → IsThere (entry_of answered r)
-  kept_there r x = elim (decide (is_key r k)) [
-    | inl i ↦ absurd (falling_gone e down (subst IsThere (ap (entry_of t) (one_key r k i) ∙ entry) x))
-    | inr i ↦ subst IsThere (sym (off_u r i)) x
-  ]
-
   pub sound_again : IsSound answered
-  sound_again = record {
-    entries = λ j f h. cases_u (IsSoundEntry t.next) (λ j f n x. is.entries j f x) own_sound j f h;
-    closed = λ j f h. cases_u (λ j f. LivesIn answered f) (λ j f n x r u. kept_there r (is.closed j f x r u)) (λ r u. let g : false ≡ true = u in cc) j f h;
-    number = is.number;
-  }
+  sound_again =
+      let calm = ok.no_conflict k e entry in
+      subst (λ (x : Entry). IsSound (with_entry t k x)) (answered_down b e down calm)
+      (settled_sound t k e b is entry calm (falling_based e down) not_new version
+      (λ d h. let z = holds_empty d h in (ap kind_of_content z.0 ∙ sym z.1, λ r x. true_false (refers d r) x (ap (λ (y : Content). refers y r) z.0)))
+      (λ d h. none_some d (mine_of e) (falling_none e down) h))
 
   pub clear_again : IsClear answered
   clear_again = record {

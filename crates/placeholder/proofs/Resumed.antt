@@ -5,10 +5,10 @@ use Rattle.osm_base.specs.declared.key.Kind.TheVariants as kind
 use Rattle.osm_base.specs.declared.key.Key.{Key}
 use Rattle.osm_base.specs.declared.content.Content.{Content}
 use Rattle.osm_table.specs.declared.entry.Entry.{Entry}
-use Rattle.osm_table.specs.declared.entry.Entry.TheVariants.{Incomplete, Known}
+use Rattle.osm_table.specs.declared.entry.Entry.TheVariants.{Known}
 use Rattle.osm_table.specs.declared.entry.Base.{Base}
-use Rattle.osm_table.specs.declared.entry.Base.TheVariants.{New, Live, Gone}
-use Rattle.osm_table.specs.Table.{TableValue, entry_of, with_entry, mine_of, held_by, version_of, is_new}
+use Rattle.osm_table.specs.declared.entry.Base.TheVariants.{Live, Gone}
+use Rattle.osm_table.specs.Table.{TableValue, entry_of, with_entry, held_by, version_of, is_new}
 use Rattle.dataset.specs.Sound.{IsSound, HasVersion}
 use Rattle.upload_order.specs.declared.change.Change.{Change}
 use Rattle.upload_order.specs.declared.change.Change.TheVariants.{Create, Modify, Delete}
@@ -18,7 +18,6 @@ use Rattle.upload_order.specs.Bases.{base_in}
 use Rattle.upload_order.specs.Kinds.{is_falling, at_key, held_refers}
 use Rattle.upload_order.specs.Fall.{Item, uses_some, fall}
 use Rattle.upload_order.specs.Plan.{ups, up_of, up_entry, plain_removes, downs, down_of, version_at, later, empty_relation, plan}
-use Rattle.upload_order.specs.Refused.{is_open}
 use Rattle.upload_order.specs.Rename.{called, renamed, is_positive}
 use Rattle.upload_order.specs.World.{World, IsFresh, Holds, Alone, Accepts, IsEdited, refusal, after, put_in}
 use Rattle.upload_order.proofs.Accepted.{plan_accepted}
@@ -44,6 +43,7 @@ use Rattle.placeholder.proofs.ClearedPlan as cleared
 use Rattle.placeholder.proofs.Created as created
 use Rattle.placeholder.proofs.Fallen as fallen
 use Rattle.placeholder.proofs.RemovedPlan as removed
+use Rattle.placeholder.proofs.Settled.{answered_up, answered_down}
 use Rattle.placeholder.proofs.Whole.{version_case, up_case}
 
 head_is : (c d : Change) (cs ds : List Change) → c ∷ cs ≡ d ∷ ds → (c ≡ d) × (cs ≡ ds)
@@ -55,19 +55,6 @@ head_is c d cs ds e = (ap (λ l. first_or l c) e, ap rest_of e) where
   rest_of : List Change → List Change
   rest_of [] = []
   rest_of (y ∷ ys) = ys
-
-answered_up : (b : Base) (e : Entry) (c : Content) → mine_of e ≡ Some c → is_open e ≡ false → based_on b (Some e) ≡ Known b (Some c) None
-answered_up b Incomplete c h o = cc
-answered_up b (Known old m None) c h o = ap (λ (x : Option Content). Known b x None) h
-answered_up b (Known old m (Some d)) c h o = cc
-
-answered_down : (b : Base) (e : Entry) → is_falling e ≡ true → is_open e ≡ false → based_on b (Some e) ≡ Known b None None
-answered_down b Incomplete h o = cc
-answered_down b (Known New m d) h o = cc
-answered_down b (Known (Live v x n) None None) h o = refl
-answered_down b (Known (Live v x n) None (Some d)) h o = cc
-answered_down b (Known (Live v x n) (Some c) d) h o = cc
-answered_down b (Known (Gone v n) m d) h o = cc
 
 first_up : (t : TableValue) (done last : Key → Bool) (k : Key) (ks : List Key) → IsOrdered t done (k ∷ ks) last → (e : Entry) × (c : Content) × IsUp t k e c
 first_up t done last k ks (next d l j js e c u free h a) = (e, c, u)

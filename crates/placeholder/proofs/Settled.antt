@@ -1,7 +1,5 @@
 -- A table stays sound where an entry that isn't in conflict comes to stand on another base.
-use Rattle.std.proofs.Common.{◌≡◌, ℕ, Bool, true, false, Option, Some, None, refl, sym, ◌∙◌, ap, subst, inl, inr, IsTrue}
-use Rattle.std.specs.Prelude.{IsSome}
-use Rattle.std.specs.Option.{option_map_or}
+use Rattle.std.proofs.Common.{◌≡◌, ℕ, true, false, Option, Some, None, refl, sym, ◌∙◌, ap, subst, inl, inr, IsTrue}
 use Rattle.osm_base.specs.Rank.{is_key}
 use Rattle.osm_base.specs.Content.{refers, kind_of_content, fits}
 use Rattle.osm_base.specs.declared.key.Key.{Key}
@@ -15,6 +13,7 @@ use Rattle.osm_table.specs.Table.{TableValue, entry_of, with_entry, mine_of, hel
 use Rattle.osm_table.proofs.Each.{each_with, get_with_same, get_with_other}
 use Rattle.dataset.specs.Sound.{IsSound, IsSoundEntry, BaseFits, HasVersion, LivesIn, OfKind, FromTheServer}
 use Rattle.upload_order.specs.Bases.{is_based}
+use Rattle.upload_order.specs.Kinds.{is_falling}
 use Rattle.upload_order.specs.Refused.{is_open}
 use Rattle.upload_order.proofs.Basics.{decide}
 use Rattle.placeholder.specs.Confirmed.{based_on}
@@ -74,3 +73,17 @@ settled_sound t k e b s entry o x known version served fit =
       closed = each_with (λ j f. LivesIn (with_entry t k e2) f) t k e2 (λ j f has r u. there r (s.closed j f has r u)) (λ r u. there r (s.closed k e entry r (sym (uses_same e b r) ∙ u)));
       number = s.number;
     }
+
+-- the entry that then stands in the table
+pub answered_up : (b : Base) (e : Entry) (c : Content) → mine_of e ≡ Some c → is_open e ≡ false → based_on b (Some e) ≡ Known b (Some c) None
+answered_up b Incomplete c h o = cc
+answered_up b (Known old m None) c h o = ap (λ (x : Option Content). Known b x None) h
+answered_up b (Known old m (Some d)) c h o = cc
+
+pub answered_down : (b : Base) (e : Entry) → is_falling e ≡ true → is_open e ≡ false → based_on b (Some e) ≡ Known b None None
+answered_down b Incomplete h o = cc
+answered_down b (Known New m d) h o = cc
+answered_down b (Known (Live v x n) None None) h o = refl
+answered_down b (Known (Live v x n) None (Some d)) h o = cc
+answered_down b (Known (Live v x n) (Some c) d) h o = cc
+answered_down b (Known (Gone v n) m d) h o = cc

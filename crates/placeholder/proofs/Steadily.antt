@@ -1,14 +1,14 @@
 -- Whoever answers the changes of a plan, the table stays sound.
-use Rattle.std.proofs.Common.{◌≡◌, ℕ, ◌+◌, ℤ, Bool, true, false, not, List, [], ◌∷◌, ◌++◌, map, Option, Some, None, refl, sym, ◌∙◌, ap, subst, ◌⊎◌, inl, inr, arith}
+use Rattle.std.proofs.Common.{◌≡◌, ◌+◌, ℤ, true, false, not, List, [], ◌∷◌, ◌++◌, map, Option, Some, None, refl, sym, ◌∙◌, ap, subst, ◌⊎◌, inl, inr, arith}
 use Rattle.std.specs.Option.{option_map}
 use Rattle.osm_base.specs.Rank.{is_key}
 use Rattle.osm_base.specs.Content.{refers, fits, kind_of_content}
 use Rattle.osm_base.specs.Meta.{empty_meta}
 use Rattle.osm_base.specs.declared.key.Key.{Key}
 use Rattle.osm_base.specs.declared.content.Content.{Content}
-use Rattle.osm_base.proofs.RisingKeys.{one_key, key_itself}
+use Rattle.osm_base.proofs.RisingKeys.{one_key}
 use Rattle.osm_table.specs.declared.entry.Base.{Base}
-use Rattle.osm_table.specs.declared.entry.Base.TheVariants.{New, Live, Gone}
+use Rattle.osm_table.specs.declared.entry.Base.TheVariants.{Live, Gone}
 use Rattle.osm_table.specs.declared.entry.Entry.{Entry}
 use Rattle.osm_table.specs.declared.entry.Entry.TheVariants.{Incomplete, Known}
 use Rattle.osm_table.specs.Table.{TableValue, entry_of, with_entry, mine_of, held_by, is_new, Each, IsPositive}
@@ -16,19 +16,18 @@ use Rattle.osm_table.proofs.Each.{each_with, get_with_same, get_with_other}
 use Rattle.dataset.specs.Sound.{IsSound, HasVersion}
 use Rattle.upload_order.specs.declared.change.Change.{Change}
 use Rattle.upload_order.specs.declared.change.Change.TheVariants.{Create, Modify, Delete}
-use Rattle.upload_order.specs.Bases.{base_in, is_based}
-use Rattle.upload_order.specs.Plan.{plan, empty_relation}
+use Rattle.upload_order.specs.Bases.{is_based}
+use Rattle.upload_order.specs.Plan.{plan}
 use Rattle.upload_order.specs.Refused.{is_open, upload_refusal}
 use Rattle.upload_order.specs.Rename.{Names, called, with_id, renamed, is_positive}
 use Rattle.upload_order.specs.Run.{pick_for, picks_left}
 use Rattle.upload_order.proofs.Along.{not_based, mine_known}
 use Rattle.upload_order.proofs.Basics.{decide, true_false, both, key_same}
-use Rattle.upload_order.proofs.Conditions.{Sound}
 use Rattle.upload_order.proofs.Entries.{IsIn}
 use Rattle.upload_order.proofs.Renaming.{renamed_from}
 use Rattle.upload_order.proofs.Sounds.{sound_of, positive_is}
 use Rattle.placeholder.specs.Answers.{IsWithin, AreWithin, IsNewTo, AreNew, AreNewFrom}
-use Rattle.placeholder.specs.Confirmed.{moved, moved_entry, moved_change, based_on, named_by, confirmed, confirmed_from, confirmed_all, made_entry}
+use Rattle.placeholder.specs.Confirmed.{moved, moved_entry, moved_change, based_on, named_by, confirmed, confirmed_from, confirmed_all}
 use Rattle.placeholder.specs.Resumed.{left_after}
 use Rattle.placeholder.proofs.Clear.{is_clear}
 use Rattle.placeholder.proofs.Created as created
@@ -150,9 +149,9 @@ module _ (k : Key) (p : ℤ) (negative : is_positive k.id ≡ false) (t : TableV
         λ i. h.1 (less j i),
         after_moved made all more d h.2,
         steady_moved (j ∷ made) (j ∷ all)
-        (λ r i. elim i [ inl e ↦ inr (inl e) | inr l ↦ (elim (more r l) [ inl y ↦ inl y | inr y ↦ inr (inr y) ]) ])
-        (λ r i. elim i [ inl e ↦ inl e | inr l ↦ inr (less r l) ])
-        (inr here) cs h.3,
+            (λ r i. elim i [ inl e ↦ inr (inl e) | inr l ↦ (elim (more r l) [ inl y ↦ inl y | inr y ↦ inr (inr y) ]) ])
+            (λ r i. elim i [ inl e ↦ inl e | inr l ↦ inr (less r l) ])
+            (inr here) cs h.3,
       )
   steady_moved made all more less here (Modify j v d ∷ cs) h = (sent_moved h.0, after_moved made all more d h.1, steady_moved made all more less here cs h.2) where
     sent_moved : IsSentAs t j d → IsSentAs u j (renamed f d)

@@ -1,15 +1,13 @@
 -- The changes of a plan stand in the table in an order in which each can be answered, on every server.
-use Rattle.std.proofs.Common.{◌≡◌, ℕ, zero, suc, ◌+◌, ◌≤◌, ℤ, Bool, true, false, cond, not, List, [], ◌∷◌, ◌++◌, map, length, Option, Some, None, refl, sym, ◌∙◌, ap, subst, ◌⊎◌, inl, inr, arith}
+use Rattle.std.proofs.Common.{◌≡◌, ℕ, zero, suc, ◌+◌, Bool, true, false, cond, not, List, [], ◌∷◌, ◌++◌, map, length, Option, Some, None, refl, sym, ◌∙◌, ap, subst, ◌⊎◌, inl, inr}
 use Rattle.std.specs.List.{find}
 use Rattle.osm_base.specs.Rank.{is_key}
-use Rattle.osm_base.specs.Content.{refers, fits, kind_of_content}
+use Rattle.osm_base.specs.Content.{refers, fits}
 use Rattle.osm_base.specs.declared.key.Kind.TheVariants as kind
 use Rattle.osm_base.specs.declared.key.Key.{Key}
 use Rattle.osm_base.specs.declared.content.Content.{Content}
 use Rattle.osm_base.proofs.RisingKeys.{one_key}
-use Rattle.osm_table.specs.declared.entry.Base.TheVariants.{New, Live, Gone}
 use Rattle.osm_table.specs.declared.entry.Entry.{Entry}
-use Rattle.osm_table.specs.declared.entry.Entry.TheVariants.{Incomplete, Known}
 use Rattle.osm_table.specs.Table.{TableValue, entry_of, mine_of, version_of, is_new, is_incomplete, IsPositive}
 use Rattle.dataset.specs.Sound.{IsSound}
 use Rattle.upload_order.specs.declared.change.Change.{Change}
@@ -17,11 +15,10 @@ use Rattle.upload_order.specs.declared.change.Change.TheVariants.{Create, Modify
 use Rattle.upload_order.specs.declared.down.Down.{Down}
 use Rattle.upload_order.specs.declared.down.Down.TheVariants.{Clear, Remove}
 use Rattle.upload_order.specs.Bases.{base_in, is_based}
-use Rattle.upload_order.specs.Kinds.{at_key, is_rising, is_update, is_falling, held_refers}
+use Rattle.upload_order.specs.Kinds.{at_key, is_rising, held_refers}
 use Rattle.upload_order.specs.Fall.{Item, is_unused, uses_some, without_item, emptied, fall, fall_next, fall_clear}
-use Rattle.upload_order.specs.Plan.{plan, ups, downs, up_of, up_entry, down_of, version_at, empty_relation, plain_removes}
+use Rattle.upload_order.specs.Plan.{plan, ups, downs, up_of, up_entry, down_of, empty_relation, plain_removes}
 use Rattle.upload_order.specs.Refused.{is_open}
-use Rattle.upload_order.specs.Rename.{is_positive}
 use Rattle.upload_order.proofs.Along.{at_is, passed}
 use Rattle.upload_order.proofs.Basics.{decide, true_false, both, key_same}
 use Rattle.upload_order.proofs.Conditions.{Sound}
@@ -35,7 +32,7 @@ use Rattle.upload_order.proofs.Static.{IsUp, IsOrdered, no_more, next, with_key,
 use Rattle.upload_order.proofs.Turn.{start_left}
 use Rattle.upload_order.proofs.Where.{keys_where, falling_of, falling_items, falling_both, in_where}
 use Rattle.placeholder.proofs.Clear.{IsClear}
-use Rattle.placeholder.proofs.Whole.{given_id, based_up, new_up, up_case}
+use Rattle.placeholder.proofs.Whole.{given_id, falling_none, based_up, new_up, up_case}
 
 -- each reference is an id of a server, or a key made before
 abbrev pub IsAfter : List Key → Content → Type 0
@@ -67,13 +64,6 @@ AreSteady t made [] = Unit {0}
 AreSteady t made (Create k c ∷ cs) = IsFirst t k c × (IsIn k made → ⊥) × IsAfter made c × AreSteady t (k ∷ made) cs
 AreSteady t made (Modify k v c ∷ cs) = IsSentAs t k c × IsAfter made c × AreSteady t made cs
 AreSteady t made (Delete k v ∷ cs) = IsOn t k None × AreSteady t made cs
-
-falling_none : (e : Entry) → is_falling e ≡ true → mine_of e ≡ None
-falling_none Incomplete h = cc
-falling_none (Known New m d) h = cc
-falling_none (Known (Live v b n) None d) h = refl
-falling_none (Known (Live v b n) (Some c) d) h = cc
-falling_none (Known (Gone v n) m d) h = cc
 
 -- who is cleared in a fall is among the items
 fall_from : (uses : Key → Key → Bool) (n : ℕ) (items : List Item) (k : Key) → IsIn (Clear k) (fall uses n items) → (i : Item) × IsIn i items × (i.0 ≡ k)
@@ -139,6 +129,7 @@ module _ (t : TableValue) (is : IsSound t) (ok : IsClear t) where
   } where
     is_self : (r k : Key) → k ≡ r → is_key r k ≡ true
     is_self r k e = key_same r k (sym e)
+
     with_on : (b d : Bool) → (b ≡ true) ⊎ (d ≡ true) → cond b true d ≡ true
     with_on true d h = refl
     with_on false d (inl h) = cc
@@ -183,18 +174,18 @@ module _ (t : TableValue) (is : IsSound t) (ok : IsClear t) where
   ups_steady made done last ks ds (next d l k js e c u free h o) a rest =
       let change : up_of t k ≡ cond (is_new (base_in e)) (Create k c) (Modify k (version_of (base_in e)) c) = ap (up_entry k) u.entry ∙ up_case k e c u.mine in
       subst (λ (x : Change). AreSteady t made (x ∷ (map (up_of t) js ++ ds))) (sym change) (by_base (λ m b. ups_steady m (with_key k d) l js ds o b rest) (is_new (base_in e)) refl) where
-    by_base : ((m : List Key) → AreMade (with_key k d) m → AreSteady t m (map (up_of t) js ++ ds)) → (b : Bool) → is_new (base_in e) ≡ b → AreSteady t made (cond b (Create k c) (Modify k (version_of (base_in e)) c) ∷ (map (up_of t) js ++ ds))
-    by_base go true n = (
-      record { entry = e; there = u.entry; new = n; mine = u.mine; fit = s.fit k e c u.entry u.mine u.up },
-      λ i. true_false (d k) (a.only k i) free,
-      after_made d made k e c u h a,
-      go (k ∷ made) (made_more k d made a),
-    )
-    by_base go false n = (
-      inl (record { entry = e; there = u.entry; based = based_up e c u.mine n; settled = ok.no_conflict k e u.entry; mine = u.mine }, s.fit k e c u.entry u.mine u.up),
-      after_made d made k e c u h a,
-      go made (made_same k e d made u.entry n a),
-    )
+        by_base : ((m : List Key) → AreMade (with_key k d) m → AreSteady t m (map (up_of t) js ++ ds)) → (b : Bool) → is_new (base_in e) ≡ b → AreSteady t made (cond b (Create k c) (Modify k (version_of (base_in e)) c) ∷ (map (up_of t) js ++ ds))
+        by_base go true n = (
+          record { entry = e; there = u.entry; new = n; mine = u.mine; fit = s.fit k e c u.entry u.mine u.up },
+          λ i. true_false (d k) (a.only k i) free,
+          after_made d made k e c u h a,
+          go (k ∷ made) (made_more k d made a),
+        )
+        by_base go false n = (
+          inl (record { entry = e; there = u.entry; based = based_up e c u.mine n; settled = ok.no_conflict k e u.entry; mine = u.mine }, s.fit k e c u.entry u.mine u.up),
+          after_made d made k e c u h a,
+          go made (made_same k e d made u.entry n a),
+        )
 
   -- The changes of the plan are steady.
   pub plan_steady : AreSteady t [] (plan t)

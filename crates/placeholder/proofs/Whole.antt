@@ -99,3 +99,10 @@ up_case k (Known b None d) c h = cc
 up_case k (Known New (Some x) d) c h = ap (Create k) (both x c (Some x) refl h)
 up_case k (Known (Live v b n) (Some x) d) c h = ap (Modify k v) (both x c (Some x) refl h)
 up_case k (Known (Gone v n) (Some x) d) c h = ap (Modify k v) (both x c (Some x) refl h)
+
+pub falling_none : (e : Entry) → is_falling e ≡ true → mine_of e ≡ None
+falling_none Incomplete h = cc
+falling_none (Known New m d) h = cc
+falling_none (Known (Live v b n) None d) h = refl
+falling_none (Known (Live v b n) (Some c) d) h = cc
+falling_none (Known (Gone v n) m d) h = cc

@@ -35,10 +35,11 @@ pub fn plan_is_resumed()
     ensures rest { (w : World) (t : TableValue) (c : Change) (cs : List Change) (id : ℤ) → IsReady w t → plan t ≡ c ∷ cs → IsAnswer w t c id → plan (confirmed t c id) ≡ left_after c id cs }
 {}
 
-/// After the answers to any number of first changes, which the server took one after the other, the confirmed table can be
-/// sent to the server as it is then, and its plan is the rest of the plan, where each placeholder that was answered has the id
-/// that its object got.
+/// The server takes any number of first changes one after the other, whatever new ids it gives. After these answers the
+/// confirmed table can be sent to the server as it is then, and its plan is the rest of the plan, where each placeholder that
+/// was answered has the id that its object got.
 pub fn plan_is_resumed_after()
+    ensures taken { (w : World) (t : TableValue) (cs ds : List Change) (ids : List ℤ) → IsReady w t → plan t ≡ cs ++ ds → AreAnswers w t cs ids → (v : World) × (run_from 1 w cs ids ≡ Ended v) }
     ensures ready { (w v : World) (t : TableValue) (cs ds : List Change) (ids : List ℤ) → IsReady w t → plan t ≡ cs ++ ds → AreAnswers w t cs ids → run_from 1 w cs ids ≡ Ended v → IsReady v (confirmed_all t cs ids) }
     ensures rest { (w v : World) (t : TableValue) (cs ds : List Change) (ids : List ℤ) → IsReady w t → plan t ≡ cs ++ ds → AreAnswers w t cs ids → run_from 1 w cs ids ≡ Ended v → plan (confirmed_all t cs ids) ≡ map (moved_change (called (names_of cs ids))) ds }
 {}

@@ -1,4 +1,4 @@
-use Rattle.placeholder.proofs.After.{after_all}
+use Rattle.placeholder.proofs.After.{after_all, front_taken}
 use Rattle.placeholder.proofs.laws.plan_is_resumed_after.Goals as goal
 
 pub returns-clause-ready : goal.returns-clause-ready
@@ -6,3 +6,6 @@ returns-clause-ready c = λ w v t cs ds ids ready whole answers run. (after_all 
 
 pub returns-clause-rest : goal.returns-clause-rest
 returns-clause-rest c = λ w v t cs ds ids ready whole answers run. (after_all w v t cs ds ids ready whole answers run).1
+
+pub returns-clause-taken : goal.returns-clause-taken
+returns-clause-taken c = λ w t cs ds ids ready whole answers. front_taken w t cs ds ids ready whole answers.0
