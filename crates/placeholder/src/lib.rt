@@ -6,6 +6,13 @@
 //! table can be sent to the server as it is then, and that its plan is the rest of the plan. It stands on `upload_order`.
 #![tactic(auto)]
 
+mod answer;
+mod drafting;
+mod fault;
 mod laws;
+mod renaming;
 
+pub use answer::{Answer, is_answer};
+pub use fault::ConfirmFault;
+pub use renaming::{renamed, with_mine};
 pub use laws::{confirmed_by_key, confirmed_is_sound, plan_is_resumed, plan_is_resumed_after};
