@@ -19,3 +19,4 @@ mod Examples
 pub mod Settled
 pub mod Steady
 pub mod Steadily
+pub mod DraftLaw
