@@ -10,6 +10,7 @@ use Rattle.placeholder.specs.declared.answer.Answer.{Answer}
 use Rattle.placeholder.specs.declared.answer.Answer.TheVariants as answer
 use Rattle.placeholder.specs.declared.fault.ConfirmFault.{ConfirmFault}
 use Rattle.placeholder.specs.declared.fault.ConfirmFault.TheVariants.{WrongAnswer, IdTaken, Memory}
+use Rattle.dataset.specs.Draft.{DraftValue, drafted}
 use Rattle.placeholder.specs.Confirmed.{confirmed, moved_change, named_by}
 
 -- 1 to 10^18
@@ -33,3 +34,59 @@ abbrev pub id_told : Answer → ℤ
 id_told (answer.Create placeholder id) = id
 id_told (answer.Modify key version) = pos 0
 id_told (answer.Delete key version) = pos 0
+
+abbrev pub key_of : Change → Key
+key_of (Create k c) = k
+key_of (Modify k version c) = k
+key_of (Delete k version) = k
+
+-- something stands under the id that an object got
+abbrev pub is_taken : TableValue → Answer → Bool
+is_taken u (answer.Create placeholder id) = is_some (entry_of u (with_id placeholder id))
+is_taken u (answer.Modify key version) = false
+is_taken u (answer.Delete key version) = false
+
+-- the key that it gives
+abbrev pub key_given : Answer → Key
+key_given (answer.Create placeholder id) = with_id placeholder id
+key_given (answer.Modify key version) = key
+key_given (answer.Delete key version) = key
+
+-- The table u is v after the answer with the number, or the answer is not taken.
+abbrev pub taken_by : ℕ → TableValue → Change → Answer → TableValue → Result TableValue ConfirmFault
+taken_by n u c a v = if is_answer c a then (if is_taken u a then Err (IdTaken (key_given a)) else Ok v) else Err (WrongAnswer n)
+
+-- there may be no such change
+abbrev pub taken_at : ℕ → TableValue → Option Change → Answer → TableValue → Result TableValue ConfirmFault
+taken_at n u None a v = Err (WrongAnswer n)
+taken_at n u (Some c) a v = taken_by n u c a v
+
+abbrev pub and_then : Result TableValue ConfirmFault → (TableValue → Result TableValue ConfirmFault) → Result TableValue ConfirmFault
+and_then (Ok v) next = next v
+and_then (Err e) next = Err e
+
+abbrev pub first_change : List Change → Option Change
+first_change [] = None
+first_change (c ∷ cs) = Some c
+
+abbrev pub other_changes : List Change → List Change
+other_changes [] = []
+other_changes (c ∷ cs) = cs
+
+-- one answer after the other, each change with the ids of earlier ones in its references; they are numbered from n
+abbrev pub confirms_from : ℕ → Names → TableValue → List Change → List Answer → Result TableValue ConfirmFault
+confirms_from n names u cs [] = Ok u
+confirms_from n names u [] (a ∷ more) = Err (WrongAnswer n)
+confirms_from n names u (c ∷ cs) (a ∷ more) =
+    and_then (taken_by n u c a (confirmed u (moved_change (called names) c) (id_told a))) (λ v. confirms_from (n + 1) (named_by c (id_told a) names) v cs more)
+
+-- The confirmed table, or why the answers are not taken.
+abbrev pub confirms : TableValue → List Change → List Answer → Result TableValue ConfirmFault
+confirms t cs answers = confirms_from 1 [] t cs answers
+
+-- what is drafted, where memory is found
+abbrev pub Drafts : TableValue → Result DraftValue ConfirmFault → Result TableValue ConfirmFault → Type 0
+Drafts t (Ok d) answer = answer ≡ Ok (drafted d t)
+Drafts t (Err Memory) answer = Unit {0}
+Drafts t (Err fault) answer = answer ≡ Err fault
+

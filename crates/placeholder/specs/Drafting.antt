@@ -1,5 +1,5 @@
 -- How a draft takes an answer.
-use Rattle.std.specs.Prelude.{ℕ, ◌+◌, ℤ, List, [], ◌∷◌, Option, Some, None}
+use Rattle.std.specs.Prelude.{ℕ, ◌+◌, ℤ, List, [], ◌∷◌, Option, Some, None, Result, Ok}
 use Rattle.std.specs.Option.{option_map, unwrap_or}
 use Rattle.osm_base.specs.Content.{node}
 use Rattle.osm_base.specs.Meta.{empty_meta}
@@ -12,9 +12,12 @@ use Rattle.osm_table.specs.declared.entry.Entry.TheVariants.{Incomplete, Known}
 use Rattle.osm_table.specs.Table.{TableValue, entry_of, with_entry, without_entry, users}
 use Rattle.dataset.specs.Exact.{mine_at}
 use Rattle.upload_order.specs.declared.change.Change.{Change}
-use Rattle.upload_order.specs.declared.change.Change.TheVariants.{Create, Modify, Delete}
 use Rattle.upload_order.specs.Plan.{empty_relation}
 use Rattle.upload_order.specs.Rename.{with_id, renamed}
+use Rattle.placeholder.specs.declared.answer.Answer.{Answer}
+use Rattle.placeholder.specs.declared.answer.Answer.TheVariants as answer
+use Rattle.placeholder.specs.declared.fault.ConfirmFault.{ConfirmFault}
+use Rattle.placeholder.specs.Confirm.{taken_at, and_then, first_change, other_changes}
 use Rattle.placeholder.specs.Confirmed.{moved, made_entry, based_on}
 
 -- a node of a way, where the placeholder's object got the id
@@ -48,7 +51,12 @@ abbrev pub sent_content : Option Content → Content
 sent_content mine = unwrap_or mine empty_relation
 
 -- The table u after one more answer, where t is the table before all: only the users in t of what was made are renamed.
-abbrev pub answered_by : TableValue → TableValue → Change → ℤ → TableValue
-answered_by t u (Create k c) id = made_from u k id (users t k) (mine_at (entry_of u k))
-answered_by t u (Modify k version c) id = with_entry u k (based_on (Live (version + 1) (sent_content (mine_at (entry_of u k))) empty_meta) (entry_of u k))
-answered_by t u (Delete k version) id = with_entry u k (based_on (Gone (version + 1) empty_meta) (entry_of u k))
+abbrev pub answered_by : TableValue → TableValue → Answer → TableValue
+answered_by t u (answer.Create placeholder id) = made_from u placeholder id (users t placeholder) (mine_at (entry_of u placeholder))
+answered_by t u (answer.Modify k version) = with_entry u k (based_on (Live version (sent_content (mine_at (entry_of u k))) empty_meta) (entry_of u k))
+answered_by t u (answer.Delete k version) = with_entry u k (based_on (Gone version empty_meta) (entry_of u k))
+
+-- one answer after the other; they are numbered from n
+abbrev pub drafts_from : TableValue → ℕ → TableValue → List Change → List Answer → Result TableValue ConfirmFault
+drafts_from t n u cs [] = Ok u
+drafts_from t n u cs (a ∷ more) = and_then (taken_at n u (first_change cs) a (answered_by t u a)) (λ v. drafts_from t (n + 1) v (other_changes cs) more)

@@ -9,8 +9,9 @@ ghost use Rattle.dataset.specs.Draft.{drafted};
 ghost use Rattle.dataset.specs.Exact.{mine_at};
 ghost use Rattle.upload_order.specs.Rename.{renamed, with_id};
 ghost use Rattle.placeholder.specs.Confirmed.{based_on, made_entry, moved};
-ghost use Rattle.placeholder.specs.Drafting.{all_moved, made_from, mine_moved_at, sent_content};
+ghost use Rattle.placeholder.specs.Drafting.{all_moved, answered_by, made_from, mine_moved_at, sent_content};
 
+use crate::answer::Answer;
 use crate::renaming::{renamed, with_mine};
 use dataset::{DataSet, Draft};
 use osm_base::{Content, Key, Members, Meta, Tags};
@@ -77,7 +78,7 @@ fn mine_at(draft: &Draft, ds: &DataSet, key: Key) -> Result<Option<Content>, All
 }
 
 /// The draft after the object of a placeholder got its id.
-pub fn made(
+fn made(
     draft: Draft,
     ds: &DataSet,
     placeholder: Key,
@@ -97,6 +98,73 @@ pub fn made(
     };
     let entry = made_entry(alloc, renamed(alloc, &content, placeholder, id)?)?;
     with_entry(draft, ds, key, entry)
+}
+
+/// The entry of a key on another base.
+fn based_on(draft: &Draft, ds: &DataSet, key: Key, base: Base) -> Result<Entry, AllocError>
+    ensures { IfOk result (λ e. e ≡ based_on base (entry_of (drafted draft.now ds.now) key)) }
+{
+    let Some(entry) = draft.entry(ds, key) else {
+        return Ok(Entry::Incomplete);
+    };
+    match entry.to_entry()? {
+        Entry::Incomplete => Ok(Entry::Incomplete),
+        Entry::Known { mine, conflict, .. } => Ok(Entry::Known {
+            base,
+            mine,
+            conflict,
+        }),
+    }
+}
+
+fn sent_content(draft: &Draft, ds: &DataSet, key: Key) -> Result<Content, AllocError>
+    ensures { IfOk result (λ c. c ≡ sent_content (mine_at (entry_of (drafted draft.now ds.now) key))) }
+{
+    let alloc = ds.alloc();
+    match mine_at(draft, ds, key)? {
+        Some(content) => Ok(content),
+        None => Ok(Content::Relation {
+            tags: Tags::new(alloc),
+            members: Members::new(alloc),
+        }),
+    }
+}
+
+fn changed(draft: Draft, ds: &DataSet, key: Key, version: u32) -> Result<Draft, AllocError>
+    ensures { IfOk result (λ d. drafted d ds.now ≡ with_entry (drafted draft ds.now) key (based_on (Live version (sent_content (mine_at (entry_of (drafted draft ds.now) key))) empty_meta) (entry_of (drafted draft ds.now) key))) }
+{
+    let base = Base::Live {
+        version,
+        content: sent_content(&draft, ds, key)?,
+        meta: Meta::empty(ds.alloc())?,
+    };
+    let entry = based_on(&draft, ds, key, base)?;
+    with_entry(draft, ds, key, entry)
+}
+
+fn deleted(draft: Draft, ds: &DataSet, key: Key, version: u32) -> Result<Draft, AllocError>
+    ensures { IfOk result (λ d. drafted d ds.now ≡ with_entry (drafted draft ds.now) key (based_on (Gone version empty_meta) (entry_of (drafted draft ds.now) key))) }
+{
+    let base = Base::Gone {
+        version,
+        meta: Meta::empty(ds.alloc())?,
+    };
+    let entry = based_on(&draft, ds, key, base)?;
+    with_entry(draft, ds, key, entry)
+}
+
+/// The draft after one more answer. Costs the users of an object that was made, with their references.
+///
+/// # Errors
+/// No memory was left.
+pub fn answered_by(draft: Draft, ds: &DataSet, answer: Answer) -> Result<Draft, AllocError>
+    ensures { IfOk result (λ d. drafted d ds.now ≡ answered_by ds.now (drafted draft ds.now) answer) }
+{
+    match answer {
+        Answer::Create { placeholder, id } => made(draft, ds, placeholder, id),
+        Answer::Modify { key, version } => changed(draft, ds, key, version),
+        Answer::Delete { key, version } => deleted(draft, ds, key, version),
+    }
 }
 
 fn made_entry(alloc: Global, content: Content) -> Result<Entry, AllocError>

@@ -7,6 +7,7 @@
 #![tactic(auto)]
 
 mod answer;
+mod confirming;
 mod drafting;
 mod fault;
 mod laws;
