@@ -20,3 +20,5 @@ pub mod Settled
 pub mod Steady
 pub mod Steadily
 pub mod DraftLaw
+pub mod Drafted
+pub mod ConfirmLaw

@@ -39,7 +39,7 @@ use Rattle.placeholder.proofs.Settled.{IsServed, settled_sound}
 use Rattle.placeholder.proofs.Steady.{IsAfter, IsOn, IsFirst, IsSentAs, AreSteady, plan_steady}
 
 -- no entry is in conflict
-abbrev AreSettled : TableValue → Type 0
+abbrev pub AreSettled : TableValue → Type 0
 AreSettled t = Each t (λ k e. is_open e ≡ false)
 
 -- An entry comes to stand on another base.
@@ -160,12 +160,12 @@ module _ (k : Key) (p : ℤ) (negative : is_positive k.id ≡ false) (t : TableV
   steady_moved made all more less here (Delete j v ∷ cs) h = (on_moved j None h.0, steady_moved made all more less here cs h.1)
 
 -- the table, and the changes that are left, as they were before an answer
-record IsSteady (t : TableValue) (cs : List Change) : Type 0 where
-  sound : IsSound t
-  settled : AreSettled t
-  steady : AreSteady t [] cs
+pub record IsSteady (t : TableValue) (cs : List Change) : Type 0 where
+  pub sound : IsSound t
+  pub settled : AreSettled t
+  pub steady : AreSteady t [] cs
 
-served : (c : Content) → IsAfter [] c → (r : Key) → refers c r ≡ true → IsPositive r.id
+pub served : (c : Content) → IsAfter [] c → (r : Key) → refers c r ≡ true → IsPositive r.id
 served c h r x = elim (h r x) [ inl y ↦ y | inr y ↦ absurd y ]
 
 -- one answer
@@ -178,10 +178,10 @@ set_steady t k b o cs is settled x known version held fit steady =
       steady = steady_set t k x.entry b x.there x.based known [] cs steady;
     })
 
-negative_key : (t : TableValue) → IsSound t → (k : Key) (c : Content) → IsFirst t k c → is_positive k.id ≡ false
+pub negative_key : (t : TableValue) → IsSound t → (k : Key) (c : Content) → IsFirst t k c → is_positive k.id ≡ false
 negative_key t is k c x = ((sound_of t is).negative k x.entry x.there x.new (mine_known x.entry c x.mine)).0
 
-answer_step : (t : TableValue) (c : Change) (cs : List Change) (p : ℤ) → IsSteady t (c ∷ cs) → IsNewTo t c p → IsWithin c p → IsSteady (confirmed t c p) (left_after c p cs)
+pub answer_step : (t : TableValue) (c : Change) (cs : List Change) (p : ℤ) → IsSteady t (c ∷ cs) → IsNewTo t c p → IsWithin c p → IsSteady (confirmed t c p) (left_after c p cs)
 answer_step t (Create k c) cs p a new within =
     let h = a.steady in
     let x = h.0 in
@@ -203,7 +203,7 @@ answer_step t (Modify k v c) cs p a new within = by_sent a.steady.0 where
 answer_step t (Delete k v) cs p a new within =
     set_steady t k (Gone (v + 1) empty_meta) None cs a.sound a.settled a.steady.0 refl (omega arith, within) (λ d h. cc) (λ d h. cc) a.steady.1
 
-known_in : (t : TableValue) (c : Change) (cs : List Change) → IsSteady t (c ∷ cs) → IsKnownIn t c
+pub known_in : (t : TableValue) (c : Change) (cs : List Change) → IsSteady t (c ∷ cs) → IsKnownIn t c
 known_in t (Create k c) cs a = let x = a.steady.0 in (negative_key t a.sound k c x, (x.entry, x.there))
 known_in t (Modify k v c) cs a = by_sent a.steady.0 where
   by_sent : IsSentAs t k c → (e : Entry) × (entry_of t k ≡ Some e)
@@ -212,17 +212,17 @@ known_in t (Modify k v c) cs a = by_sent a.steady.0 where
 known_in t (Delete k v) cs a = (a.steady.0.entry, a.steady.0.there)
 
 module _ (f : Key → Key) where
-  new_moved : (t : TableValue) (c : Change) (p : ℤ) → IsNewTo t c p → IsNewTo t (moved_change f c) p
+  pub new_moved : (t : TableValue) (c : Change) (p : ℤ) → IsNewTo t c p → IsNewTo t (moved_change f c) p
   new_moved t (Create k c) p h = h
   new_moved t (Modify k v c) p h = h
   new_moved t (Delete k v) p h = h
 
-  within_moved : (c : Change) (p : ℤ) → IsWithin c p → IsWithin (moved_change f c) p
+  pub within_moved : (c : Change) (p : ℤ) → IsWithin c p → IsWithin (moved_change f c) p
   within_moved (Create k c) p h = h
   within_moved (Modify k v c) p h = h
   within_moved (Delete k v) p h = h
 
-given_to : (c : Change) (p : ℤ) → IsWithin c p → IsGivenTo c p
+pub given_to : (c : Change) (p : ℤ) → IsWithin c p → IsGivenTo c p
 given_to (Create k c) p h = positive_is p h
 given_to (Modify k v c) p h = tt
 given_to (Delete k v) p h = tt
@@ -240,12 +240,10 @@ steadily (c ∷ cs) ds ns t ps a named new within =
     new.1 within.1
 
 -- A confirmed table is sound.
+pub start_steady : (t : TableValue) → IsSound t → upload_refusal t ≡ None → IsSteady t (map (moved_change (called [])) (plan t))
+start_steady t is clear = let ok = is_clear t clear in record { sound = is; settled = ok.no_conflict; steady = subst (AreSteady t []) (sym (changes_stay (plan t))) (plan_steady t is ok) }
+
 pub confirmed_sound : (t : TableValue) (cs ds : List Change) (ps : List ℤ) → IsSound t → upload_refusal t ≡ None → plan t ≡ cs ++ ds → AreNew t cs ps → AreWithin cs ps → IsSound (confirmed_all t cs ps)
 confirmed_sound t cs ds ps is clear whole new within =
-    let ok = is_clear t clear in
-    let start : IsSteady t (map (moved_change (called [])) (cs ++ ds)) = record {
-      sound = is;
-      settled = ok.no_conflict;
-      steady = subst (AreSteady t []) (whole ∙ sym (changes_stay (cs ++ ds))) (plan_steady t is ok);
-    } in
+    let start = subst (λ (xs : List Change). IsSteady t (map (moved_change (called [])) xs)) whole (start_steady t is clear) in
     steadily cs ds [] t ps start (none_named t) new within

@@ -9,8 +9,12 @@ use Rattle.upload_order.specs.Rename.{Names, called, with_id}
 use Rattle.placeholder.specs.declared.answer.Answer.{Answer}
 use Rattle.placeholder.specs.declared.answer.Answer.TheVariants as answer
 use Rattle.placeholder.specs.declared.fault.ConfirmFault.{ConfirmFault}
-use Rattle.placeholder.specs.declared.fault.ConfirmFault.TheVariants.{WrongAnswer, IdTaken, Memory}
+use Rattle.placeholder.specs.declared.fault.ConfirmFault.TheVariants.{Plan, WrongAnswer, IdTaken, Memory}
+use Rattle.dataset.specs.Diff.{diff}
 use Rattle.dataset.specs.Draft.{DraftValue, drafted}
+use Rattle.dataset.specs.Patch.{PatchValue}
+use Rattle.upload_order.specs.declared.refusal.PlanRefusal.{PlanRefusal}
+use Rattle.upload_order.specs.Refused.{upload}
 use Rattle.placeholder.specs.Confirmed.{confirmed, moved_change, named_by}
 
 -- 1 to 10^18
@@ -89,4 +93,22 @@ abbrev pub Drafts : TableValue → Result DraftValue ConfirmFault → Result Tab
 Drafts t (Ok d) answer = answer ≡ Ok (drafted d t)
 Drafts t (Err Memory) answer = Unit {0}
 Drafts t (Err fault) answer = answer ≡ Err fault
+
+abbrev pub patch_to : TableValue → Result TableValue ConfirmFault → Result PatchValue ConfirmFault
+patch_to t (Ok u) = Ok (diff t u)
+patch_to t (Err fault) = Err fault
+
+abbrev pub on_upload : TableValue → List Answer → Result (List Change) PlanRefusal → Result PatchValue ConfirmFault
+on_upload t answers (Ok changes) = patch_to t (confirms t changes answers)
+on_upload t answers (Err refusal) = Err (Plan refusal)
+
+-- The difference to the confirmed table, or why there is none.
+abbrev pub confirm : TableValue → List Answer → Result PatchValue ConfirmFault
+confirm t answers = on_upload t answers (upload t)
+
+-- what is answered, where memory is found
+abbrev pub Confirms : Result PatchValue ConfirmFault → Result PatchValue ConfirmFault → Type 0
+Confirms (Ok patch) answer = answer ≡ Ok patch
+Confirms (Err Memory) answer = Unit {0}
+Confirms (Err fault) answer = answer ≡ Err fault
 

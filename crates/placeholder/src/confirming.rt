@@ -1,17 +1,20 @@
 //! The confirmed table, or why answers are not taken.
-ghost use Rattle.std.specs.Prelude.{◌≡◌, ◌<◌, true, IfOk};
+ghost use Rattle.std.specs.Prelude.{◌≡◌, slice_get, IfOk, Ok};
 ghost use Rattle.osm_table.specs.Table.{entry_of};
 ghost use Rattle.dataset.specs.Draft.{drafted};
+ghost use Rattle.dataset.specs.Patch.{StandsBefore, after_of};
+ghost use Rattle.dataset.specs.Sound.{IsSound};
+ghost use Rattle.upload_order.specs.Refused.{upload};
 ghost use Rattle.std.specs.Option.{option_copied};
-ghost use Rattle.placeholder.specs.Confirm.{Drafts, is_taken, key_given, taken_at};
+ghost use Rattle.placeholder.specs.Confirm.{Confirms, Drafts, confirm, confirms, is_taken, key_given, taken_at};
 ghost use Rattle.placeholder.specs.Drafting.{answered_by, drafts_from};
 
 use crate::answer::{Answer, is_answer};
 use crate::drafting::answered_by;
 use crate::fault::ConfirmFault;
-use dataset::{DataSet, Draft};
+use dataset::{DataSet, Draft, Patch};
 use osm_base::Key;
-use upload_order::Change;
+use upload_order::{Change, PlanRefusal, plan};
 
 fn key_given(answer: Answer) -> Key
     ensures { result ≡ key_given answer }
@@ -59,6 +62,12 @@ fn take(
     Ok(draft)
 }
 
+fn change_at(changes: &[Change], at: usize) -> Option<&Change>
+    ensures { option_copied result ≡ slice_get changes.now at }
+{
+    changes.get(at)
+}
+
 /// The draft of the confirmed table.
 fn drafted(
     ds: &DataSet,
@@ -71,8 +80,47 @@ fn drafted(
     let mut at = 0;
     for answer in answers {
         let number = at as u64 + 1;
-        draft = take(draft, ds, changes.get(at), *answer, number)?;
+        draft = match take(draft, ds, change_at(changes, at), *answer, number) {
+            Ok(draft) => draft,
+            Err(fault) => return Err(fault),
+        };
         at += 1;
     }
     Ok(draft)
+}
+
+/// The draft of the confirmed table, for the changes of the plan.
+fn confirmed(
+    ds: &DataSet,
+    changes: &[Change],
+    answers: &[Answer],
+) -> Result<Draft, ConfirmFault>
+    requires { upload ds.now ≡ Ok changes.now }
+    ensures draft { Drafts ds.now result (confirms ds.now changes.now answers.now) }
+    ensures sound { IfOk result (λ d. IsSound (drafted d ds.now)) }
+{
+    ds.sound();
+    drafted(ds, changes, answers)
+}
+
+/// The difference to the confirmed table: what a server's answers to the first changes of the plan make of the table. Costs a
+/// plan, and of each object that was made its users with their references.
+///
+/// # Errors
+/// The plan is refused, or an answer isn't one to its change, or gives an id that is taken; or no memory was left.
+pub fn confirm(ds: &DataSet, answers: &[Answer]) -> Result<Patch, ConfirmFault>
+    // It is the difference by the definition, or the fault.
+    ensures value { Confirms result (confirm ds.now answers.now) }
+    // It leads to a sound table.
+    ensures stands { IfOk result (λ patch. StandsBefore patch ds.now) }
+    ensures sound { IfOk result (λ patch. IsSound (after_of patch ds.now)) }
+{
+    let changes = match plan(ds) {
+        Ok(changes) => changes,
+        Err(PlanRefusal::Memory) => return Err(ConfirmFault::Memory),
+        Err(refusal) => return Err(ConfirmFault::Plan { refusal }),
+    };
+    let draft = confirmed(ds, changes.as_slice(), answers)?;
+    let patch = ds.patch_of(&draft)?;
+    Ok(patch)
 }

@@ -13,7 +13,7 @@ mod fault;
 mod laws;
 mod renaming;
 
-pub use answer::{Answer, is_answer};
+pub use answer::Answer;
+pub use confirming::confirm;
 pub use fault::ConfirmFault;
-pub use renaming::{renamed, with_mine};
 pub use laws::{confirmed_by_key, confirmed_is_sound, plan_is_resumed, plan_is_resumed_after};
