@@ -1,5 +1,5 @@
 -- What is drafted of answers is the confirmed table, and that is sound.
-use Rattle.std.proofs.Common.{◌≡◌, ℕ, ◌+◌, ◌==◌, ◌≤◌, ℤ, pos, negsuc, ◌&&◌, nat_lt, nat_le, Bool, true, false, cond, is_some, List, [], ◌∷◌, ◌++◌, map, Option, Some, None, Result, Ok, Err, IfOk, refl, sym, ◌∙◌, ap, subst, inl, inr, arith, eqb-true}
+use Rattle.std.proofs.Common.{◌≡◌, ℕ, ◌+◌, ◌==◌, ◌≤◌, ℤ, pos, negsuc, nat_lt, nat_le, Bool, true, false, cond, is_some, List, [], ◌∷◌, map, Option, Some, None, Result, Ok, Err, IfOk, refl, sym, ◌∙◌, ap, subst, inl, inr, arith, eqb-true}
 use Rattle.std.proofs.lemmas.Bool.{ltb-true, leb-true}
 use Rattle.osm_base.specs.Rank.{is_key}
 use Rattle.std.specs.Option.{option_map, option_map_or}
@@ -28,6 +28,7 @@ use Rattle.osm_table.specs.declared.entry.Base.TheVariants.{Live, Gone}
 use Rattle.osm_table.specs.declared.entry.Entry.{Entry}
 use Rattle.osm_table.specs.Table.{TableValue, entry_of, with_entry, mine_of, users, uses, IsPositive}
 use Rattle.dataset.specs.Exact.{mine_at}
+use Rattle.dataset.specs.Draft.{DraftValue, drafted}
 use Rattle.dataset.specs.Sound.{IsSound}
 use Rattle.upload_order.specs.declared.change.Change.{Change}
 use Rattle.upload_order.specs.declared.change.Change.TheVariants.{Create, Modify, Delete}
@@ -39,7 +40,7 @@ use Rattle.placeholder.specs.declared.answer.Answer.TheVariants as answer
 use Rattle.placeholder.specs.declared.fault.ConfirmFault.{ConfirmFault}
 use Rattle.placeholder.specs.declared.fault.ConfirmFault.TheVariants.{WrongAnswer, IdTaken}
 use Rattle.placeholder.specs.Answers.{IsWithin, IsNewTo}
-use Rattle.placeholder.specs.Confirm.{is_given, is_next, is_answer, is_taken, id_told, key_given, taken_by, and_then, confirms_from}
+use Rattle.placeholder.specs.Confirm.{is_given, is_next, is_answer, is_taken, id_told, key_given, Drafts, and_then, confirms_from}
 use Rattle.placeholder.specs.Confirmed.{moved, moved_entry, moved_change, named_by, based_on, confirmed}
 use Rattle.placeholder.specs.Drafting.{answered_by, sent_content, made_from, drafts_from}
 
@@ -130,19 +131,19 @@ users_again t u (Create k c) cs p a new within from =
     let f = moved k p in
     λ j r g h x n. created.cases_u k p neg u a.sound a.settled first.entry c first.there first.mine within new (UsersAt t)
     (λ j g away apart h r x n.
-      let d = used_ref (mine_of (moved_entry f g)) r x in
-      let b = some_of f (mine_of g) d.0 (sym (moved_mine f g) ∙ d.1) in
-      let s = renamed_from ((k, p) ∷ []) b.0 r (subst (λ (y : Content). refers y r ≡ true) (sym b.2) d.2) in
-      elim (decide (is_key s.0 k)) [
-        | inl i ↦ true_false (is_positive r.id) (ap (λ (y : Key). is_positive y.id) (sym s.2 ∙ created.f_here k p neg s.0 i) ∙ positive_is p within) n
-        | inr i ↦ (
-            let one : s.0 ≡ r = sym (created.f_other k p neg s.0 i) ∙ s.2 in
-            from j r g h (ap (λ o. option_map_or (λ c. refers c r) o false) b.1 ∙ subst (λ (y : Key). refers b.0 y ≡ true) one s.1) n)
-      ])
+    let d = used_ref (mine_of (moved_entry f g)) r x in
+    let b = some_of f (mine_of g) d.0 (sym (moved_mine f g) ∙ d.1) in
+    let s = renamed_from ((k, p) ∷ []) b.0 r (subst (λ (y : Content). refers y r ≡ true) (sym b.2) d.2) in
+    elim (decide (is_key s.0 k)) [
+      | inl i ↦ true_false (is_positive r.id) (ap (λ (y : Key). is_positive y.id) (sym s.2 ∙ created.f_here k p neg s.0 i) ∙ positive_is p within) n
+      | inr i ↦ (
+          let one : s.0 ≡ r = sym (created.f_other k p neg s.0 i) ∙ s.2 in
+          from j r g h (ap (λ o. option_map_or (λ c. refers c r) o false) b.1 ∙ subst (λ (y : Key). refers b.0 y ≡ true) one s.1) n)
+    ])
     (λ r x n.
-      let s = renamed_from ((k, p) ∷ []) c r x in
-      let pos = positive_is s.0.id (served c a.steady.2 s.0 s.1) in
-      true_false (is_positive r.id) (ap (λ (y : Key). is_positive y.id) (sym s.2 ∙ called_self ((k, p) ∷ []) s.0 pos) ∙ pos) n)
+    let s = renamed_from ((k, p) ∷ []) c r x in
+    let pos = positive_is s.0.id (served c a.steady.2 s.0 s.1) in
+    true_false (is_positive r.id) (ap (λ (y : Key). is_positive y.id) (sym s.2 ∙ called_self ((k, p) ∷ []) s.0 pos) ∙ pos) n)
     j g h r x n
 users_again t u (Modify k v c) cs p a new within from = let e = known_in u (Modify k v c) cs a in users_set t u k e.0 (Live (v + 1) c empty_meta) e.1 from
 users_again t u (Delete k v) cs p a new within from = let e = known_in u (Delete k v) cs a in users_set t u k e.0 (Gone (v + 1) empty_meta) e.1 from
@@ -197,7 +198,7 @@ drafts_same t (a ∷ more) (c ∷ cs) n ns u kept =
     let w = confirmed u (moved_change g c) (id_told a) in
     step_same (is_answer c a) (is_taken u a) (IdTaken (key_given a)) (WrongAnswer n) (answered_by t u a) w (λ v. drafts_from t (n + 1) v cs more) (λ v. confirms_from (n + 1) (named_by c (id_told a) ns) v cs more)
     (λ h f. ap (λ v. drafts_from t (n + 1) v cs more) (draft_one t u (moved_change g c) (map (moved_change g) cs) a kept.steady kept.from (answer_moved g c a ∙ h))
-      ∙ drafts_same t more cs (n + 1) (named_by c (id_told a) ns) w (kept_again t ns u c cs a kept h f))
+    ∙ drafts_same t more cs (n + 1) (named_by c (id_told a) ns) w (kept_again t ns u c cs a kept h f))
 
 -- And it is sound.
 pub confirms_sound : (t : TableValue) (answers : List Answer) (cs : List Change) (n : ℕ) (ns : Names) (u : TableValue) → IsKept t ns u cs → IfOk (confirms_from n ns u cs answers) IsSound
@@ -211,3 +212,8 @@ confirms_sound t (a ∷ more) (c ∷ cs) n ns u kept =
 
 pub start_kept : (t : TableValue) → IsSound t → upload_refusal t ≡ None → IsKept t [] t (plan t)
 start_kept t is clear = record { steady = start_steady t is clear; named = none_named t; from = own_users t }
+
+-- so is what is drafted
+pub drafted_sound : (t : TableValue) (r : Result DraftValue ConfirmFault) (x : Result TableValue ConfirmFault) → Drafts t r x → IfOk x IsSound → IfOk r (λ d. IsSound (drafted d t))
+drafted_sound t (Ok d) x h s = subst (λ y. IfOk y IsSound) h s
+drafted_sound t (Err f) x h s = tt

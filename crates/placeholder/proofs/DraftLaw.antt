@@ -1,5 +1,5 @@
 -- A draft that renames only the users in the table before all answers makes the confirmed table.
-use Rattle.std.proofs.Common.{◌≡◌, ℕ, ◌+◌, ℤ, ◌||◌, Bool, true, false, cond, List, [], ◌∷◌, map, Option, Some, None, refl, sym, ◌∙◌, ap, subst, inl, inr}
+use Rattle.std.proofs.Common.{◌≡◌, ℤ, ◌||◌, Bool, true, false, cond, List, [], ◌∷◌, Option, Some, None, refl, sym, ◌∙◌, ap, inl, inr}
 use Rattle.std.specs.Prelude.{T}
 use Rattle.std.specs.Option.{option_map, option_map_or}
 use Rattle.std.specs.FinMap as fin
@@ -7,19 +7,17 @@ use Rattle.osm_base.specs.Rank.{is_key}
 use Rattle.osm_base.specs.RankLaws.{rank_total}
 use Rattle.osm_base.specs.RisingKeys.{rises, is_in}
 use Rattle.osm_base.specs.Content.{refers}
-use Rattle.osm_base.specs.Meta.{empty_meta}
 use Rattle.osm_base.specs.declared.key.Key.{Key}
 use Rattle.osm_base.specs.declared.content.Content.{Content}
 use Rattle.osm_base.proofs.RisingKeys.{one_key}
 use Rattle.osm_table.specs.declared.entry.Base.TheVariants.{New, Live, Gone}
 use Rattle.osm_table.specs.declared.entry.Entry.{Entry}
 use Rattle.osm_table.specs.declared.entry.Entry.TheVariants.{Incomplete, Known}
-use Rattle.osm_table.specs.Table.{TableValue, entry_of, with_entry, without_entry, mine_of, users, uses}
+use Rattle.osm_table.specs.Table.{TableValue, entry_of, without_entry, mine_of, users, uses}
 use Rattle.osm_table.proofs.Each.{get_with, same_table}
 use Rattle.dataset.specs.Exact.{mine_at}
 use Rattle.dataset.proofs.Listed.{user_uses, rises_users}
-use Rattle.upload_order.specs.declared.change.Change.{Change}
-use Rattle.upload_order.specs.declared.change.Change.TheVariants.{Create, Modify, Delete}
+use Rattle.upload_order.specs.declared.change.Change.TheVariants.{Create}
 use Rattle.upload_order.specs.Kinds.{held_of}
 use Rattle.upload_order.specs.Refused.{is_open}
 use Rattle.upload_order.specs.Rename.{with_id, renamed, is_positive}
@@ -56,14 +54,15 @@ module _ (f : Key → Key) where
   all_at (x ∷ xs) u j r =
       all_at xs (mine_moved_at f u x (entry_of u x)) j (rises_tail x xs r)
       ∙ by_key (is_key j x) (is_in j xs) refl refl where
-    here : entry_of (mine_moved_at f u x (entry_of u x)) j ≡ cond (is_key j x) (option_map (with_mine f) (entry_of u x)) (entry_of u j)
-    here = one_at u x (entry_of u x) refl j
-    by_key : (b c : Bool) → is_key j x ≡ b → is_in j xs ≡ c
-        → cond c (option_map (with_mine f) (entry_of (mine_moved_at f u x (entry_of u x)) j)) (entry_of (mine_moved_at f u x (entry_of u x)) j) ≡ cond (b || c) (option_map (with_mine f) (entry_of u j)) (entry_of u j)
-    by_key true true i l = true_false (is_in j xs) l (ap (λ (y : Key). is_in y xs) (one_key j x i) ∙ head_once x xs r)
-    by_key true false i l = here ∙ ap (λ b. cond b (option_map (with_mine f) (entry_of u x)) (entry_of u j)) i ∙ ap (λ (y : Key). option_map (with_mine f) (entry_of u y)) (sym (one_key j x i))
-    by_key false true i l = ap (option_map (with_mine f)) (here ∙ ap (λ b. cond b (option_map (with_mine f) (entry_of u x)) (entry_of u j)) i)
-    by_key false false i l = here ∙ ap (λ b. cond b (option_map (with_mine f) (entry_of u x)) (entry_of u j)) i
+        here : entry_of (mine_moved_at f u x (entry_of u x)) j ≡ cond (is_key j x) (option_map (with_mine f) (entry_of u x)) (entry_of u j)
+        here = one_at u x (entry_of u x) refl j
+
+        by_key : (b c : Bool) → is_key j x ≡ b → is_in j xs ≡ c
+            → cond c (option_map (with_mine f) (entry_of (mine_moved_at f u x (entry_of u x)) j)) (entry_of (mine_moved_at f u x (entry_of u x)) j) ≡ cond (b || c) (option_map (with_mine f) (entry_of u j)) (entry_of u j)
+        by_key true true i l = true_false (is_in j xs) l (ap (λ (y : Key). is_in y xs) (one_key j x i) ∙ head_once x xs r)
+        by_key true false i l = here ∙ ap (λ b. cond b (option_map (with_mine f) (entry_of u x)) (entry_of u j)) i ∙ ap (λ (y : Key). option_map (with_mine f) (entry_of u y)) (sym (one_key j x i))
+        by_key false true i l = ap (option_map (with_mine f)) (here ∙ ap (λ b. cond b (option_map (with_mine f) (entry_of u x)) (entry_of u j)) i)
+        by_key false false i l = here ∙ ap (λ b. cond b (option_map (with_mine f) (entry_of u x)) (entry_of u j)) i
 
 -- who refers to a placeholder did so before all answers
 abbrev pub AreUsersOf : TableValue → TableValue → Type 0
@@ -94,6 +93,7 @@ module _ (t u : TableValue) (k : Key) (p : ℤ) (c : Content) (negative : is_pos
   at_entry j (Some e) h = by_user (is_in j (users t k)) refl where
     same : with_mine f e ≡ moved_entry f e
     same = with_mine_is f e (settled j e h) (λ b m. held j e b h m)
+
     by_user : (b : Bool) → is_in j (users t k) ≡ b → cond b (Some (with_mine f e)) (Some e) ≡ Some (moved_entry f e)
     by_user true i = ap (λ (x : Entry). Some x) same
     by_user false i =
@@ -104,14 +104,14 @@ module _ (t u : TableValue) (k : Key) (p : ℤ) (c : Content) (negative : is_pos
   drafted_made =
       ap (made_from u k p (users t k)) mine
       ∙ same_table (made_from u k p (users t k) (Some c)) (confirmed u (Create k c) p) (λ j.
-        get_with (without_entry (all_moved f u (users t k)) k) (with_id k p) (made_entry (renamed f c)) j
-        ∙ ap (λ (o : Option Entry). cond (is_key j (with_id k p)) (Some (made_entry (renamed f c))) o)
-        (fin.get-remove rank_total (all_moved f u (users t k)).entries k j
-        ∙ ap (λ (o : Option Entry). cond (is_key j k) None o) (all_at f (users t k) u j (rises_of t k) ∙ at_entry j (entry_of u j) refl))
-        ∙ sym (made_at u k c p j)) (next_same (users t k) u) where
-    next_same : (us : List Key) (v : TableValue) → (all_moved f v us).next ≡ v.next
-    next_same [] v = refl
-    next_same (x ∷ xs) v = next_same xs (mine_moved_at f v x (entry_of v x)) ∙ one_next (entry_of v x) where
-      one_next : (o : Option Entry) → (mine_moved_at f v x o).next ≡ v.next
-      one_next None = refl
-      one_next (Some e) = refl
+      get_with (without_entry (all_moved f u (users t k)) k) (with_id k p) (made_entry (renamed f c)) j
+      ∙ ap (λ (o : Option Entry). cond (is_key j (with_id k p)) (Some (made_entry (renamed f c))) o)
+      (fin.get-remove rank_total (all_moved f u (users t k)).entries k j
+      ∙ ap (λ (o : Option Entry). cond (is_key j k) None o) (all_at f (users t k) u j (rises_of t k) ∙ at_entry j (entry_of u j) refl))
+      ∙ sym (made_at u k c p j)) (next_same (users t k) u) where
+        next_same : (us : List Key) (v : TableValue) → (all_moved f v us).next ≡ v.next
+        next_same [] v = refl
+        next_same (x ∷ xs) v = next_same xs (mine_moved_at f v x (entry_of v x)) ∙ one_next (entry_of v x) where
+          one_next : (o : Option Entry) → (mine_moved_at f v x o).next ≡ v.next
+          one_next None = refl
+          one_next (Some e) = refl

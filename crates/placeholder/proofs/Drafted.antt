@@ -1,5 +1,5 @@
 -- What is drafted where an answer isn't taken.
-use Rattle.std.proofs.Common.{◌≡◌, ℕ, zero, suc, ◌+◌, ◌<◌, drop, get_or, length, List, [], ◌∷◌, Option, None, Some, Result, Ok, Err, refl, sym, ◌∙◌, ap, subst, arith}
+use Rattle.std.proofs.Common.{◌≡◌, ℕ, zero, suc, ◌+◌, ◌<◌, drop, get_or, length, List, [], ◌∷◌, Option, Result, Ok, Err, refl, sym, ◌∙◌, ap, subst, arith}
 use Rattle.std.specs.List.{slice_get}
 use Rattle.std.proofs.Math.Seq.{drop-cons}
 use Rattle.std.specs.FinMap as fin
@@ -39,7 +39,7 @@ draft_goes t old new n cs answers i d w lt whole taken =
     (λ k. drafts_from t (n + 1) (drafted new t) (drop (one k) cs) (drop (one k) answers))
     ∙ ap (λ (xs : List Change). drafts_from t (n + 1) (drafted new t) xs (drop (suc i) answers)) (sym (others_at cs i))
     ∙ sym (ap (λ x. and_then x (λ v. drafts_from t (n + 1) v (other_changes (drop i cs)) (drop (suc i) answers)))
-      (ap (λ o. taken_at n (drafted old t) o (get_or answers i d) (answered_by t (drafted old t) (get_or answers i d))) (first_at cs i) ∙ taken))
+    (ap (λ o. taken_at n (drafted old t) o (get_or answers i d) (answered_by t (drafted old t) (get_or answers i d))) (first_at cs i) ∙ taken))
     ∙ sym (ap (drafts_from t n (drafted old t) (drop i cs)) (drop-cons answers i d lt))
     ∙ whole
 
@@ -59,4 +59,4 @@ fault_goes t old n cs answers i d w f lt whole h =
     let a = get_or answers i d in
     subst (Drafts t (Err f)) (sym (ap (drafts_from t n u (drop i cs)) (drop-cons answers i d lt)) ∙ whole)
     (fault_stays t f (taken_at n u (first_change (drop i cs)) a (answered_by t u a)) (λ v. drafts_from t (n + 1) v (other_changes (drop i cs)) (drop (suc i) answers))
-      (subst (λ (o : Option Change). Drafts t (Err f) (taken_at n u o a (answered_by t u a))) (sym (first_at cs i)) h))
+    (subst (λ (o : Option Change). Drafts t (Err f) (taken_at n u o a (answered_by t u a))) (sym (first_at cs i)) h))

@@ -1,5 +1,5 @@
 -- What becomes of a table with answers, or why they are not taken.
-use Rattle.std.specs.Prelude.{◌≡◌, ◌+◌, ◌==◌, ◌&&◌, ℕ, ℤ, pos, negsuc, Bool, true, false, is_some, if◌then◌else◌, nat_lt, nat_le, Option, Some, None, Result, Ok, Err, List, [], ◌∷◌}
+use Rattle.std.specs.Prelude.{◌≡◌, ◌+◌, ◌==◌, ◌&&◌, ℕ, ℤ, pos, negsuc, Bool, false, is_some, if◌then◌else◌, nat_lt, nat_le, Option, Some, None, Result, Ok, Err, List, [], ◌∷◌}
 use Rattle.osm_base.specs.Rank.{is_key}
 use Rattle.osm_base.specs.declared.key.Key.{Key}
 use Rattle.osm_table.specs.Table.{TableValue, entry_of}
@@ -111,4 +111,3 @@ abbrev pub Confirms : Result PatchValue ConfirmFault → Result PatchValue Confi
 Confirms (Ok patch) answer = answer ≡ Ok patch
 Confirms (Err Memory) answer = Unit {0}
 Confirms (Err fault) answer = answer ≡ Err fault
-

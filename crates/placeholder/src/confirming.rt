@@ -69,11 +69,7 @@ fn change_at(changes: &[Change], at: usize) -> Option<&Change>
 }
 
 /// The draft of the confirmed table.
-fn drafted(
-    ds: &DataSet,
-    changes: &[Change],
-    answers: &[Answer],
-) -> Result<Draft, ConfirmFault>
+fn drafted(ds: &DataSet, changes: &[Change], answers: &[Answer]) -> Result<Draft, ConfirmFault>
     ensures { Drafts ds.now result (drafts_from ds.now 1 ds.now changes.now answers.now) }
 {
     let mut draft = Draft::new(ds);
@@ -90,11 +86,7 @@ fn drafted(
 }
 
 /// The draft of the confirmed table, for the changes of the plan.
-fn confirmed(
-    ds: &DataSet,
-    changes: &[Change],
-    answers: &[Answer],
-) -> Result<Draft, ConfirmFault>
+fn confirmed(ds: &DataSet, changes: &[Change], answers: &[Answer]) -> Result<Draft, ConfirmFault>
     requires { upload ds.now ≡ Ok changes.now }
     ensures draft { Drafts ds.now result (confirms ds.now changes.now answers.now) }
     ensures sound { IfOk result (λ d. IsSound (drafted d ds.now)) }

@@ -78,12 +78,7 @@ fn mine_at(draft: &Draft, ds: &DataSet, key: Key) -> Result<Option<Content>, All
 }
 
 /// The draft after the object of a placeholder got its id.
-fn made(
-    draft: Draft,
-    ds: &DataSet,
-    placeholder: Key,
-    id: i64,
-) -> Result<Draft, AllocError>
+fn made(draft: Draft, ds: &DataSet, placeholder: Key, id: i64) -> Result<Draft, AllocError>
     ensures { IfOk result (λ d. drafted d ds.now ≡ made_from (drafted draft ds.now) placeholder id (users ds.now placeholder) (mine_at (entry_of (drafted draft ds.now) placeholder))) }
 {
     let alloc = ds.alloc();

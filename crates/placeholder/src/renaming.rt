@@ -98,12 +98,7 @@ pub fn renamed(
         }),
         Content::Relation { tags, members } => Ok(Content::Relation {
             tags: tags.copy()?,
-            members: Members::from_vec(moved_members(
-                alloc,
-                members.as_slice(),
-                placeholder,
-                id,
-            )?)?,
+            members: Members::from_vec(moved_members(alloc, members.as_slice(), placeholder, id)?)?,
         }),
     }
 }

@@ -17,10 +17,11 @@ loop-answer-preserved c =
     let at = c.loop-answer.invariant.0 in
     let a = get_or c.args.answers.now c.loop-answer.answer-index _ in
     let u = drafted c.loop-answer.draft t in
-    let taken = subst (λ r. Drafts t r (taken_at (c.loop-answer.at + 1) u (option_copied c.change_at.result) a (answered_by t u a))) c.in-Ok.is c.take.ensures in
-    (ap (λ n. n + 1) at,
+    let taken = subst (λ r. Drafts t r (taken_at (c.loop-answer.at + 1) u (option_copied c.change_at.result) a (answered_by t u a))) c.in-Ok.is c.take.ensures in (
+      ap (λ n. n + 1) at,
       draft_goes t c.loop-answer.draft c.in-Ok.draft (c.loop-answer.answer-index + 1) c.args.changes.now c.args.answers.now c.loop-answer.answer-index _ _ c.loop-answer-test.true c.loop-answer.invariant.1
-      ((λ i. taken_at (sym at i + 1) u (slice_get c.args.changes.now (sym at i)) a (answered_by t u a)) ∙ ap (λ o. taken_at (c.loop-answer.at + 1) u o a (answered_by t u a)) (sym c.change_at.ensures) ∙ taken))
+          ((λ i. taken_at (sym at i + 1) u (slice_get c.args.changes.now (sym at i)) a (answered_by t u a)) ∙ ap (λ o. taken_at (c.loop-answer.at + 1) u o a (answered_by t u a)) (sym c.change_at.ensures) ∙ taken),
+    )
 
 pub returns-in-Err : goal.returns-in-Err
 returns-in-Err c =

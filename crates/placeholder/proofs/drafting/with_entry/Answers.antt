@@ -1,4 +1,4 @@
-use Rattle.std.proofs.Common.{◌∙◌, ap, None, Some}
+use Rattle.std.proofs.Common.{◌∙◌, ap, Some}
 use Rattle.dataset.specs.Draft.{DraftValue, drafted}
 use Rattle.dataset.proofs.Changes.{drafted_put}
 use Rattle.placeholder.proofs.drafting.with_entry.Goals as goal

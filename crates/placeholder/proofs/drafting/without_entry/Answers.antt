@@ -1,4 +1,4 @@
-use Rattle.std.proofs.Common.{◌∙◌, ap, None, Some}
+use Rattle.std.proofs.Common.{◌∙◌, ap, None}
 use Rattle.dataset.specs.Draft.{DraftValue, drafted}
 use Rattle.dataset.proofs.Changes.{drafted_put}
 use Rattle.placeholder.proofs.drafting.without_entry.Goals as goal

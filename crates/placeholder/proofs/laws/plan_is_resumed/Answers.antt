@@ -1,5 +1,3 @@
-use Rattle.placeholder.proofs.ConfirmLaw.{drafts_same}
-use Rattle.placeholder.proofs.DraftLaw.{drafted_made}
 use Rattle.placeholder.proofs.Resumed.{ready_again, rest_again}
 use Rattle.placeholder.proofs.laws.plan_is_resumed.Goals as goal
 
