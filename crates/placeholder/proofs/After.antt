@@ -14,7 +14,7 @@ use Rattle.upload_order.specs.World.{World, Accepts, IsEdited, Refusal, IsFresh,
 use Rattle.upload_order.proofs.Accepted.{plan_accepted}
 use Rattle.upload_order.proofs.Basics.{decide}
 use Rattle.upload_order.proofs.Runs.{sound_backs, runs_through, accepts_front, fresh_first, fresh_rest, other_pick}
-use Rattle.placeholder.specs.Answers.{IsAnswer, IsWithin, AreAnswers}
+use Rattle.placeholder.specs.Answers.{IsNewTo, AreNew, AreNewFrom, IsAnswer, IsWithin, AreAnswers}
 use Rattle.placeholder.specs.Confirmed.{based_on, moved_change, named_by, confirmed, confirmed_from, confirmed_all, names_from, names_of}
 use Rattle.placeholder.specs.Resumed.{IsReady}
 use Rattle.placeholder.proofs.LookUps.{made_none, set_none}
@@ -72,9 +72,10 @@ joined : (f : Change → Change) (xs ys : List Change) → map f (xs ++ ys) ≡ 
 joined f [] ys = refl
 joined f (x ∷ xs) ys = ap (λ (zs : List Change). f x ∷ zs) (joined f xs ys)
 
--- what the table is after the answers
-abbrev IsThrough : World → TableValue → List Change → Type 0
-IsThrough v u ds = IsReady v u × (plan u ≡ ds)
+new_to : (w : World) (t : TableValue) (c : Change) (p : ℤ) → IsFresh w t c p → IsNewTo t c p
+new_to w t (Create k c) p h = h.2
+new_to w t (Modify k v c) p h = tt
+new_to w t (Delete k v) p h = tt
 
 positive_pick : (w : World) (t : TableValue) (c : Change) (p : ℤ) → IsFresh w t c p → IsGivenTo c p
 positive_pick w t (Create k c) p h = h.0
@@ -82,8 +83,8 @@ positive_pick w t (Modify k v c) p h = tt
 positive_pick w t (Delete k v) p h = tt
 
 through : (v : World) (cs ds : List Change) (ns : Names) (n : ℕ) (w : World) (t : TableValue) (ps : List ℤ) → IsReady w t → AreNamed ns t → AreAmong ns w.names → plan t ≡ map (moved_change (called ns)) (cs ++ ds) → AreAnswers w t cs ps → run_from n w cs ps ≡ Ended v
-    → IsThrough v (confirmed_from ns t cs ps) (map (moved_change (called (names_from ns cs ps))) ds)
-through v [] ds ns n w t ps ready a m whole answers run = (subst (λ (x : World). IsReady x t) (ap (world_of w) run) ready, whole)
+    → AreNewFrom ns t cs ps × IsReady v (confirmed_from ns t cs ps) × (plan (confirmed_from ns t cs ps) ≡ map (moved_change (called (names_from ns cs ps))) ds)
+through v [] ds ns n w t ps ready a m whole answers run = (tt, subst (λ (x : World). IsReady x t) (ap (world_of w) run) ready, whole)
 through v (c ∷ cs) ds ns n w t ps ready a m whole answers run =
     let p = pick_for c ps in
     let f = called ns in
@@ -93,16 +94,18 @@ through v (c ∷ cs) ds ns n w t ps ready a m whole answers run =
     let known = known_moved f t c (first_known t w ready p (moved_change f c) (map (moved_change f) (cs ++ ds)) whole) in
     let same = after_same w ns a.given m c p in
     let later = fresh_rest w t c cs ps step.0 answers.0 in
+    let more =
     through v cs ds (named_by c p ns) (n + 1) (after w c p) (confirmed t (moved_change f c) p) (picks_left c ps)
     (subst (λ (x : World). IsReady x (confirmed t (moved_change f c) p)) same (ready_again w t (moved_change f c) (map (moved_change f) (cs ++ ds)) p ready whole answer))
     (named_again f ns t c p a known (positive_pick w t c p fresh))
     (among_again ns w c p m)
     (rest_again w t (moved_change f c) (map (moved_change f) (cs ++ ds)) p ready whole answer ∙ left_again ns t c p (cs ++ ds) a known)
     (fresh_confirmed f w (after w c p) t c cs ps known answers.0 later, answers.1.1)
-    step.1
+    step.1 in
+    ((new_to w t c p fresh, more.0), more.1, more.2)
 
 pub after_all : (w v : World) (t : TableValue) (cs ds : List Change) (ps : List ℤ) → IsReady w t → plan t ≡ cs ++ ds → AreAnswers w t cs ps → run_from 1 w cs ps ≡ Ended v
-    → IsReady v (confirmed_all t cs ps) × (plan (confirmed_all t cs ps) ≡ map (moved_change (called (names_of cs ps))) ds)
+    → AreNew t cs ps × IsReady v (confirmed_all t cs ps) × (plan (confirmed_all t cs ps) ≡ map (moved_change (called (names_of cs ps))) ds)
 after_all w v t cs ds ps ready whole answers run = through v cs ds [] 1 w t ps ready (none_named t) (λ r p h. cc) (whole ∙ sym (changes_stay (cs ++ ds))) answers run
 
 -- the server takes the first changes

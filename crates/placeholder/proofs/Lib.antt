@@ -14,6 +14,7 @@ pub mod Resumed
 pub mod Names
 pub mod LookUps
 pub mod Named
+pub mod Accepts
 pub mod After
 mod Examples
 pub mod Settled

@@ -6,6 +6,7 @@ use Rattle.osm_table.specs.Table.{TableValue, entry_of}
 use Rattle.upload_order.specs.declared.change.Change.{Change}
 use Rattle.upload_order.specs.declared.change.Change.TheVariants.{Create, Modify, Delete}
 use Rattle.upload_order.specs.Rename.{Names, called, with_id}
+use Rattle.upload_order.specs.Run.{pick_for, picks_left}
 use Rattle.placeholder.specs.declared.answer.Answer.{Answer}
 use Rattle.placeholder.specs.declared.answer.Answer.TheVariants as answer
 use Rattle.placeholder.specs.declared.fault.ConfirmFault.{ConfirmFault}
@@ -87,6 +88,17 @@ confirms_from n names u (c ∷ cs) (a ∷ more) =
 -- The confirmed table, or why the answers are not taken.
 abbrev pub confirms : TableValue → List Change → List Answer → Result TableValue ConfirmFault
 confirms t cs answers = confirms_from 1 [] t cs answers
+
+-- a server's answer to a change
+abbrev pub answer_of : Change → ℤ → Answer
+answer_of (Create k c) id = answer.Create k id
+answer_of (Modify k version c) id = answer.Modify k (version + 1)
+answer_of (Delete k version) id = answer.Delete k (version + 1)
+
+-- A server's answers to changes, with the ids that objects got that were made.
+abbrev pub answers_of : List Change → List ℤ → List Answer
+answers_of [] ids = []
+answers_of (c ∷ cs) ids = answer_of c (pick_for c ids) ∷ answers_of cs (picks_left c ids)
 
 -- what is drafted, where memory is found
 abbrev pub Drafts : TableValue → Result DraftValue ConfirmFault → Result TableValue ConfirmFault → Type 0
