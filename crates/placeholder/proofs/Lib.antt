@@ -1,0 +1,25 @@
+pub mod Clear
+pub mod Parts
+pub mod Whole
+pub mod Rest
+pub mod Alike
+pub mod Changed
+pub mod Cleared
+pub mod ClearedPlan
+pub mod Fallen
+pub mod RemovedPlan
+pub mod Moved
+pub mod Created
+pub mod Resumed
+pub mod Names
+pub mod LookUps
+pub mod Named
+pub mod Accepts
+pub mod After
+mod Examples
+pub mod Settled
+pub mod Steady
+pub mod Steadily
+pub mod DraftLaw
+pub mod Drafted
+pub mod ConfirmLaw

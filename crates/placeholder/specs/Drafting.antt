@@ -1,0 +1,62 @@
+-- How a draft takes an answer.
+use Rattle.std.specs.Prelude.{ℕ, ◌+◌, ℤ, List, [], ◌∷◌, Option, Some, None, Result, Ok}
+use Rattle.std.specs.Option.{option_map, unwrap_or}
+use Rattle.osm_base.specs.Content.{node}
+use Rattle.osm_base.specs.Meta.{empty_meta}
+use Rattle.osm_base.specs.declared.key.Key.{Key}
+use Rattle.osm_base.specs.declared.members.Member.{Member}
+use Rattle.osm_base.specs.declared.content.Content.{Content}
+use Rattle.osm_table.specs.declared.entry.Base.TheVariants.{Live, Gone}
+use Rattle.osm_table.specs.declared.entry.Entry.{Entry}
+use Rattle.osm_table.specs.declared.entry.Entry.TheVariants.{Incomplete, Known}
+use Rattle.osm_table.specs.Table.{TableValue, entry_of, with_entry, without_entry, users}
+use Rattle.dataset.specs.Exact.{mine_at}
+use Rattle.upload_order.specs.declared.change.Change.{Change}
+use Rattle.upload_order.specs.Plan.{empty_relation}
+use Rattle.upload_order.specs.Rename.{with_id, renamed}
+use Rattle.placeholder.specs.declared.answer.Answer.{Answer}
+use Rattle.placeholder.specs.declared.answer.Answer.TheVariants as answer
+use Rattle.placeholder.specs.declared.fault.ConfirmFault.{ConfirmFault}
+use Rattle.placeholder.specs.Confirm.{taken_at, and_then, first_change, other_changes}
+use Rattle.placeholder.specs.Confirmed.{moved, made_entry, based_on}
+
+-- a node of a way, where the placeholder's object got the id
+unfoldable pub moved_node : Key → ℤ → ℤ → ℤ
+moved_node placeholder id n = (moved placeholder id (node n)).id
+
+-- a member, where it did
+unfoldable pub moved_member : Key → ℤ → Member → Member
+moved_member placeholder id m = record { key = moved placeholder id m.key; role = m.role }
+
+-- an entry with other references in what the user has
+abbrev pub with_mine : (Key → Key) → Entry → Entry
+with_mine f Incomplete = Incomplete
+with_mine f (Known base mine conflict) = Known base (option_map (renamed f) mine) conflict
+
+abbrev pub mine_moved_at : (Key → Key) → TableValue → Key → Option Entry → TableValue
+mine_moved_at f t k None = t
+mine_moved_at f t k (Some e) = with_entry t k (with_mine f e)
+
+-- the same of each of some keys
+abbrev pub all_moved : (Key → Key) → TableValue → List Key → TableValue
+all_moved f t [] = t
+all_moved f t (k ∷ ks) = all_moved f (mine_moved_at f t k (entry_of t k)) ks
+
+abbrev pub made_from : TableValue → Key → ℤ → List Key → Option Content → TableValue
+made_from t k id us None = t
+made_from t k id us (Some c) = with_entry (without_entry (all_moved (moved k id) t us) k) (with_id k id) (made_entry (renamed (moved k id) c))
+
+-- what a Modify brought there
+abbrev pub sent_content : Option Content → Content
+sent_content mine = unwrap_or mine empty_relation
+
+-- The table u after one more answer, where t is the table before all: only the users in t of what was made are renamed.
+abbrev pub answered_by : TableValue → TableValue → Answer → TableValue
+answered_by t u (answer.Create placeholder id) = made_from u placeholder id (users t placeholder) (mine_at (entry_of u placeholder))
+answered_by t u (answer.Modify k version) = with_entry u k (based_on (Live version (sent_content (mine_at (entry_of u k))) empty_meta) (entry_of u k))
+answered_by t u (answer.Delete k version) = with_entry u k (based_on (Gone version empty_meta) (entry_of u k))
+
+-- one answer after the other; they are numbered from n
+abbrev pub drafts_from : TableValue → ℕ → TableValue → List Change → List Answer → Result TableValue ConfirmFault
+drafts_from t n u cs [] = Ok u
+drafts_from t n u cs (a ∷ more) = and_then (taken_at n u (first_change cs) a (answered_by t u a)) (λ v. drafts_from t (n + 1) v (other_changes cs) more)

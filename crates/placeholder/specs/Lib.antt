@@ -1,0 +1,5 @@
+pub mod Confirmed
+pub mod Answers
+pub mod Resumed
+pub mod Confirm
+pub mod Drafting

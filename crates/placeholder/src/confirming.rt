@@ -1,0 +1,140 @@
+//! The confirmed table, or why answers are not taken.
+ghost use Rattle.std.specs.Prelude.{◌≡◌, slice_get, IfOk, Ok};
+ghost use Rattle.osm_table.specs.Table.{entry_of};
+ghost use Rattle.dataset.specs.Draft.{drafted};
+ghost use Rattle.dataset.specs.Patch.{StandsBefore, after_of};
+ghost use Rattle.dataset.specs.Sound.{IsSound};
+ghost use Rattle.upload_order.specs.Refused.{upload};
+ghost use Rattle.std.specs.Option.{option_copied};
+ghost use Rattle.placeholder.specs.Confirm.{Confirms, Drafts, confirm, confirms, is_taken, key_given, taken_at};
+ghost use Rattle.placeholder.specs.Drafting.{answered_by, drafts_from};
+
+use crate::answer::{Answer, is_answer};
+use crate::drafting::answered_by;
+use crate::fault::ConfirmFault;
+use dataset::{DataSet, Draft, Patch};
+use osm_base::Key;
+use upload_order::{Change, PlanRefusal, plan};
+
+fn key_given(answer: Answer) -> Key
+    ensures { result ≡ key_given answer }
+{
+    match answer {
+        Answer::Create { placeholder, id } => Key {
+            kind: placeholder.kind,
+            id,
+        },
+        Answer::Modify { key, .. } => key,
+        Answer::Delete { key, .. } => key,
+    }
+}
+
+fn is_taken(draft: &Draft, ds: &DataSet, answer: Answer) -> bool
+    ensures { result ≡ is_taken (drafted draft.now ds.now) answer }
+{
+    match answer {
+        Answer::Create { .. } => draft.entry(ds, key_given(answer)).is_some(),
+        _ => false,
+    }
+}
+
+fn take(
+    draft: Draft,
+    ds: &DataSet,
+    change: Option<&Change>,
+    answer: Answer,
+    number: u64,
+) -> Result<Draft, ConfirmFault>
+    ensures { Drafts ds.now result (taken_at number (drafted draft ds.now) (option_copied change.entry) answer (answered_by ds.now (drafted draft ds.now) answer)) }
+{
+    let Some(change) = change else {
+        return Err(ConfirmFault::WrongAnswer { number });
+    };
+    if !is_answer(change, answer) {
+        return Err(ConfirmFault::WrongAnswer { number });
+    }
+    if is_taken(&draft, ds, answer) {
+        return Err(ConfirmFault::IdTaken {
+            key: key_given(answer),
+        });
+    }
+    let draft = answered_by(draft, ds, answer)?;
+    Ok(draft)
+}
+
+fn change_at(changes: &[Change], at: usize) -> Option<&Change>
+    ensures { option_copied result ≡ slice_get changes.now at }
+{
+    changes.get(at)
+}
+
+/// The draft of the confirmed table.
+fn drafted(ds: &DataSet, changes: &[Change], answers: &[Answer]) -> Result<Draft, ConfirmFault>
+    ensures { Drafts ds.now result (drafts_from ds.now 1 ds.now changes.now answers.now) }
+{
+    let mut draft = Draft::new(ds);
+    let mut at = 0;
+    for answer in answers {
+        let number = at as u64 + 1;
+        draft = match take(draft, ds, change_at(changes, at), *answer, number) {
+            Ok(draft) => draft,
+            Err(fault) => return Err(fault),
+        };
+        at += 1;
+    }
+    Ok(draft)
+}
+
+/// The draft of the confirmed table, for the changes of the plan.
+fn confirmed(ds: &DataSet, changes: &[Change], answers: &[Answer]) -> Result<Draft, ConfirmFault>
+    requires { upload ds.now ≡ Ok changes.now }
+    ensures draft { Drafts ds.now result (confirms ds.now changes.now answers.now) }
+    ensures sound { IfOk result (λ d. IsSound (drafted d ds.now)) }
+{
+    ds.sound();
+    drafted(ds, changes, answers)
+}
+
+/// The difference to the confirmed table: what a server's answers to the first changes of the plan make of the table. Costs a
+/// plan, and of each object that was made its users with their references.
+///
+/// # Errors
+/// The plan is refused, or an answer isn't one to its change, or gives an id that is taken; or no memory was left.
+pub fn confirm(ds: &DataSet, answers: &[Answer]) -> Result<Patch, ConfirmFault>
+    // It is the difference by the definition, or the fault.
+    ensures value { Confirms result (confirm ds.now answers.now) }
+    // It leads to a sound table.
+    ensures stands { IfOk result (λ patch. StandsBefore patch ds.now) }
+    ensures sound { IfOk result (λ patch. IsSound (after_of patch ds.now)) }
+{
+    let changes = match plan(ds) {
+        Ok(changes) => changes,
+        Err(PlanRefusal::Memory) => return Err(ConfirmFault::Memory),
+        Err(refusal) => return Err(ConfirmFault::Plan { refusal }),
+    };
+    let draft = confirmed(ds, changes.as_slice(), answers)?;
+    let patch = ds.patch_of(&draft)?;
+    Ok(patch)
+}
+
+#[cfg(test)]
+mod tests {
+    use super::*;
+    use std::alloc::AllocError;
+    use std::test::Fail;
+
+    // How many objects the answers to no change concern.
+    fn confirmed_edits(ds: &DataSet) -> Result<usize, AllocError> {
+        let Ok(patch) = confirm(ds, &[]) else {
+            return Err(AllocError);
+        };
+        Ok(patch.len())
+    }
+
+    #[test]
+    fn no_answers_change_nothing(rt: HostRuntime) -> Result<(), Fail> {
+        let ds = DataSet::new(rt.alloc());
+        assert_eq!(rt; confirmed_edits(&ds)?, 0);
+        Ok(())
+    }
+}
