@@ -27,12 +27,16 @@ from collections import namedtuple
 from decimal import Decimal
 
 LONGEST = 255  # characters of a key, a value or a role
+DIGITS = '0123456789'
 
 Reply = namedtuple('Reply', 'line word rest text')
 Reply.__doc__ = """The answer to a step: its line in the script, `ok`, `refused` or `skipped`, what stands behind, and the lines of text that follow."""
 
 Object = namedtuple('Object', 'key version deleted changeset time uid user tags lon lat nodes members')
 Object.__doc__ = """An object as `print` writes it: lon and lat are Decimals of a node, nodes are the keys of a way's nodes, members pairs of key and role."""
+
+Conflict = namedtuple('Conflict', 'key why base mine theirs')
+Conflict.__doc__ = """An object in conflict: why (`changed`, `held` or `withdrawn`), and its three sides as Objects."""
 
 
 class Stopped(Exception):
@@ -152,6 +156,28 @@ class Script:
         """The pieces' ids stand in the reply. No id is foretold behind it, since the number of pieces isn't known here."""
         self.step('split', key, ','.join(nodes))
 
+    def conflicts(self):
+        self._step('conflicts')
+
+    def resolve(self, key, side):
+        """A side is 'mine' or 'theirs'."""
+        self._step('resolve', key, side)
+
+    def resolve_mix(self, key, tags, body):
+        """The tags of one side, and the place, the nodes or the members of one."""
+        self._step('resolve', key, 'mix', tags, body)
+
+    def resolve_parts(self, key, body, keys):
+        """Joined part by part: of what both sides changed the tags with these keys are theirs, and the body is that of the side named."""
+        self._step('resolve', key, 'parts', body, 'K' + ','.join(map(quote, keys)))
+
+    def upload(self, size):
+        """In chunks of so many changes, 1 to 10,000."""
+        self._step('upload', str(size))
+
+    def rehearse(self):
+        self._step('rehearse')
+
     def begin(self):
         self._step('begin')
 
@@ -171,10 +197,11 @@ class Script:
 # ---- a run ----
 
 class Answer:
-    """What a session wrote: its replies in order."""
+    """What a session wrote: its replies in order, beside the script that it ran."""
 
-    def __init__(self, output):
+    def __init__(self, output, script):
         self.replies = []
+        self.steps = str(script).split('\n')
         for line in output.split('\n')[:-1]:
             found = re.match(r'([0-9]+) (ok|refused|skipped)(?: (.*))?$', line)
             if found:
@@ -182,22 +209,32 @@ class Answer:
             else:
                 self.replies[-1].text.append(line)
 
+    def step(self, reply):
+        """The step that was answered, as it stands in the script."""
+        return self.steps[reply.line - 1].rstrip('\r')
+
+    def _written(self, verb):
+        """The text behind the last step with this verb; none where it was refused or skipped, or where there is no such step."""
+        return next((reply.text for reply in reversed(self.replies) if re.split('[ \t]', self.step(reply))[0] == verb), [])
+
     def objects(self):
         """The objects of the last `print`, the deleted ones too; none where nothing was printed."""
-        for reply in reversed(self.replies):
-            found = [parse_object(line) for line in reply.text if line[0] in 'nwr']
-            if found:
-                return found
-        return []
+        return [parse_object(line) for line in self._written('print')]
 
     def counts(self):
         """The numbers of the last `count`, by their names."""
-        for reply in reversed(self.replies):
-            for line in reply.text:
-                if line.startswith('count '):
-                    words = line.split(' ')[1:]
-                    return dict(zip(words[::2], map(int, words[1::2])))
-        return {}
+        words = ' '.join(self._written('count')).split(' ')[1:]
+        return dict(zip(words[::2], map(int, words[1::2])))
+
+    def conflicts(self):
+        """What the last `conflicts` wrote, by rank."""
+        lines = self._written('conflicts')
+        return [Conflict(*lines[at].split(' ')[1:], *(parse_object(line.split(' ', 1)[1]) for line in lines[at + 1:at + 4]))
+                for at in range(0, len(lines), 4)]
+
+    def chunks(self):
+        """The chunks of the last `upload`: lists of pairs, the verb and the Object, which for `delete` has key and version alone."""
+        return parse_chunks(self._written('upload'))
 
 
 def run(script, program='yokeorange', folder='.', allow_refused=False):
@@ -212,11 +249,11 @@ def run(script, program='yokeorange', folder='.', allow_refused=False):
         done = subprocess.run([program, str(path)], cwd=folder, stdout=subprocess.PIPE, stderr=subprocess.PIPE)
     if done.returncode != 0:
         raise Stopped(done.returncode, done.stderr.decode('utf-8', 'replace').strip())
-    answer = Answer(done.stdout.decode('utf-8'))
+    answer = Answer(done.stdout.decode('utf-8'), text)
     if not allow_refused:
         for reply in answer.replies:
             if reply.word == 'refused':
-                raise Refused(reply, text.split('\n')[reply.line - 1])
+                raise Refused(reply, answer.step(reply))
     return answer
 
 
@@ -242,7 +279,7 @@ def read_objects(path):
     things, replied = {}, False
     with open(path, encoding='utf-8', newline='\n') as lines:
         for line in lines:
-            if line[0] not in 'nwr':
+            if not re.match('[nwr]-?[0-9]', line):
                 replied = True
                 continue
             if replied:
@@ -250,3 +287,37 @@ def read_objects(path):
             thing = parse_object(line)
             things[thing.key] = thing
     return things
+
+
+# ---- uploads ----
+
+def parse_chunks(lines):
+    """The chunks that an `upload` wrote, as `Answer.chunks` has them; ValueError where they aren't all there."""
+    chunks = []
+    for line in lines[1:]:
+        verb, rest = line.split(' ', 1)
+        if verb == 'chunk':
+            chunks.append([])
+        else:
+            thing = parse_object(rest)
+            chunks[-1].append((verb, thing._replace(deleted=True) if verb == 'delete' else thing))
+    found = 'upload changes {} chunks {}'.format(sum(map(len, chunks)), len(chunks))
+    if lines and lines[0] != found:
+        raise ValueError('it is cut off: {} was told, and what there is has {}'.format(lines[0], found))
+    return chunks
+
+
+def upload_lines(path):
+    """The lines of the last `upload` in a kept output; none where it, or a `rehearse` behind it, was refused."""
+    found, inside = [], False
+    with open(path, encoding='utf-8', newline='\n') as output:
+        for line in output:
+            if line.startswith('upload changes '):
+                found, inside = [], True
+            elif line[0] in DIGITS:
+                inside = False
+                if re.match('[0-9]+ refused 2[345] ', line):
+                    found = []
+            if inside and line[-1] == '\n':
+                found.append(line[:-1])
+    return found

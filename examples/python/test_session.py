@@ -1,11 +1,13 @@
 #!/usr/bin/env python3
 """test_session.py [PROGRAM]: tries the driver on the example town. Run it in the folder examples/; bench/pages does."""
 import sys
+import tempfile
 import unittest
 from decimal import Decimal
 
 import changes
-from session import Answer, Refused, Script, Stopped, degrees, parse_object, quote, read_objects, run, unquote
+import osmchange
+from session import Answer, Refused, Script, Stopped, degrees, parse_object, quote, read_objects, run, unquote, upload_lines
 
 PROGRAM = sys.argv.pop() if len(sys.argv) > 1 else 'yokeorange'
 
@@ -85,6 +87,14 @@ class Sessions(unittest.TestCase):
         script.purge(['n4', 'r9'])
         script.erase(['n1'])
         script.delete(['w5'])
+        script.conflicts()
+        script.resolve('n1', 'mine')
+        script.resolve('n1', 'theirs')
+        script.resolve_mix('n1', 'mine', 'theirs')
+        script.resolve_parts('n1', 'theirs', [])
+        script.resolve_parts('n1', 'mine', ['ref', 'a b,=%'])
+        script.upload(10000)
+        script.rehearse()
         self.run_script(script, allow_refused=True)
 
     def test_foretells_no_key_that_it_cannot_know(self):
@@ -113,6 +123,123 @@ class Sessions(unittest.TestCase):
         self.assertLess(text.index('<relation id="9" version="1"'), text.index('<way id="5" version="1"'))
 
 
+class Uploads(unittest.TestCase):
+    def tuesday(self):
+        """Monday's edits with Tuesday's conflicts in them."""
+        script = Script()
+        script.download('monday.opl')
+        script.tag(['w5'], {'surface': 'asphalt'})
+        script.tag(['n8'], {'backrest': 'yes'})
+        script.delete(['n3'])
+        script.download('tuesday.opl')
+        script.conflicts()
+        return script
+
+    def settled(self):
+        script = self.tuesday()
+        script.resolve('n3', 'theirs')
+        script.resolve_parts('n8', 'mine', ['backrest'])
+        script.tag(['n8'], {'name': 'a & "b"\n'})
+        script.delete(['w5'])
+        corner = script.node(13.004, 52, {})
+        script.way(['n3', corner], {'highway': 'footway'})
+        return script
+
+    def kept(self, script):
+        """The output of a script as a file keeps it."""
+        kept = tempfile.NamedTemporaryFile('w', encoding='utf-8', newline='\n')
+        self.addCleanup(kept.close)
+        for reply in run(script, PROGRAM, allow_refused=True).replies:
+            kept.write(' '.join([str(reply.line), reply.word] + [reply.rest] * bool(reply.rest)) + '\n')
+            kept.writelines(line + '\n' for line in reply.text)
+        kept.flush()
+        return kept.name
+
+    def test_conflicts_have_three_sides(self):
+        first, second = run(self.tuesday(), PROGRAM).conflicts()
+        self.assertEqual((first.key, first.why), ('n3', 'withdrawn'))
+        self.assertEqual((first.base, first.mine), (first.theirs, first.theirs))
+        self.assertEqual((second.key, second.why, second.base.version, second.theirs.version), ('n8', 'changed', 2, 3))
+        self.assertEqual([side.tags.get('backrest') for side in second[2:]], [None, 'yes', 'no'])
+
+    def test_nothing_of_an_earlier_look_is_told(self):
+        script = self.tuesday()
+        script.upload(10)
+        script.print()
+        script.resolve('n3', 'theirs')
+        script.resolve('n8', 'theirs')
+        script.conflicts()
+        script.upload(10)
+        script.rehearse()
+        answer = run(script, PROGRAM, allow_refused=True)
+        self.assertEqual([reply.rest for reply in answer.replies if reply.word == 'refused'], ['23 2 n3'])
+        self.assertEqual(answer.conflicts(), [])
+        self.assertEqual(len(answer.chunks()), 1)
+        self.assertEqual(len(answer.objects()), 5)
+        self.assertEqual(upload_lines(self.kept(script))[0], 'upload changes 1 chunks 1')
+        script.step('undo 1')
+        script.upload(10)
+        answer = run(script, PROGRAM, allow_refused=True)
+        self.assertEqual(answer.chunks(), [])
+        self.assertEqual(upload_lines(self.kept(script)), [])
+
+    def test_chunks_have_what_was_edited(self):
+        script = self.settled()
+        script.upload(3)
+        script.rehearse()
+        chunks = run(script, PROGRAM).chunks()
+        self.assertEqual([[(verb, thing.key, thing.version) for verb, thing in chunk] for chunk in chunks],
+                         [[('create', 'n-1', 0), ('create', 'w-2', 0), ('modify', 'n8', 3)], [('delete', 'w5', 4)]])
+        self.assertEqual(chunks[0][1][1].nodes, ['n3', 'n-1'])
+        self.assertEqual(chunks[0][2][1].tags, {'amenity': 'bench', 'backrest': 'no', 'name': 'a & "b"\n'})
+        self.assertTrue(chunks[1][0][1].deleted)
+
+    def test_neighbours_share_an_element(self):
+        script = self.settled()
+        script.upload(4)
+        changes = osmchange.chunk_of(self.kept(script), 1)
+        self.assertEqual(changes, run(script, PROGRAM).chunks()[0])
+        text = '\n'.join(osmchange.document(changes, '77'))
+        self.assertEqual([text.count('<{}>'.format(verb)) for verb in ('create', 'modify', 'delete')], [1, 1, 1])
+        self.assertIn('  <delete>\n    <way id="5" version="4" changeset="77">\n    </way>\n  </delete>\n', text)
+        self.assertIn('<tag k="name" v=\'a &amp; "b"&#10;\'/>', text)
+        text = '\n'.join(osmchange.document(changes[2:] + changes[:2] + changes[2:], '77'))
+        self.assertEqual([text.count('<{}>'.format(verb)) for verb in ('create', 'modify', 'delete')], [1, 2, 2])
+
+    def test_says_what_is_wrong_with_an_output(self):
+        for steps, number, words in [
+                ([], 1, 'no upload'),
+                (['upload 10'], 1, 'no upload'),
+                (['tag n1 Tname=a', 'upload 10'], 2, 'no chunk 2, only 1'),
+                (['tag n1 Tname=a%1%', 'upload 10'], 1, r'modify n1: .* U\+0001'),
+                (['tag n1 Ta%fffe%=a', 'upload 10'], 1, r'modify n1: .* U\+FFFE'),
+                (['relation T Mn1@%1f%', 'upload 10'], 1, r'create r-1: .* U\+001F')]:
+            script = Script()
+            script.download('monday.opl')
+            for step in steps:
+                script.step(step)
+            with self.assertRaisesRegex(ValueError, words):
+                osmchange.chunk_of(self.kept(script), number)
+
+    def test_reads_the_objects_of_a_kept_output(self):
+        script = self.settled()
+        script.print()
+        script.rehearse()
+        script.upload(10)
+        self.assertEqual(list(read_objects(self.kept(script)).values()), run(script, PROGRAM).objects())
+
+    def test_sees_that_an_output_is_cut_off(self):
+        script = self.settled()
+        script.upload(3)
+        with open(self.kept(script), 'r+', encoding='utf-8') as kept:
+            text = kept.read()
+            self.assertEqual(len(osmchange.chunk_of(kept.name, 1)), 3)
+            for shorter in (1, 12, 40):
+                kept.truncate(len(text) - shorter)
+                with self.assertRaisesRegex(ValueError, 'cut off'):
+                    osmchange.chunk_of(kept.name, 1)
+
+
 class Objects(unittest.TestCase):
     def test_fields_in_any_order(self):
         thing = parse_object('n1 v3 dV c7 t2024-02-29T12:00:00Z i5 uA%20%B Tname=x%20%y y-0.0000001 x13.5000000')
@@ -122,7 +249,7 @@ class Objects(unittest.TestCase):
         self.assertTrue(parse_object('w5 v1 dD c0 t i0 u T N').deleted)
 
     def test_text_behind_replies(self):
-        answer = Answer('1 ok\nn1 v1 dV c0 t i0 u T x1 y1\n2 refused 5 n1 w5\n3 skipped\n')
+        answer = Answer('1 ok\nn1 v1 dV c0 t i0 u T x1 y1\n2 refused 5 n1 w5\n3 skipped\n', 'print\ndelete n1\nend\n')
         self.assertEqual([(reply.line, reply.word, reply.rest, len(reply.text)) for reply in answer.replies],
                          [(1, 'ok', '', 1), (2, 'refused', '5 n1 w5', 0), (3, 'skipped', '', 0)])
 

@@ -1,0 +1,59 @@
+#!/usr/bin/env python3
+"""osmchange.py OUTPUT CHUNK CHANGESET: writes a chunk of an upload, as an osmChange document, to standard output.
+
+OUTPUT is what a session wrote, of which the last `upload` counts; CHUNK is the number of one of its chunks, from 1 on;
+CHANGESET is the id of the changeset that the chunk is to go into. The changes keep the order that `upload` gave them,
+and new objects their placeholders. Nothing is sent. Where there is no such chunk, or where a text has a character that
+XML can't carry, it says so and ends with 1.
+"""
+import re
+import sys
+from itertools import groupby
+
+from changes import element
+from session import parse_chunks, upload_lines
+
+NO_XML = re.compile('[^\t\n\r -\ud7ff\ue000-\ufffd\U00010000-\U0010ffff]')
+
+
+def document(changes, changeset):
+    """The osmChange document of pairs of verb and object; neighbours with one verb share an element."""
+    yield '<osmChange version="0.6" generator="yokeorange">'
+    for verb, group in groupby(changes, key=lambda change: change[0]):
+        yield '  <{}>'.format(verb)
+        for _, thing in group:
+            yield from element(thing, changeset)
+        yield '  </{}>'.format(verb)
+    yield '</osmChange>'
+
+
+def chunk_of(path, number):
+    """A chunk of the last upload in an output; ValueError where there is none."""
+    chunks = parse_chunks(upload_lines(path))
+    if not chunks:
+        raise ValueError('there is no upload with changes in it')
+    if number > len(chunks):
+        raise ValueError('its upload has no chunk {}, only {}'.format(number, len(chunks)))
+    for verb, thing in chunks[number - 1]:
+        found = NO_XML.search(' '.join([*thing.tags, *thing.tags.values(), *(role for _, role in thing.members)]))
+        if found:
+            raise ValueError('{} {}: a text has U+{:04X}, which XML can\'t carry'.format(verb, thing.key, ord(found[0])))
+    return chunks[number - 1]
+
+
+def main(words):
+    if len(words) != 3 or not all(re.fullmatch('[1-9][0-9]*', word) for word in words[1:]):
+        sys.exit('osmchange.py OUTPUT CHUNK CHANGESET, the last two numbers from 1 on')
+    try:
+        changes = chunk_of(words[0], int(words[1]))
+    except OSError as error:
+        sys.exit('osmchange.py: {}'.format(error))
+    except ValueError as error:
+        sys.exit('osmchange.py: {}: {}'.format(words[0], error))
+    sys.stdout.reconfigure(encoding='utf-8')
+    for line in document(changes, words[2]):
+        print(line)
+
+
+if __name__ == '__main__':
+    main(sys.argv[1:])
