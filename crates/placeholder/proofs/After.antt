@@ -68,10 +68,6 @@ run_step : (o : Option Refusal) (n : ℕ) (rest : Ran) (v : World) → on_refusa
 run_step None n rest v e = (refl, e)
 run_step (Some r) n rest v e = cc
 
-joined : (f : Change → Change) (xs ys : List Change) → map f (xs ++ ys) ≡ map f xs ++ map f ys
-joined f [] ys = refl
-joined f (x ∷ xs) ys = ap (λ (zs : List Change). f x ∷ zs) (joined f xs ys)
-
 new_to : (w : World) (t : TableValue) (c : Change) (p : ℤ) → IsFresh w t c p → IsNewTo t c p
 new_to w t (Create k c) p h = h.2
 new_to w t (Modify k v c) p h = tt

@@ -40,11 +40,6 @@ id_told (answer.Create placeholder id) = id
 id_told (answer.Modify key version) = pos 0
 id_told (answer.Delete key version) = pos 0
 
-abbrev pub key_of : Change → Key
-key_of (Create k c) = k
-key_of (Modify k version c) = k
-key_of (Delete k version) = k
-
 -- something stands under the id that an object got
 abbrev pub is_taken : TableValue → Answer → Bool
 is_taken u (answer.Create placeholder id) = is_some (entry_of u (with_id placeholder id))
