@@ -14,7 +14,7 @@ use Rattle.osm_base.specs.Number.{number_test, number_text, kind_letter}
 use Rattle.osm_base.specs.declared.key.Kind.{Kind}
 use Rattle.opl_line.specs.declared.fault.LineFault.{LineFault}
 use Rattle.opl_line.specs.declared.mode.Mode.{Mode}
-use Rattle.opl_line.specs.Reads.{folded, ◌>>=◌}
+use Rattle.opl_line.specs.Reads.{◌>>=◌}
 use Rattle.opl_line.specs.Line.{is_blank, id_at, key_at}
 use Rattle.opl_line.specs.Cut.{is_one_of, onto_first, before, after, split}
 use Rattle.opl_line.specs.Front.{front_digits, behind_digits, ended, is_apart}
@@ -197,17 +197,6 @@ reads_fits most left value bytes rest r few more some digit =
     omega (arith, reads_below most (left - 1) _ bytes _ n, pow-le-pow_right {n = 10} (omega arith) {i = most} {j = 19} few)
 
 -- ---- lines
-
--- pieces are taken in one by one
-pub fold_more : {S : Type 0} (step : S → List ℕ → Result S LineFault) (ends : ℕ → Bool) (f g : S) (bytes next : List ℕ) → step f (before ends bytes) ≡ Ok g → after ends bytes ≡ Some next →
-    folded step f (split ends bytes) ≡ folded step g (split ends next)
-fold_more step ends f g bytes next e more = rw (split_front ends bytes, more, e) refl
-
-pub fold_last : {S : Type 0} (step : S → List ℕ → Result S LineFault) (ends : ℕ → Bool) (f g : S) (bytes : List ℕ) → step f (before ends bytes) ≡ Ok g → after ends bytes ≡ None → folded step f (split ends bytes) ≡ Ok g
-fold_last step ends f g bytes e last = rw (split_front ends bytes, last, e) refl
-
-pub fold_fails : {S : Type 0} (step : S → List ℕ → Result S LineFault) (ends : ℕ → Bool) (f : S) (fault : LineFault) (bytes : List ℕ) → step f (before ends bytes) ≡ Err fault → folded step f (split ends bytes) ≡ Err fault
-fold_fails step ends f fault bytes e = rw (split_front ends bytes, e) refl
 
 blank_case : (b : ℕ) (kind : Kind) (space tab : Bool) → (space ≡ true → b ≡ 32) → (tab ≡ true → b ≡ 9) → kind_letter b ≡ Some kind → (space || tab) ≡ false
 unfolding kind_letter
