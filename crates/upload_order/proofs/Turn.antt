@@ -99,10 +99,6 @@ pub known_mine : (e : Entry) → is_known e ≡ true → is_incomplete e ≡ fal
 known_mine Incomplete h = cc
 known_mine (Known b m d) h = refl
 
-pub based_known : (e : Entry) → is_based e ≡ true → is_known e ≡ true
-based_known Incomplete h = cc
-based_known (Known b m d) h = refl
-
 -- the falling keys, none of them emptied
 abbrev pub to_go : Bool → Option Bool
 to_go true = Some false

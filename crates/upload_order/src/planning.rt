@@ -21,8 +21,8 @@ use std::alloc::{AllocError, Global};
 /// The changes that bring the edits to the server, in an order in which it can take them; or why
 /// nothing is sent.
 ///
-/// Costs a sort of all keys, three walks over the entries and one over the references of their bases, a look-up each; and
-/// of what is sent a step of log n for each object, reference and user.
+/// Costs a sort of all keys and three walks over the entries; of what is sent a step of log n for each object, reference
+/// and user; and where something sent refers to an Incomplete object a walk over the references of all bases, a look-up each.
 ///
 /// # Errors
 /// Answers the first refusal that holds, or that no memory was left.
