@@ -21,7 +21,7 @@ use Rattle.dataset.specs.Patch.{placed}
 use Rattle.dataset.specs.Sound.{IsSound, IsSoundEntry}
 use Rattle.dataset.proofs.Changes.{set_sound, drafted_none, drafted_put}
 use Rattle.upload_order.proofs.Basics.{decide, or_cases}
-use Rattle.server_world.specs.Town.{IsTold, AreThere}
+use Rattle.unit_tests.specs.Town.{IsTold, AreThere}
 
 abbrev pub live : Content → Meta → Entry
 live c meta = Known (Live 1 c meta) (Some c) None
@@ -56,10 +56,28 @@ drafted_told d e t k x none put =
     ∙ drafted_put (record { puts = fin.empty; next = t.next }) t k (Some x)
     ∙ ap (λ (u : TableValue). record { entries = placed u.entries k (Some x); next = t.next }) (drafted_none t.next t)
 
+pub node_told : (t : TableValue) (n : ℤ) (at : Coord) → IsPositive n → IsTold t (node n) (Node [] at)
+node_told t n at h = record { id = h; kind = refl; server = tt; limits = refl; there = λ r u. no_refers u } where
+  no_refers : {A : Type 0} → IsTrue false → A
+  no_refers u = cc
+
 or_false : (b : Bool) → (b || false) ≡ true → b ≡ true
 or_false true e = refl
 or_false false e = e
 
+pub street_told : (t : TableValue) → AreThere t → IsTold t (record { kind = kind.Way; id = pos 5 }) (Way [] (pos 1 ∷ pos 2 ∷ pos 3 ∷ []))
+street_told t h = record {
+  id = (omega arith, omega arith);
+  kind = refl;
+  server = ((omega arith, omega arith), ((omega arith, omega arith), ((omega arith, omega arith), tt)));
+  limits = refl;
+  there = λ r u. elim (or_cases (is_key r (node (pos 1))) _ u) [
+    | inl e ↦ subst (λ (k : Key). IsThere (entry_of t k)) (sym (one_key r (node (pos 1)) e)) h.0
+    | inr v ↦ elim (or_cases (is_key r (node (pos 2))) _ v) [
+      | inl e ↦ subst (λ (k : Key). IsThere (entry_of t k)) (sym (one_key r (node (pos 2)) e)) h.1
+      | inr x ↦ subst (λ (k : Key). IsThere (entry_of t k)) (sym (one_key r (node (pos 3)) (or_false (is_key r (node (pos 3))) x))) h.2
+    ]
+  ];
 }
 
 pub nodes_there : (t : TableValue) (a b c : Content) (meta : Meta) → AreThere (with_entry (with_entry (with_entry t (node (pos 1)) (live a meta)) (node (pos 2)) (live b meta)) (node (pos 3)) (live c meta))
