@@ -17,7 +17,6 @@ mod objects;
 mod pairs;
 mod refusal;
 mod rehearsal;
-mod renaming;
 mod world;
 
 pub use entry::WorldEntry;

@@ -4,12 +4,13 @@ ghost use Rattle.std.specs.Vec.{vec_len, vec_capacity};
 ghost use Rattle.std.specs.FinMap as fin;
 ghost use Rattle.indexmap.specs.IndexMap.{spare, Updates};
 ghost use Rattle.osm_base.specs.KeyEq.{eq};
-ghost use Rattle.upload_order.specs.Rename.{id_meant, meant, called, with_id, is_positive, named};
+ghost use Rattle.upload_order.specs.Rename.{id_meant, meant, with_id, is_positive, named};
 
 use crate::entry::WorldEntry;
 use crate::objects::Objects;
 use indexmap::IndexMap;
 use osm_base::Key;
+use renamed_content::Renaming;
 use std::alloc::{AllocError, Global};
 use std::marker::Model;
 
@@ -74,10 +75,15 @@ impl Names {
         }
     }
 
+}
+
+impl Renaming for Names {
+    ghost use Rattle.upload_order.specs.Rename.{called};
+
+    ghost key_named = { called };
+
     /// What a key of a change means, or itself.
-    pub fn called(&self, key: Key) -> Key
-        ensures { result ≡ called self.now key }
-    {
+    fn key(&self, key: Key) -> Key {
         match self.id_meant(key) {
             None => key,
             Some(id) => with_id(key, id),

@@ -11,8 +11,8 @@ use crate::entry::WorldEntry;
 use crate::names::{Names, put_named, with_id};
 use crate::objects::Objects;
 use crate::refusal::{WorldFault, WorldRefusal};
-use crate::renaming::renamed;
 use osm_base::{Content, Key, Member, fits, node_key};
+use renamed_content::{Renaming, renamed};
 use std::alloc::{AllocError, Global};
 use std::marker::Model;
 use upload_order::Change;
@@ -101,7 +101,7 @@ impl World {
     fn modify_refusal(&self, key: Key, version: u32, content: &Content) -> Option<WorldRefusal>
         ensures { result ≡ option_map answer_of (refusal self.now (Modify key version content.now) (pos 0)) }
     {
-        let Some(entry) = self.get(self.names.called(key)) else {
+        let Some(entry) = self.get(self.names.key(key)) else {
             return Some(WorldRefusal::Missing);
         };
         if entry.version() != version {
@@ -115,7 +115,7 @@ impl World {
     fn delete_refusal(&self, key: Key, version: u32) -> Option<WorldRefusal>
         ensures { result ≡ option_map answer_of (refusal self.now (Delete key version) (pos 0)) }
     {
-        let key = self.names.called(key);
+        let key = self.names.key(key);
         let Some(entry) = self.get(key) else {
             return Some(WorldRefusal::Missing);
         };
@@ -198,7 +198,7 @@ impl World {
     {
         match change {
             Change::Create { key, content } => {
-                let content = renamed(self.alloc, &self.names, content)?;
+                let content = renamed(self.alloc, content, &self.names)?;
                 let entry = WorldEntry::new(1, Some(content));
                 put_named(&mut self.objects, &mut self.names, *key, picked, entry)
             }
@@ -207,13 +207,13 @@ impl World {
                 version,
                 content,
             } => {
-                let content = renamed(self.alloc, &self.names, content)?;
+                let content = renamed(self.alloc, content, &self.names)?;
                 let entry = WorldEntry::new(next_version(*version)?, Some(content));
-                self.objects.put(self.names.called(*key), entry)
+                self.objects.put(self.names.key(*key), entry)
             }
             Change::Delete { key, version } => {
                 let entry = WorldEntry::new(next_version(*version)?, None);
-                self.objects.put(self.names.called(*key), entry)
+                self.objects.put(self.names.key(*key), entry)
             }
         }
     }
