@@ -16,8 +16,11 @@ Needs Python 3.8 and nothing else. A whole use:
 
 `run` raises `Refused` at the first refused step, so that nothing that a later step did goes on unseen. `Script.node`,
 `way` and `relation` answer with the key that the new object gets where no addition before it is refused; as `run` stops
-at a refusal, a key that was wrong never gets further than that. Behind a `split`, and behind lines of your own, they
+at a refusal, a key that was wrong never gets further than that. Behind a `split`, an import, and lines of your own, they
 answer None: the reply has the key then.
+
+Many new objects come better by a `Drawing`, a file for `import`: there they have keys of the file's own, and nothing is
+foretold.
 """
 import pathlib
 import re
@@ -104,8 +107,18 @@ class Script:
         self.made += 1
         return '{}-{}'.format(letter, self.made)
 
-    def download(self, name):
-        self._step('download', quote(str(name)))
+    def download(self, name, box=None, wanted=None):
+        """A file, or of it a part: a box of west, south, east and north, and tags, where the value `*` stands for any."""
+        words = ['B' + ','.join(map(degrees, box))] if box else []
+        words += ['F' + tags(wanted)] if wanted else []
+        self._step('download', quote(str(name)), *words)
+
+    def generate(self, streets):
+        self._step('generate', str(streets))
+
+    def import_file(self, name):
+        """The new objects of a file. No id is foretold behind it, since how many there are isn't known here; the reply has the keys."""
+        self.step('import', quote(str(name)))
 
     def node(self, lon, lat, pairs):
         self._step('node', 'x' + degrees(lon), 'y' + degrees(lat), 'T' + tags(pairs))
@@ -175,6 +188,10 @@ class Script:
         """In chunks of so many changes, 1 to 10,000."""
         self._step('upload', str(size))
 
+    def confirm(self, name):
+        """The answers of a server to the first changes of an upload; ids of new objects count on."""
+        self._step('confirm', quote(str(name)))
+
     def rehearse(self):
         self._step('rehearse')
 
@@ -192,6 +209,39 @@ class Script:
 
     def __str__(self):
         return ''.join(line + '\n' for line in self.lines)
+
+
+class Drawing:
+    """New objects for `import`, whose keys are good for this file alone: each call answers with the key of its object.
+
+    Keys of the table, such as 'n1', may be named too. `write` makes the file, and `named` tells from the reply to its
+    import which keys the objects have in the session.
+    """
+
+    def __init__(self):
+        self.keys, self.lines = [], []
+
+    def _new(self, letter, *fields):
+        self.keys.append('{}-{}'.format(letter, len(self.keys) + 1))
+        self.lines.append(' '.join((self.keys[-1],) + fields))
+        return self.keys[-1]
+
+    def node(self, lon, lat, pairs):
+        return self._new('n', 'T' + tags(pairs), 'x' + degrees(lon), 'y' + degrees(lat))
+
+    def way(self, nodes, pairs):
+        return self._new('w', 'T' + tags(pairs), 'N' + ','.join(nodes))
+
+    def relation(self, members, pairs):
+        """Members are pairs of key and role."""
+        return self._new('r', 'T' + tags(pairs), 'M' + ','.join('{}@{}'.format(key, quote(role)) for key, role in members))
+
+    def write(self, path):
+        pathlib.Path(path).write_text(''.join(line + '\n' for line in self.lines), encoding='utf-8', newline='\n')
+
+    def named(self, reply):
+        """The session's keys by the drawing's, from the reply to the import of all of it."""
+        return dict(zip(self.keys, reply.rest.split(',')))
 
 
 # ---- a run ----
@@ -237,16 +287,18 @@ class Answer:
         return parse_chunks(self._written('upload'))
 
 
-def run(script, program='yokeorange', folder='.', allow_refused=False):
-    """Runs a script over the files of the folder.
+def run(script, program='yokeorange', folder='.', allow_refused=False, max_objects=None, max_file=None):
+    """Runs a script over the files of the folder, with other limits where they are given.
 
     Raises `Stopped` where the status isn't 0, and `Refused` at the first refused step, unless refusals are allowed.
     """
     text = str(script)
+    options = ['--max-objects={}'.format(max_objects)] if max_objects is not None else []
+    options += ['--max-file={}'.format(max_file)] if max_file is not None else []
     with tempfile.TemporaryDirectory() as place:
         path = pathlib.Path(place) / 'script'
         path.write_text(text, encoding='utf-8', newline='\n')
-        done = subprocess.run([program, str(path)], cwd=folder, stdout=subprocess.PIPE, stderr=subprocess.PIPE)
+        done = subprocess.run([program, *options, str(path)], cwd=folder, stdout=subprocess.PIPE, stderr=subprocess.PIPE)
     if done.returncode != 0:
         raise Stopped(done.returncode, done.stderr.decode('utf-8', 'replace').strip())
     answer = Answer(done.stdout.decode('utf-8'), text)

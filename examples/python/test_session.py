@@ -5,9 +5,10 @@ import tempfile
 import unittest
 from decimal import Decimal
 
+import answers
 import changes
 import osmchange
-from session import Answer, Refused, Script, Stopped, degrees, parse_object, quote, read_objects, run, unquote, upload_lines
+from session import Answer, Drawing, Refused, Script, Stopped, degrees, parse_object, quote, read_objects, run, unquote, upload_lines
 
 PROGRAM = sys.argv.pop() if len(sys.argv) > 1 else 'yokeorange'
 
@@ -94,8 +95,53 @@ class Sessions(unittest.TestCase):
         script.resolve_parts('n1', 'theirs', [])
         script.resolve_parts('n1', 'mine', ['ref', 'a b,=%'])
         script.upload(10000)
+        script.confirm('a name, with = and %')
         script.rehearse()
+        script.download('a name', (-180, -90, 180, 90.0), {'highway': '*', 'name': 'a b,=%'})
+        script.download('a name', box=(13, 52, 13.0000001, 52.5))
+        script.download('a name', wanted={'name': ''})
+        script.generate(1)
+        script.import_file('a name')
         self.run_script(script, allow_refused=True)
+
+    def test_a_part_of_a_file(self):
+        script = Script()
+        script.download('town.opl', (13.55, 0, 13.65, 1))
+        script.download('town.opl', wanted={'name': '*', 'highway': 'residential'})
+        script.count()
+        counts = self.run_script(script).counts()
+        self.assertEqual([counts[kind] for kind in ('nodes', 'ways', 'relations', 'incomplete')], [3, 1, 1, 1])
+
+    def test_limits(self):
+        script = self.script()
+        self.run_script(script, max_objects=6, max_file=500)
+        for limit, refusal in [({'max_objects': 5}, '18'), ({'max_file': 50}, '20 toolong')]:
+            with self.assertRaises(Refused) as seen:
+                self.run_script(script, **limit)
+            self.assertEqual(seen.exception.reply.rest, refusal)
+        with self.assertRaises(Stopped) as seen:
+            self.run_script(script, max_objects=0)
+        self.assertEqual(seen.exception.status, 2)
+
+    def test_a_drawing_comes_in_by_import(self):
+        drawing = Drawing()
+        bench = drawing.node(13.65, 0.05, {'amenity': 'bench', 'note': 'a, b = c'})
+        path = drawing.way(['n2', bench], {'highway': 'footway'})
+        drawing.relation([(path, 'a role'), ('w5', '')], {'type': 'site'})
+        script = self.script()
+        script.node(13.6, 1, {})
+        with tempfile.TemporaryDirectory() as place:
+            drawing.write(place + '/new.opl')
+            script.import_file(place + '/new.opl')
+            self.assertIsNone(script.node(13.6, 2, {}))
+            script.print()
+            answer = self.run_script(script)
+        self.assertEqual([reply.rest for reply in answer.replies], ['', 'n-1', 'n-2,w-3,r-4', 'n-5', ''])
+        names = drawing.named(answer.replies[2])
+        things = {thing.key: thing for thing in answer.objects()}
+        self.assertEqual(things[names[bench]].tags, {'amenity': 'bench', 'note': 'a, b = c'})
+        self.assertEqual(things[names[path]].nodes, ['n2', names[bench]])
+        self.assertEqual(things['r-4'].members, [(names[path], 'a role'), ('w5', '')])
 
     def test_foretells_no_key_that_it_cannot_know(self):
         script = self.script()
@@ -238,6 +284,46 @@ class Uploads(unittest.TestCase):
                 kept.truncate(len(text) - shorter)
                 with self.assertRaisesRegex(ValueError, 'cut off'):
                     osmchange.chunk_of(kept.name, 1)
+
+
+class Answers(unittest.TestCase):
+    CHUNK = ('1 ok\nupload changes 5 chunks 1\nchunk 1 of 1\ncreate n-1 v0 dV c0 t i0 u T x1 y1\ncreate w-2 v0 dV c0 t i0 u T Nn-1\n'
+             'modify w7 v9 dV c0 t i0 u T Nn1\nmodify r3 v1 dV c0 t i0 u T M\ndelete r3 v2\n')
+    LINES = ['<node old_id="-1" new_id="50" new_version="1"/>', '<way old_id="-2" new_id="60" new_version="1"/>',
+             '<way old_id="7" new_id="7" new_version="10"/>', '<relation old_id="3" new_id="3" new_version="2"/>', '<relation old_id="3"/>']
+
+    def answered(self, lines, text=None):
+        """The answers to the chunk with a result of these lines, or with another text for a result."""
+        with tempfile.NamedTemporaryFile('w', encoding='utf-8', newline='\n') as kept:
+            kept.write(self.CHUNK)
+            kept.flush()
+            result = text or '<?xml version="1.0" encoding="UTF-8"?>\n<diffResult version="0.6">' + ''.join(lines) + '</diffResult>'
+            return answers.answers(osmchange.chunk_of(kept.name, 1), answers.results(result.encode()))
+
+    def test_each_change_has_its_answer(self):
+        want = ['create n-1 n50 v1', 'create w-2 w60 v1', 'modify w7 v10', 'modify r3 v2', 'delete r3 v3']
+        self.assertEqual(self.answered(self.LINES), want)
+        self.assertEqual(self.answered(self.LINES[::-1]), want)
+
+    def test_says_what_is_wrong_with_a_result(self):
+        for at, line, words in [
+                (0, '', 'create n-1 has no result'),
+                (4, '', 'delete r3 has no result'),
+                (4, '<relation old_id="3"/><node old_id="4"/>', 'n4 has a result'),
+                (2, '<way old_id="7" new_id="7" new_version="9"/>', 'modify w7: its version is 9 now'),
+                (2, '<way old_id="7" new_id="8" new_version="10"/>', 'modify w7: it is w8 now'),
+                (2, '<way old_id="7" new_id="7"/>', "the new_version ''"),
+                (0, '<node old_id="-1" new_id="-50" new_version="1"/>', "the new_id '-50'"),
+                (0, '<node old_id="-1" new_id="50" new_version="2"/>', 'create n-1: its version is 2 now'),
+                (0, '<way old_id="-1" new_id="50" new_version="1"/>', 'create n-1 has no result'),
+                (0, '<node new_id="50" new_version="1"/>', '<node> is the result of no change'),
+                (0, '<gpx old_id="1"/>', '<gpx> is the result of no change'),
+                (0, '<node old_id="-1" new_id="50" new_version="1"/>' * 2, 'n-1 has two results')]:
+            with self.assertRaisesRegex(ValueError, words):
+                self.answered(self.LINES[:at] + [line] + self.LINES[at + 1:])
+        for text, words in [('Version mismatch: Provided 9, server had: 10 of Way 7', 'no diffResult: Version mismatch'), ('<osm/>', 'no diffResult: <osm>')]:
+            with self.assertRaisesRegex(ValueError, words):
+                self.answered([], text)
 
 
 class Objects(unittest.TestCase):
