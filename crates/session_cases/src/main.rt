@@ -31,7 +31,7 @@ use running::run_case;
 use std::fs;
 
 /// The bundles of cases, in the order in which they run.
-const BUNDLES: [&str; 19] = [
+const BUNDLES: [&str; 32] = [
     "reading.txt",
     "jobs.txt",
     "groups.txt",
@@ -51,6 +51,19 @@ const BUNDLES: [&str; 19] = [
     "deletions_sent.txt",
     "refused_uploads.txt",
     "rehearsals.txt",
+    "answers.txt",
+    "given_ids.txt",
+    "wrong_answers.txt",
+    "refused_answers.txt",
+    "imports.txt",
+    "refused_imports.txt",
+    "boxes.txt",
+    "wanted_tags.txt",
+    "cities.txt",
+    "lines.txt",
+    "limits.txt",
+    "words.txt",
+    "faults.txt",
 ];
 
 fn main(rt: HostRuntime) -> Result<()> {
