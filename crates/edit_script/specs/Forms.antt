@@ -1,7 +1,8 @@
 -- The lines of a script: one definition for each form, found by the first word of the line.
 --
 -- For example `combine w1,w2` combines these ways, and `combine w1` is outside the grammar. A form reads the words behind
--- the first one, and so may have parts that can be left out: `resolve n1 mine` and `resolve n1 mix theirs mine` are both lines.
+-- the first one, and so may have parts that can be left out: `resolve n1 mine` and `resolve n1 mix theirs mine` are both
+-- lines, and so are `download town.opl` and `download town.opl Famenity=bench`.
 use Rattle.std.specs.Prelude.{ℕ, nat_le, if◌then◌else◌, codes, List, [], ◌∷◌, length, Option, Some, None}
 use Rattle.std.specs.Str.{bytes_eq}
 use Rattle.osm_base.specs.Coord.{coord_text}
@@ -13,14 +14,41 @@ use Rattle.resolution.specs.declared.choice.Choice.TheVariants as choice
 use Rattle.tool_api.specs.declared.job.Job.TheVariants as job
 use Rattle.edit_script.specs.declared.step.Act.{Act}
 use Rattle.edit_script.specs.declared.step.Act.TheVariants as act
-use Rattle.edit_script.specs.Items.{alone, one_word, two_words, three_words, keys_word, tags_word, refs_word, members_word, place_words, count_word, size_word, side_word, tag_keys_word}
+use Rattle.edit_script.specs.Items.{alone, one_word, two_words, three_words, optional, area_text, wanted_text, keys_word, tags_word, refs_word, members_word, place_words, count_word, streets_word, size_word, side_word, tag_keys_word}
 
--- `download FILE`: no word is empty, and so no name that one spells
-unfoldable pub download : List (List ℕ) → Option Act
-download words = do
+-- the name of a file, alone: no word is empty, and so no name that one spells
+unfoldable pub file_word : List (List ℕ) → Option (List ℕ)
+file_word words = do
   file ← one_word words
+  unescaped file
+
+-- `download FILE`, and then `B..` and `F..`, of which each can be left out
+unfoldable pub download : List (List ℕ) → Option Act
+download [] = None
+download (file ∷ words) = do
   name ← unescaped file
-  Some (act.Download name)
+  (area, words) ← optional 66 area_text words
+  (wanted, words) ← optional 70 wanted_text words
+  alone (act.Download name area wanted) words
+
+-- `generate N`
+unfoldable pub generate : List (List ℕ) → Option Act
+generate words = do
+  number ← one_word words
+  streets ← streets_word number
+  Some (act.Generate streets)
+
+-- `import FILE`
+unfoldable pub import_file : List (List ℕ) → Option Act
+import_file words = do
+  name ← file_word words
+  Some (act.ImportFile name)
+
+-- `confirm FILE`
+unfoldable pub confirm : List (List ℕ) → Option Act
+confirm words = do
+  name ← file_word words
+  Some (act.Confirm name)
 
 -- `undo N`
 unfoldable pub undo : List (List ℕ) → Option Act
@@ -223,7 +251,7 @@ add_form verb words =
     else (if bytes_eq verb (codes "relation") then add_relation words
     else change_form verb words))
 
--- the table is looked at, or sent
+-- the table is looked at, or sent, or what the server answered is taken in
 unfoldable pub look_form : List ℕ → List (List ℕ) → Option Act
 look_form verb words =
     if bytes_eq verb (codes "print") then alone act.Print words
@@ -231,17 +259,25 @@ look_form verb words =
     else (if bytes_eq verb (codes "conflicts") then alone act.Conflicts words
     else (if bytes_eq verb (codes "rehearse") then alone act.Rehearse words
     else (if bytes_eq verb (codes "upload") then upload words
-    else add_form verb words))))
+    else (if bytes_eq verb (codes "confirm") then confirm words
+    else add_form verb words)))))
 
--- a step without a job, or a job
-unfoldable pub form : List ℕ → List (List ℕ) → Option Act
-form verb words =
-    if bytes_eq verb (codes "download") then download words
-    else (if bytes_eq verb (codes "begin") then alone act.Begin words
+-- a group begins or ends, or steps are undone or redone
+unfoldable pub group_form : List ℕ → List (List ℕ) → Option Act
+group_form verb words =
+    if bytes_eq verb (codes "begin") then alone act.Begin words
     else (if bytes_eq verb (codes "end") then alone act.End words
     else (if bytes_eq verb (codes "undo") then undo words
     else (if bytes_eq verb (codes "redo") then redo words
-    else look_form verb words))))
+    else look_form verb words)))
+
+-- objects are taken in from outside
+unfoldable pub form : List ℕ → List (List ℕ) → Option Act
+form verb words =
+    if bytes_eq verb (codes "download") then download words
+    else (if bytes_eq verb (codes "generate") then generate words
+    else (if bytes_eq verb (codes "import") then import_file words
+    else group_form verb words))
 
 -- What the words of a line ask for; none where they are no line of the grammar.
 abbrev pub act_of : List (List ℕ) → Option Act

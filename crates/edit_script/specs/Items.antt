@@ -1,14 +1,16 @@
 -- The words of a line, and what each of them spells.
 --
 -- For example `place n-1 x2.5 y0` has the words `place`, `n-1`, `x2.5` and `y0`. The word `Kname,old%20%name` has the keys
--- `name` and `old name`, `K` has none, and `Kname,name` spells nothing.
-use Rattle.std.specs.Prelude.{ℕ, ℤ, Bool, ◌==◌, ◌&&◌, nat_le, nat_lt, if◌then◌else◌, codes, List, [], ◌∷◌, length, filter, Option, Some, None}
+-- `name` and `old name`, `K` has none, and `Kname,name` spells nothing. The word `B13.3,52.5,13.4,52.6` is a box with its
+-- west, south, east and north, and `B13.4,52.5,13.3,52.6` is none, since its west lies beyond its east.
+use Rattle.std.specs.Prelude.{ℕ, ℤ, Bool, ◌==◌, ◌&&◌, nat_le, nat_lt, int_le, if◌then◌else◌, codes, List, [], ◌∷◌, length, filter, Option, Some, None}
 use Rattle.std.specs.List.{list_any}
 use Rattle.std.specs.Str.{bytes_eq}
 use Rattle.osm_base.specs.Coord.{coord_text}
 use Rattle.osm_base.specs.Number.{key_text, number_text}
 use Rattle.osm_base.specs.Place.{place_at}
 use Rattle.osm_base.specs.Tags.{Pair}
+use Rattle.osm_base.specs.declared.area.Area.{Area}
 use Rattle.osm_base.specs.declared.coord.Coord.{Coord}
 use Rattle.osm_base.specs.declared.key.Key.{Key}
 use Rattle.osm_base.specs.declared.members.Member.{Member}
@@ -47,6 +49,11 @@ abbrev pub three_words : List (List ℕ) → Option (List ℕ × List ℕ × Lis
 three_words (first ∷ second ∷ third ∷ []) = Some (first, second, third)
 three_words words = None
 
+-- the texts, where they are four
+abbrev pub four_texts : List (List ℕ) → Option (List ℕ × List ℕ × List ℕ × List ℕ)
+four_texts (first ∷ second ∷ third ∷ fourth ∷ []) = Some (first, second, third, fourth)
+four_texts texts = None
+
 -- what stands behind the blanks at the front
 abbrev pub without_blanks : List ℕ → List ℕ
 without_blanks [] = []
@@ -68,6 +75,21 @@ keys_word word = all_of key_text (split (is 44) word)
 abbrev pub behind : ℕ → List ℕ → Option (List ℕ)
 behind letter [] = None
 behind letter (byte ∷ text) = if byte == letter then Some text else None
+
+abbrev pub with_part : {A : Type 0} → List (List ℕ) → Option A → Option (Option A × List (List ℕ))
+with_part words read = do
+  x ← read
+  Some (Some x, words)
+
+abbrev pub optional_first : {A : Type 0} → Option (List ℕ) → (List ℕ → Option A) → List (List ℕ) → List (List ℕ) → Option (Option A × List (List ℕ))
+optional_first None read words rest = Some (None, words)
+optional_first (Some text) read words rest = with_part rest (read text)
+
+-- What the first word spells, where it begins with the letter, and the words that are left; none where it begins so and
+-- spells nothing.
+abbrev pub optional : {A : Type 0} → (letter : ℕ) → (List ℕ → Option A) → List (List ℕ) → Option (Option A × List (List ℕ))
+optional letter read [] = Some (None, [])
+optional letter read (word ∷ words) = optional_first (behind letter word) read (word ∷ words) words
 
 -- `T` and tags
 unfoldable pub tags_word : List ℕ → Option (List Pair)
@@ -91,14 +113,39 @@ members_word word = do
   text ← behind 77 word
   ok_of (members_text text)
 
+-- a longitude and a latitude
+unfoldable pub place_texts : List ℕ → List ℕ → Option Coord
+place_texts lon_text lat_text = do
+  lon ← coord_text lon_text
+  lat ← coord_text lat_text
+  place_at lon lat
+
 -- `x` and a longitude, `y` and a latitude
 unfoldable pub place_words : List ℕ → List ℕ → Option Coord
 place_words x y = do
   lon_text ← behind 120 x
   lat_text ← behind 121 y
-  lon ← coord_text lon_text
-  lat ← coord_text lat_text
-  place_at lon lat
+  place_texts lon_text lat_text
+
+-- the box between its corners in the south-west and the north-east; none where it is upside down
+abbrev pub box_between : Coord → Coord → Option Area
+box_between low high =
+    if int_le low.lon high.lon && int_le low.lat high.lat
+    then Some (record { west = low.lon; south = low.lat; east = high.lon; north = high.lat }) else None
+
+-- a box by its west, south, east and north
+unfoldable pub area_text : List ℕ → Option Area
+area_text text = do
+  (west, south, east, north) ← four_texts (split (is 44) text)
+  low ← place_texts west south
+  high ← place_texts east north
+  box_between low high
+
+-- tags, at least one
+unfoldable pub wanted_text : List ℕ → Option (List Pair)
+wanted_text text = do
+  tags ← ok_of (tags_text text)
+  if nat_lt 0 (length tags) then Some tags else None
 
 -- 1 to 7 digits of a number from 1 to the most
 unfoldable pub number_word : (most : ℕ) → List ℕ → Option ℕ
@@ -109,6 +156,10 @@ number_word most word = do
 -- how often something is undone or redone
 abbrev pub count_word : List ℕ → Option ℕ
 count_word word = number_word 1000000 word
+
+-- how many streets a city has
+abbrev pub streets_word : List ℕ → Option ℕ
+streets_word word = number_word 100000 word
 
 -- how many changes a chunk has
 abbrev pub size_word : List ℕ → Option ℕ

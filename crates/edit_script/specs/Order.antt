@@ -1,4 +1,4 @@
--- The order of steps: groups are not nested, and nothing is undone, redone, rehearsed or uploaded inside one.
+-- The order of steps: groups are not nested, and nothing is undone, redone, rehearsed, uploaded or confirmed inside one.
 --
 -- For example `begin`, `print`, `end`, `undo 1` are in order, and `begin`, `undo 1`, `end` are not.
 use Rattle.std.specs.Prelude.{◌≡◌, ◌≤◌, Bool, true, false, List, [], ◌∷◌}
@@ -6,7 +6,7 @@ use Rattle.tool_api.specs.Plain.{IsWellFormed}
 use Rattle.edit_script.specs.declared.line.ScriptLine.{ScriptLine}
 use Rattle.edit_script.specs.declared.line.ScriptLine.TheVariants.{Skipped, Asks}
 use Rattle.edit_script.specs.declared.step.Act.{Act}
-use Rattle.edit_script.specs.declared.step.Act.TheVariants.{Job, Begin, End, Undo, Redo, Rehearse, Upload}
+use Rattle.edit_script.specs.declared.step.Act.TheVariants.{Job, Generate, Begin, End, Undo, Redo, Rehearse, Upload, Confirm}
 use Rattle.edit_script.specs.declared.step.Step.{Step}
 
 -- whether an act may stand where it does, inside a group or outside
@@ -16,6 +16,7 @@ may_stand true (Undo n) = false
 may_stand true (Redo n) = false
 may_stand true Rehearse = false
 may_stand true (Upload size) = false
+may_stand true (Confirm name) = false
 may_stand true act = true
 may_stand false End = false
 may_stand false act = true
@@ -26,9 +27,11 @@ inside_after is_inside Begin = true
 inside_after is_inside End = false
 inside_after is_inside act = is_inside
 
--- A job names what it has to, there is something to undo or redo, and a chunk has 1 to 10,000 changes.
+-- A job names what it has to, a city has 1 to 100,000 streets, there is something to undo or redo, and a chunk has 1 to
+-- 10,000 changes.
 abbrev pub IsMeant : Act → Type 0
 IsMeant (Job job) = IsWellFormed job
+IsMeant (Generate streets) = (1 ≤ streets) × (streets ≤ 100000)
 IsMeant (Undo n) = 1 ≤ n
 IsMeant (Redo n) = 1 ≤ n
 IsMeant (Upload size) = (1 ≤ size) × (size ≤ 10000)

@@ -13,7 +13,7 @@ use Rattle.tool_api.specs.Refusals as refusals
 use Rattle.tool_api.specs.declared.refusal.Refusal.{Refusal}
 use Rattle.tool_api.specs.declared.refusal.Refusal.TheVariants.{Absent, IncompleteObject, DeletedObject, InConflict, InUse, WrongKind, Unfit, OutOfRange, NamedTwice, NotInWay, NothingToSplit, NotJoined, TagClash, MemberClash, NoConflict, NotMixed, VersionClash, TableFull, NotClashing}
 use Rattle.edit_script.specs.declared.reply.StepRefusal.{StepRefusal}
-use Rattle.edit_script.specs.declared.reply.StepRefusal.TheVariants.{Tool, NoFile, BadFile, NothingToUndo, NothingToRedo, OpenConflicts, IncompleteRef, CyclicNew}
+use Rattle.edit_script.specs.declared.reply.StepRefusal.TheVariants.{Tool, NoFile, BadFile, NothingToUndo, NothingToRedo, OpenConflicts, IncompleteRef, CyclicNew, WrongAnswer, IdTaken}
 use Rattle.edit_script.specs.declared.reply.StepReply.{StepReply}
 use Rattle.edit_script.specs.declared.reply.StepReply.TheVariants.{Done, Refused, Skipped}
 
@@ -27,6 +27,8 @@ number_of NothingToRedo = 22
 number_of (OpenConflicts count first) = 23
 number_of (IncompleteRef key of) = 24
 number_of (CyclicNew keys) = 25
+number_of (WrongAnswer line) = 26
+number_of (IdTaken key) = 27
 
 -- a number, a key or a text behind a space
 abbrev pub number_behind : ℕ → List ℕ
@@ -81,6 +83,8 @@ carried NothingToRedo = []
 carried (OpenConflicts count first) = number_behind count ++ key_behind first
 carried (IncompleteRef key of) = key_behind key ++ key_behind of
 carried (CyclicNew keys) = keys_behind keys
+carried (WrongAnswer line) = number_behind line
+carried (IdTaken key) = key_behind key
 
 abbrev pub refusal_text : StepRefusal → List ℕ
 refusal_text why = codes " refused " ++ (decimal (number_of why) ++ carried why)

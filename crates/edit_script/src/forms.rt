@@ -1,17 +1,19 @@
 //! The lines of a script: one function for each form, found by the first word of the line.
 ghost use Rattle.std.specs.Prelude.{IfOk};
 ghost use Rattle.edit_script.specs.Answers.{Gives};
-ghost use Rattle.edit_script.specs.Forms.{download, add_node, add_way, add_relation, set_tags, shift, place, set_nodes, set_members, delete, erase, purge, split, combine, reverse, undo, redo, upload, mix, parts, choice_form, choice_of, resolve, way_form, delete_form, change_form, add_form, look_form, form, act_of};
+ghost use Rattle.edit_script.specs.Forms.{file_word, download, generate, import_file, confirm, add_node, add_way, add_relation, set_tags, shift, place, set_nodes, set_members, delete, erase, purge, split, combine, reverse, undo, redo, upload, mix, parts, choice_form, choice_of, resolve, way_form, delete_form, change_form, add_form, look_form, group_form, form, act_of};
 ghost use Rattle.edit_script.specs.Items.{words_of};
 ghost use Rattle.edit_script.specs.Order.{IsMeant};
 
 use crate::fault::Unread;
 use crate::items::{
-    alone, coord_word, count_word, key_word, keys_word, members_word, next_word, one_word,
-    place_words, refs_word, side_word, size_word, tag_keys_word, tags_word, three_words, two_words,
+    alone, area_part, coord_word, count_word, key_word, keys_word, members_word, next_word,
+    one_word, place_words, refs_word, side_word, size_word, streets_word, tag_keys_word, tags_word,
+    three_words, two_words, wanted_part,
 };
 use crate::step::Act;
 use opl_text::{Pool, read_escaped};
+use osm_base::Text;
 use resolution::Choice;
 use tool_api::Job;
 
@@ -26,7 +28,7 @@ pub fn act_of(pool: &mut Pool, line: &[u8]) -> Result<Act, Unread>
     }
 }
 
-/// A step without a job, or a job.
+/// Objects are taken in from outside.
 #[tactic(auto, unfolding(crate::specs::Forms::form))]
 fn form(pool: &mut Pool, verb: &[u8], words: &[u8]) -> Result<Act, Unread>
     ensures value { Gives result (form verb.now (words_of words.now)) }
@@ -34,7 +36,22 @@ fn form(pool: &mut Pool, verb: &[u8], words: &[u8]) -> Result<Act, Unread>
 {
     if verb == b"download".as_slice() {
         download(pool, words)
-    } else if verb == b"begin".as_slice() {
+    } else if verb == b"generate".as_slice() {
+        generate(words)
+    } else if verb == b"import".as_slice() {
+        import_file(pool, words)
+    } else {
+        group_form(pool, verb, words)
+    }
+}
+
+/// A group begins or ends, or steps are undone or redone.
+#[tactic(auto, unfolding(crate::specs::Forms::group_form))]
+fn group_form(pool: &mut Pool, verb: &[u8], words: &[u8]) -> Result<Act, Unread>
+    ensures value { Gives result (group_form verb.now (words_of words.now)) }
+    ensures meant { IfOk result IsMeant }
+{
+    if verb == b"begin".as_slice() {
         alone(Act::Begin, words)
     } else if verb == b"end".as_slice() {
         alone(Act::End, words)
@@ -47,7 +64,7 @@ fn form(pool: &mut Pool, verb: &[u8], words: &[u8]) -> Result<Act, Unread>
     }
 }
 
-/// The table is looked at, or sent.
+/// The table is looked at, or sent, or what the server answered is taken in.
 #[tactic(auto, unfolding(crate::specs::Forms::look_form))]
 fn look_form(pool: &mut Pool, verb: &[u8], words: &[u8]) -> Result<Act, Unread>
     ensures value { Gives result (look_form verb.now (words_of words.now)) }
@@ -63,6 +80,8 @@ fn look_form(pool: &mut Pool, verb: &[u8], words: &[u8]) -> Result<Act, Unread>
         alone(Act::Rehearse, words)
     } else if verb == b"upload".as_slice() {
         upload(words)
+    } else if verb == b"confirm".as_slice() {
+        confirm(pool, words)
     } else {
         add_form(pool, verb, words)
     }
@@ -142,15 +161,59 @@ fn way_form(pool: &Pool, verb: &[u8], words: &[u8]) -> Result<Act, Unread>
     }
 }
 
-/// `download FILE`.
+/// `download FILE`, and then `B..` and `F..`, of which each can be left out.
 #[tactic(auto, unfolding(crate::specs::Forms::download))]
 fn download(pool: &mut Pool, words: &[u8]) -> Result<Act, Unread>
     ensures value { Gives result (download (words_of words.now)) }
     ensures meant { IfOk result IsMeant }
 {
-    let file = one_word(words)?;
+    let Some((file, rest)) = next_word(words) else {
+        return Err(Unread::Outside);
+    };
     let name = read_escaped(pool, file)?;
-    Ok(Act::Download { name })
+    let (area, rest) = area_part(rest)?;
+    let (wanted, rest) = wanted_part(pool, rest)?;
+    alone(Act::Download { name, area, wanted }, rest)
+}
+
+/// `generate N`.
+#[tactic(auto, unfolding(crate::specs::Forms::generate))]
+fn generate(words: &[u8]) -> Result<Act, Unread>
+    ensures value { Gives result (generate (words_of words.now)) }
+    ensures meant { IfOk result IsMeant }
+{
+    let number = one_word(words)?;
+    let streets = streets_word(number)?;
+    Ok(Act::Generate { streets })
+}
+
+/// `import FILE`.
+#[tactic(auto, unfolding(crate::specs::Forms::import_file))]
+fn import_file(pool: &mut Pool, words: &[u8]) -> Result<Act, Unread>
+    ensures value { Gives result (import_file (words_of words.now)) }
+    ensures meant { IfOk result IsMeant }
+{
+    let name = file_word(pool, words)?;
+    Ok(Act::ImportFile { name })
+}
+
+/// `confirm FILE`.
+#[tactic(auto, unfolding(crate::specs::Forms::confirm))]
+fn confirm(pool: &mut Pool, words: &[u8]) -> Result<Act, Unread>
+    ensures value { Gives result (confirm (words_of words.now)) }
+    ensures meant { IfOk result IsMeant }
+{
+    let name = file_word(pool, words)?;
+    Ok(Act::Confirm { name })
+}
+
+/// The name of a file, alone.
+#[tactic(auto, unfolding(crate::specs::Forms::file_word))]
+fn file_word(pool: &mut Pool, words: &[u8]) -> Result<Text, Unread>
+    ensures { Gives result (file_word (words_of words.now)) }
+{
+    let file = one_word(words)?;
+    Ok(read_escaped(pool, file)?)
 }
 
 /// `node x.. y.. T..`.

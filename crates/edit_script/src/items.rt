@@ -7,13 +7,13 @@ ghost use Rattle.osm_base.specs.Number.{key_text};
 ghost use Rattle.osm_base.specs.Coord.{coord_text};
 ghost use Rattle.resolution.specs.Keys.{is_listed};
 ghost use Rattle.edit_script.specs.Answers.{Gives, IsRefused};
-ghost use Rattle.edit_script.specs.Items.{words_of, alone, one_word, two_words, three_words, without_blanks, has_location, keys_word, tags_word, refs_word, members_word, place_words, number_word, count_word, size_word, side_word, texts_of, tag_keys_of, tag_keys_word};
+ghost use Rattle.edit_script.specs.Items.{words_of, alone, one_word, two_words, three_words, four_texts, without_blanks, optional, has_location, keys_word, tags_word, refs_word, members_word, place_texts, place_words, box_between, area_text, wanted_text, number_word, count_word, streets_word, size_word, side_word, texts_of, tag_keys_of, tag_keys_word};
 
 use crate::fault::Unread;
 use opl_line::{cut, is_blank, read_members, read_refs, read_tags};
 use opl_text::{Pool, read_escaped};
 use osm_base::{
-    Coord, Key, Keys, Members, Refs, Tags, coord_of, read_coord, read_digits, read_key,
+    Area, Coord, Key, Keys, Members, Refs, Tags, coord_of, read_coord, read_digits, read_key,
 };
 use resolution::{Side, TagKeys};
 
@@ -88,6 +88,28 @@ pub fn three_words(words: &[u8]) -> Result<(&[u8], &[u8], &[u8]), Unread>
     match next_word(rest) {
         None => Ok((first, second, third)),
         Some(_) => Err(Unread::Outside),
+    }
+}
+
+/// The texts between commas, where there are four and no more.
+#[tactic(auto, using(crate::proofs::Lists::fifth_text))]
+fn four_texts(text: &[u8]) -> Result<(&[u8], &[u8], &[u8], &[u8]), Unread>
+    ensures { MatchResult result
+        (λ four. four_texts (split (is 44) text.now) ≡ Some (four.0.now, four.1.now, four.2.now, four.3.now))
+        (IsRefused (four_texts (split (is 44) text.now))) }
+{
+    let (first, Some(rest)) = cut(text, b',', b',') else {
+        return Err(Unread::Outside);
+    };
+    let (second, Some(rest)) = cut(rest, b',', b',') else {
+        return Err(Unread::Outside);
+    };
+    let (third, Some(rest)) = cut(rest, b',', b',') else {
+        return Err(Unread::Outside);
+    };
+    match cut(rest, b',', b',') {
+        (fourth, None) => Ok((first, second, third, fourth)),
+        (_, Some(_)) => Err(Unread::Outside),
     }
 }
 
@@ -186,9 +208,80 @@ pub fn place_words(x: &[u8], y: &[u8]) -> Result<Coord, Unread>
     let [b'y', lat @ ..] = y else {
         return Err(Unread::Outside);
     };
+    place_texts(lon, lat)
+}
+
+/// A longitude and a latitude.
+#[tactic(auto, unfolding(crate::specs::Items::place_texts))]
+fn place_texts(lon: &[u8], lat: &[u8]) -> Result<Coord, Unread>
+    ensures { Gives result (place_texts lon.now lat.now) }
+{
     let lon = coord_word(lon)?;
     let lat = coord_word(lat)?;
     coord_of(lon, lat).ok_or(Unread::Outside)
+}
+
+/// The box between its corners in the south-west and the north-east.
+fn box_between(low: Coord, high: Coord) -> Result<Area, Unread>
+    ensures { Gives result (box_between low high) }
+{
+    if low.lon <= high.lon && low.lat <= high.lat {
+        Ok(Area {
+            west: low.lon,
+            south: low.lat,
+            east: high.lon,
+            north: high.lat,
+        })
+    } else {
+        Err(Unread::Outside)
+    }
+}
+
+/// A box by its west, south, east and north.
+#[tactic(auto, unfolding(crate::specs::Items::area_text))]
+fn area_text(text: &[u8]) -> Result<Area, Unread>
+    ensures { Gives result (area_text text.now) }
+{
+    let (west, south, east, north) = four_texts(text)?;
+    let low = place_texts(west, south)?;
+    let high = place_texts(east, north)?;
+    box_between(low, high)
+}
+
+/// `B` and a box, where the first word begins so, and what stands behind it.
+pub fn area_part(words: &[u8]) -> Result<(Option<Area>, &[u8]), Unread>
+    ensures { MatchResult result
+        (λ found. optional 66 area_text (words_of words.now) ≡ Some (found.0, words_of found.1.now))
+        (IsRefused (optional 66 area_text (words_of words.now))) }
+{
+    match next_word(words) {
+        Some(([b'B', text @ ..], rest)) => Ok((Some(area_text(text)?), rest)),
+        _ => Ok((None, words)),
+    }
+}
+
+/// Tags, at least one.
+#[tactic(auto, unfolding(crate::specs::Items::wanted_text))]
+fn wanted_text(pool: &mut Pool, text: &[u8]) -> Result<Tags, Unread>
+    ensures { Gives result (wanted_text text.now) }
+{
+    let tags = read_tags(pool, text)?;
+    if tags.is_empty() {
+        return Err(Unread::Outside);
+    }
+    Ok(tags)
+}
+
+/// `F` and the tags that are wanted, where the first word begins so, and what stands behind it.
+pub fn wanted_part<'a>(pool: &mut Pool, words: &'a [u8]) -> Result<(Option<Tags>, &'a [u8]), Unread>
+    ensures { MatchResult result
+        (λ found. optional 70 wanted_text (words_of words.now) ≡ Some (found.0, words_of found.1.now))
+        (IsRefused (optional 70 wanted_text (words_of words.now))) }
+{
+    match next_word(words) {
+        Some(([b'F', text @ ..], rest)) => Ok((Some(wanted_text(pool, text)?), rest)),
+        _ => Ok((None, words)),
+    }
 }
 
 /// A number from 1 to the most.
@@ -210,6 +303,16 @@ pub fn count_word(word: &[u8]) -> Result<u64, Unread>
     ensures some { IfOk result (λ n. 1 ≤ n) }
 {
     number_word(word, 1_000_000)
+}
+
+/// How many streets a city has.
+pub fn streets_word(word: &[u8]) -> Result<u32, Unread>
+    ensures value { Gives result (streets_word word.now) }
+    ensures some { IfOk result (λ streets. 1 ≤ streets) }
+    ensures fits { IfOk result (λ streets. streets ≤ 100000) }
+{
+    let streets = number_word(word, 100_000)?;
+    Ok(streets as u32)
 }
 
 /// How many changes a chunk has.

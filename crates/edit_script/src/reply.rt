@@ -30,6 +30,10 @@ pub enum StepRefusal {
     IncompleteRef { key: Key, of: Key },
     /// Nothing is sent: these new relations refer to each other, so that none can be made first.
     CyclicNew(Keys),
+    /// This line of a file of answers is no answer to its change, or no change is left that it could answer.
+    WrongAnswer(u64),
+    /// A file of answers gives a new object this key, which stands in the table.
+    IdTaken(Key),
 }
 
 /// What a step replies.
@@ -57,6 +61,8 @@ impl StepRefusal {
             StepRefusal::OpenConflicts { .. } => 23,
             StepRefusal::IncompleteRef { .. } => 24,
             StepRefusal::CyclicNew(_) => 25,
+            StepRefusal::WrongAnswer(_) => 26,
+            StepRefusal::IdTaken(_) => 27,
         }
     }
 }
@@ -179,6 +185,8 @@ fn write_carried(why: &StepRefusal, out: &mut Vec<u8>) -> Result<(), AllocError>
         }
         StepRefusal::IncompleteRef { key, of } => write_two_keys(*key, *of, out),
         StepRefusal::CyclicNew(keys) => write_keys_behind(keys.as_slice(), out),
+        StepRefusal::WrongAnswer(line) => write_number_behind(*line, out),
+        StepRefusal::IdTaken(key) => write_key_behind(*key, out),
         StepRefusal::NoFile | StepRefusal::NothingToUndo | StepRefusal::NothingToRedo => Ok(()),
     }
 }
@@ -247,8 +255,8 @@ fn write_numbered(words: &[u8], number: u64, out: &mut Vec<u8>) -> Result<(), Al
 #[cfg(test)]
 mod tests {
     use super::StepRefusal::{
-        BadFile, CyclicNew, IncompleteRef, NoFile, NothingToRedo, NothingToUndo, OpenConflicts,
-        Tool,
+        BadFile, CyclicNew, IdTaken, IncompleteRef, NoFile, NothingToRedo, NothingToUndo,
+        OpenConflicts, Tool, WrongAnswer,
     };
     use super::StepReply::{Done, Refused, Skipped};
     use super::*;
@@ -291,6 +299,8 @@ mod tests {
         (22, "7 refused 22\n"),
         (23, "7 refused 23 12 n1\n"),
         (24, "7 refused 24 w-5 n1\n"),
+        (26, "7 refused 26 40\n"),
+        (27, "7 refused 27 n1\n"),
     ];
 
     fn refusal(number: u8) -> StepRefusal {
@@ -319,6 +329,8 @@ mod tests {
                 first: NODE,
             },
             24 => IncompleteRef { key: WAY, of: NODE },
+            26 => WrongAnswer(40),
+            27 => IdTaken(NODE),
             _ => NoFile,
         }
     }

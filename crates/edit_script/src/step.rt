@@ -2,7 +2,7 @@
 ghost use Rattle.std.specs.Prelude.{◌≡◌};
 ghost use Rattle.edit_script.specs.Order.{may_stand, inside_after};
 
-use osm_base::Text;
+use osm_base::{Area, Tags, Text};
 use tool_api::Job;
 
 /// What a step does.
@@ -10,8 +10,23 @@ use tool_api::Job;
 pub enum Act {
     /// Runs a job.
     Job(Job),
-    /// Takes the objects of a file into the table.
+    /// Takes the objects of a file into the table, all or a part of them.
     Download {
+        /// The name of the file.
+        name: Text,
+        /// The box from which they are taken, in units of 10^-7 degree: its west isn't beyond its east, nor its
+        /// south beyond its north.
+        area: Option<Area>,
+        /// The tags that are wanted of them, at least one.
+        wanted: Option<Tags>,
+    },
+    /// Takes the objects of a made city into the table.
+    Generate {
+        /// How many streets it has: 1 to 100,000.
+        streets: u32,
+    },
+    /// Makes the new objects of a file.
+    ImportFile {
         /// The name of the file.
         name: Text,
     },
@@ -42,6 +57,11 @@ pub enum Act {
         /// How many changes a chunk has at most: 1 to 10,000.
         size: u32,
     },
+    /// Takes in what the server answered to the changes of an upload.
+    Confirm {
+        /// The name of the file of answers.
+        name: Text,
+    },
 }
 
 /// A line of a script that does something.
@@ -60,7 +80,7 @@ impl Act {
     {
         match self {
             Act::Begin | Act::Undo { .. } | Act::Redo { .. } => !is_inside,
-            Act::Rehearse | Act::Upload { .. } => !is_inside,
+            Act::Rehearse | Act::Upload { .. } | Act::Confirm { .. } => !is_inside,
             Act::End => is_inside,
             _ => true,
         }
