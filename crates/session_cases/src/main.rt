@@ -31,7 +31,7 @@ use running::run_case;
 use std::fs;
 
 /// The bundles of cases, in the order in which they run.
-const BUNDLES: [&str; 32] = [
+const BUNDLES: [&str; 33] = [
     "reading.txt",
     "jobs.txt",
     "groups.txt",
@@ -63,6 +63,7 @@ const BUNDLES: [&str; 32] = [
     "lines.txt",
     "limits.txt",
     "words.txt",
+    "whole_upload.txt",
     "faults.txt",
 ];
 
