@@ -30,6 +30,10 @@ mod references;
 #[cfg(test)]
 mod refs;
 #[cfg(test)]
+mod replies;
+#[cfg(test)]
+mod scripts;
+#[cfg(test)]
 mod server;
 #[cfg(test)]
 mod shared_entry;
