@@ -1,0 +1,2 @@
+pub mod City
+pub mod Common
