@@ -1,2 +1,6 @@
+pub mod Examples
 pub mod Found
+pub mod FoundKept
+pub mod Passes
 pub mod Read
+pub mod Sets

@@ -1,1 +1,3 @@
+pub mod Filter
+pub mod FilterCode
 pub mod Tell

@@ -16,12 +16,22 @@ use std::alloc::{AllocError, Global};
 ///
 /// # Errors
 /// No memory was left.
-#[tactic(auto, using(crate::proofs::Found::positive_references))]
 pub fn tell(alloc: Global, objects: Objects) -> Result<ToldMap, AllocError>
     requires { AreTellable objects }
     ensures { IfOk result (λ told. told ≡ told_of objects) }
 {
-    let objects = objects.into_vec();
+    tell_objects(alloc, objects.into_vec())
+}
+
+/// What the objects tell. It costs a look-up for each object and each reference.
+///
+/// # Errors
+/// No memory was left.
+#[tactic(auto, using(crate::proofs::Found::positive_references))]
+pub fn tell_objects(alloc: Global, objects: Vec<OplObject>) -> Result<ToldMap, AllocError>
+    requires { AreTellable objects.items }
+    ensures { IfOk result (λ told. told ≡ told_of objects.items) }
+{
     let references = references(alloc, &objects)?;
     let mut told = ToldMap::with_capacity(alloc, objects.len())?;
     tell_all(&mut told, objects)?;

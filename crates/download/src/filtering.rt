@@ -1,0 +1,377 @@
+//! A part of a file: by a box, and by tags.
+//!
+//! Three passes drop what isn't kept, each as soon as it is known: ways, then nodes, then relations. Before each stands a
+//! pass that fills the set of keys by which it decides, so a set holds only keys of what is asked for, and the order of
+//! the file plays no part.
+ghost use Rattle.std.specs.Prelude.{◌≡◌, ◌≤ℤ◌, [], Some, IfOk, OnOk, filter, fold, map, pos};
+ghost use Rattle.std.specs.List.{list_any, list_all};
+ghost use Rattle.std.specs.Option.{option_copied, option_map};
+ghost use Rattle.osm_base.specs.Content.{kind_of_content, node, refs_of};
+ghost use Rattle.osm_base.specs.Meta.{empty_meta};
+ghost use Rattle.opl_file.specs.Objects.{keys_of};
+ghost use Rattle.download.specs.Tell.{references, told_of, AreTellable};
+ghost use Rattle.download.specs.Filter.{among, in_box, in_area, is_between, is_wanted, has_tags, is_near, near, is_reached, is_kept_way, is_kept_node, is_related, on_side, keeps, kept, filtered};
+ghost use Rattle.download.specs.FilterCode.{with_key, key_set, is_way, is_place, way_left, is_left, relation_left};
+
+use crate::key_set::KeySet;
+use crate::telling::tell_objects;
+use opl_file::Objects;
+use opl_line::OplObject;
+use osm_base::{Area, Content, Coord, Key, Member, Tags, Text, node_key};
+use osm_table::ToldMap;
+use std::alloc::{AllocError, Global};
+
+/// The value that stands for any value.
+const ANY_VALUE: &[u8] = b"*";
+
+/// What the part of a file tells that lies in a box and has the wanted tags, with what belongs to it.
+///
+/// Kept are the ways with the wanted tags and a node in the box, the nodes of these ways, the nodes in the box with the
+/// wanted tags, the relations that refer to one of these, and the relations that refer to one of these relations. Deleted
+/// objects are always kept, and with neither a box nor a wanted tag all is kept, in no more time than `tell` takes. What
+/// is referred to and not kept is mentioned.
+///
+/// It costs a walk over the file for each step, and a look-up for each reference and for each object in the box.
+///
+/// # Errors
+/// No memory was left.
+pub fn filter(
+    alloc: Global,
+    objects: Objects,
+    area: Option<Area>,
+    wanted: Option<&Tags>,
+) -> Result<ToldMap, AllocError>
+    requires { AreTellable objects }
+    ensures { IfOk result (λ told. told ≡ filtered objects area (option_copied wanted.entry)) }
+{
+    match wanted {
+        None => filter_by(alloc, objects, area, &Tags::new(alloc)),
+        Some(wanted) => filter_by(alloc, objects, area, wanted),
+    }
+}
+
+#[tactic(auto, using(crate::proofs::Passes::kept_tellable))]
+fn filter_by(
+    alloc: Global,
+    objects: Objects,
+    area: Option<Area>,
+    wanted: &Tags,
+) -> Result<ToldMap, AllocError>
+    requires { AreTellable objects }
+    ensures { IfOk result (λ told. told ≡ told_of (kept objects area wanted.now)) }
+{
+    let kept = kept(alloc, objects.into_vec(), area, wanted)?;
+    tell_objects(alloc, kept)
+}
+
+fn kept(
+    alloc: Global,
+    objects: Vec<OplObject>,
+    area: Option<Area>,
+    wanted: &Tags,
+) -> Result<Vec<OplObject>, AllocError>
+    ensures { IfOk result (λ left. left.items ≡ kept objects.items area wanted.now) }
+{
+    if area.is_none() && wanted.is_empty() {
+        return Ok(objects);
+    }
+    kept_part(alloc, objects, area, wanted)
+}
+
+fn kept_part(
+    alloc: Global,
+    mut objects: Vec<OplObject>,
+    area: Option<Area>,
+    wanted: &Tags,
+) -> Result<Vec<OplObject>, AllocError>
+    ensures { IfOk result (λ left. left.items ≡ filter (keeps objects.items area wanted.now) objects.items) }
+{
+    let near = near(alloc, &objects, area)?;
+    keep_ways(&mut objects, wanted, &near);
+    let of_ways = nodes_of_ways(alloc, &objects)?;
+    keep_nodes(&mut objects, area, wanted, &of_ways);
+    let places = places(alloc, &objects)?;
+    let relations = relations_to(alloc, &objects, &places)?;
+    keep_relations(&mut objects, &places, &relations);
+    objects.shrink_to_fit();
+    Ok(objects)
+}
+
+// The nodes in the box, if there is one.
+fn near(
+    alloc: Global,
+    objects: &[OplObject],
+    area: Option<Area>,
+) -> Result<Option<KeySet>, AllocError>
+    ensures { IfOk result (λ set. option_map among set ≡ near area objects.now) }
+{
+    match area {
+        None => Ok(None),
+        Some(area) => Ok(Some(nodes_in(alloc, objects, &area)?)),
+    }
+}
+
+fn nodes_in(alloc: Global, objects: &[OplObject], area: &Area) -> Result<KeySet, AllocError>
+    ensures { IfOk result (λ set. set ≡ key_set (keys_of (filter (on_side (is_near (Some area.now))) objects.now))) }
+{
+    let mut keys = KeySet::new(alloc);
+    for object in objects {
+        if is_near(&object.side, area) {
+            keys.put(object.key)?;
+        }
+    }
+    Ok(keys)
+}
+
+fn is_near(side: &Option<Content>, area: &Area) -> bool
+    ensures { result ≡ is_near (Some area.now) side.now }
+{
+    match side {
+        Some(Content::Node { at, .. }) => in_box(*at, area),
+        _ => false,
+    }
+}
+
+/// Whether a place lies in a box. The edges belong to it.
+pub fn in_box(at: Coord, area: &Area) -> bool
+    ensures { result ≡ in_box at area.now }
+{
+    is_between(area.west, area.east, at.lon) && is_between(area.south, area.north, at.lat)
+}
+
+fn is_between(least: i32, most: i32, value: i32) -> bool
+    ensures { result ≡ is_between least most value }
+{
+    least <= value && value <= most
+}
+
+/// Whether a content has all the wanted tags. The value `*` is wanted for any value, and an empty one for an empty one.
+pub fn has_tags(content: &Content, wanted: &Tags) -> bool
+    ensures { result ≡ has_tags content.now wanted.now }
+{
+    let tags = content.tags();
+    wanted.as_slice().iter().all(|tag| is_wanted(tag.1.as_bytes(), tags.get(tag.0.as_bytes())))
+}
+
+fn is_wanted(wanted: &[u8], value: Option<&[u8]>) -> bool
+    ensures { result ≡ is_wanted wanted.now (option_copied value.entry) }
+{
+    match value {
+        None => false,
+        Some(value) => wanted == ANY_VALUE || wanted == value,
+    }
+}
+
+fn keep_ways(objects: &mut Vec<OplObject>, wanted: &Tags, near: &Option<KeySet>)
+    ensures { objects.new.items ≡ filter (on_side (way_left wanted.now (option_map among near.now))) objects.old.items }
+{
+    objects.retain(|object| way_stays(&object.side, wanted, near));
+}
+
+fn way_stays(side: &Option<Content>, wanted: &Tags, near: &Option<KeySet>) -> bool
+    ensures { result ≡ way_left wanted.now (option_map among near.now) side.now }
+{
+    let Some(content) = side else {
+        return true;
+    };
+    match content {
+        Content::Way { refs, .. } => has_tags(content, wanted) && is_reached(near, refs.as_slice()),
+        _ => true,
+    }
+}
+
+#[tactic(auto, using(osm_base::proofs::AnyMap::list_any_map))]
+fn is_reached(near: &Option<KeySet>, nodes: &[i64]) -> bool
+    ensures { result ≡ is_reached (option_map among near.now) (map node nodes.now) }
+{
+    match near {
+        None => true,
+        Some(near) => has_node(near, nodes),
+    }
+}
+
+fn has_node(keys: &KeySet, ids: &[i64]) -> bool
+    ensures { result ≡ list_any (λ id. among keys.now (node id)) ids.now }
+{
+    ids.iter().any(|id| keys.contains(node_key(*id)))
+}
+
+// The nodes of the ways.
+fn nodes_of_ways(alloc: Global, objects: &[OplObject]) -> Result<KeySet, AllocError>
+    ensures { IfOk result (λ set. set ≡ key_set (references (filter (on_side is_way) objects.now))) }
+{
+    let mut keys = KeySet::new(alloc);
+    for object in objects {
+        if let Some(Content::Way { refs, .. }) = &object.side {
+            put_nodes(&mut keys, refs.as_slice())?;
+        }
+    }
+    Ok(keys)
+}
+
+fn put_nodes(keys: &mut KeySet, ids: &[i64]) -> Result<(), AllocError>
+    ensures { OnOk result (keys.new ≡ fold with_key keys.old (map node ids.now)) }
+{
+    for id in ids {
+        keys.put(node_key(*id))?;
+    }
+    Ok(())
+}
+
+fn keep_nodes(objects: &mut Vec<OplObject>, area: Option<Area>, wanted: &Tags, of_ways: &KeySet)
+    ensures { objects.new.items ≡ filter (is_left area wanted.now (among of_ways.now)) objects.old.items }
+{
+    objects.retain(|object| node_stays(object, area, wanted, of_ways));
+}
+
+fn node_stays(object: &OplObject, area: Option<Area>, wanted: &Tags, of_ways: &KeySet) -> bool
+    ensures { result ≡ is_left area wanted.now (among of_ways.now) object.now }
+{
+    let Some(content) = &object.side else {
+        return true;
+    };
+    match content {
+        Content::Node { at, .. } => {
+            in_area(*at, area) && has_tags(content, wanted) || of_ways.contains(object.key)
+        }
+        _ => true,
+    }
+}
+
+fn in_area(at: Coord, area: Option<Area>) -> bool
+    ensures { result ≡ in_area area at }
+{
+    match area {
+        None => true,
+        Some(area) => in_box(at, &area),
+    }
+}
+
+// The nodes and the ways.
+fn places(alloc: Global, objects: &[OplObject]) -> Result<KeySet, AllocError>
+    ensures { IfOk result (λ set. set ≡ key_set (keys_of (filter (on_side is_place) objects.now))) }
+{
+    let mut keys = KeySet::new(alloc);
+    for object in objects {
+        if is_place(&object.side) {
+            keys.put(object.key)?;
+        }
+    }
+    Ok(keys)
+}
+
+fn is_place(side: &Option<Content>) -> bool
+    ensures { result ≡ is_place side.now }
+{
+    match side {
+        Some(Content::Node { .. }) => true,
+        Some(Content::Way { .. }) => true,
+        _ => false,
+    }
+}
+
+// The relations that refer to one of these.
+fn relations_to(alloc: Global, objects: &[OplObject], places: &KeySet) -> Result<KeySet, AllocError>
+    ensures { IfOk result (λ set. set ≡ key_set (keys_of (filter (on_side (is_related (among places.now))) objects.now))) }
+{
+    let mut keys = KeySet::new(alloc);
+    for object in objects {
+        if is_related(&object.side, places) {
+            keys.put(object.key)?;
+        }
+    }
+    Ok(keys)
+}
+
+#[tactic(auto, using(osm_base::proofs::AnyMap::list_any_map))]
+fn is_related(side: &Option<Content>, keys: &KeySet) -> bool
+    ensures { result ≡ is_related (among keys.now) side.now }
+{
+    match side {
+        Some(Content::Relation { members, .. }) => names_one(members.as_slice(), keys),
+        _ => false,
+    }
+}
+
+fn names_one(members: &[Member], keys: &KeySet) -> bool
+    ensures { result ≡ list_any (λ member. among keys.now member.key) members.now }
+{
+    members.iter().any(|member| keys.contains(member.key))
+}
+
+fn keep_relations(objects: &mut Vec<OplObject>, places: &KeySet, relations: &KeySet)
+    ensures { objects.new.items ≡ filter (on_side (relation_left (among places.now) (among relations.now))) objects.old.items }
+{
+    objects.retain(|object| relation_stays(&object.side, places, relations));
+}
+
+fn relation_stays(side: &Option<Content>, places: &KeySet, relations: &KeySet) -> bool
+    ensures { result ≡ relation_left (among places.now) (among relations.now) side.now }
+{
+    match side {
+        Some(Content::Relation { .. }) => is_related(side, places) || is_related(side, relations),
+        _ => true,
+    }
+}
+
+#[cfg(test)]
+mod tests {
+    use super::*;
+    use osm_base::{Kind, Meta, Refs};
+    use std::test::Fail;
+
+    // w5 of n1 and n2. Each of the nodes 1 to 3 lies at a place with its number for both coordinates.
+    fn objects(alloc: Global) -> Result<Objects, AllocError>
+        ensures { IfOk result AreTellable }
+    {
+        let mut refs = Refs::new(alloc);
+        refs.push(1)?;
+        refs.push(2)?;
+        let tags = Tags::new(alloc);
+        let mut objects = Objects::new(alloc);
+        objects.push(live(alloc, Kind::Way, 5, Content::Way { tags, refs })?)?;
+        objects.push(live(alloc, Kind::Node, 1, at(alloc, 1))?)?;
+        objects.push(live(alloc, Kind::Node, 2, at(alloc, 2))?)?;
+        objects.push(live(alloc, Kind::Node, 3, at(alloc, 3))?)?;
+        Ok(objects)
+    }
+
+    fn at(alloc: Global, lon: i32) -> Content
+        requires low { pos 1 ≤ℤ lon }
+        requires high { lon ≤ℤ pos 3 }
+        ensures kind { kind_of_content result ≡ Kind.Node }
+        ensures references { refs_of result ≡ [] }
+    {
+        Content::Node {
+            tags: Tags::new(alloc),
+            at: Coord { lon, lat: lon },
+        }
+    }
+
+    fn live(alloc: Global, kind: Kind, id: i64, content: Content) -> Result<OplObject, AllocError>
+        ensures { IfOk result (λ o. o ≡ record { key = record { kind = kind; id = id }; version = 1; side = Some content; meta = empty_meta }) }
+    {
+        Ok(OplObject {
+            key: Key { kind, id },
+            version: 1,
+            side: Some(content),
+            meta: Meta::empty(alloc)?,
+        })
+    }
+
+    #[test]
+    fn keeps_what_belongs_to_the_box(rt: HostRuntime) -> Result<(), Fail> {
+        let area = Area {
+            west: 1,
+            south: 1,
+            east: 1,
+            north: 1,
+        };
+        let told = filter(rt.alloc(), objects(rt.alloc())?, Some(area), None)?;
+        assert_eq!(rt; told.len(), 3);
+        assert!(rt; told.get(node_key(2)).is_some() && told.get(node_key(3)).is_none());
+        let whole = filter(rt.alloc(), objects(rt.alloc())?, None, None)?;
+        assert_eq!(rt; whole.len(), 4);
+        Ok(())
+    }
+}
