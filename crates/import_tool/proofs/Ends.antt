@@ -1,6 +1,5 @@
 -- What an import comes to.
-use Rattle.std.proofs.Common.{◌≡◌, ◌+◌, ◌≤◌, ℕ, Bool, List, [], map, Option, Some, None, Ok, Err, sym, ap, ◌∙◌, subst, arith}
-use Rattle.std.specs.Prelude.{Result}
+use Rattle.std.proofs.Common.{◌≡◌, ◌+◌, ◌≤◌, ℕ, Bool, List, [], map, Option, Some, None, Err, sym, ap, ◌∙◌, subst, arith}
 use Rattle.std.specs.FinMap as fin
 use Rattle.osm_base.specs.declared.key.Key.{Key}
 use Rattle.osm_base.specs.declared.content.Content.{Content}
@@ -12,9 +11,9 @@ use Rattle.renamed_content.specs.Renamed.{renamed}
 use Rattle.tool_api.specs.declared.new_objects.NewObject.{NewObject}
 use Rattle.tool_api.specs.declared.refusal.Refusal.{Refusal}
 use Rattle.tool_api.specs.Checks.{◌>>◌, is_named, first_of}
-use Rattle.tool_api.specs.Changes.{Outcome, all_added}
+use Rattle.tool_api.specs.Changes.{all_added}
 use Rattle.tool_api.specs.Closing.{closing, closing_tests}
-use Rattle.tool_api.specs.Import.{AreNewObjects, file_keys, references, file_reference_test, key_named, new_keys, new_contents, import}
+use Rattle.tool_api.specs.Import.{AreNewObjects, file_keys, references, file_reference_test, new_keys, new_contents, import}
 use Rattle.import_tool.specs.Known.{Names, has, called}
 use Rattle.import_tool.proofs.Naming.{has_own, called_so}
 use Rattle.import_tool.proofs.Sounds.{import_sound}

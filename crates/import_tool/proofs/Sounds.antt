@@ -1,15 +1,13 @@
 -- The table after an import is sound where it passes the tests.
-use Rattle.std.proofs.Common.{◌≡◌, ◌||◌, ◌+◌, ◌≤◌, ◌^◌, ℕ, Bool, true, false, cond, not, is_some, nat_lt, List, [], ◌∷◌, ◌++◌, length, map, Option, Some, None, refl, sym, ap, ◌∙◌, subst, arith}
-use Rattle.std.specs.List.{AllByRecursion, list_any}
+use Rattle.std.proofs.Common.{◌≡◌, ◌||◌, ◌+◌, ◌≤◌, ℕ, Bool, true, false, cond, not, nat_lt, List, [], ◌∷◌, length, map, Option, Some, None, refl, sym, ap, ◌∙◌, subst, arith}
+use Rattle.std.specs.List.{AllByRecursion}
 use Rattle.std.specs.Option.{unwrap_or}
 use Rattle.std.specs.FinMap as fin
 use Rattle.std.proofs.lemmas.List.Folds.{list_any-append}
 use Rattle.osm_base.specs.Rank.{is_key}
-use Rattle.osm_base.specs.Content.{refs_of, refers, fits, kind_of_content}
+use Rattle.osm_base.specs.Content.{refs_of, refers, kind_of_content}
 use Rattle.osm_base.specs.declared.key.Key.{Key}
-use Rattle.osm_base.specs.declared.content.Content.{Content}
 use Rattle.osm_table.specs.declared.entry.Entry.{Entry}
-use Rattle.osm_table.specs.declared.entry.Entry.TheVariants.{Incomplete, Known}
 use Rattle.osm_table.specs.Table.{TableValue, entry_of, IsThere}
 use Rattle.dataset.specs.Sound.{IsSound}
 use Rattle.renamed_content.specs.Renamed.{renamed}
@@ -20,9 +18,9 @@ use Rattle.tool_api.specs.declared.refusal.Refusal.TheVariants.{Absent}
 use Rattle.tool_api.specs.Checks.{is_named, first_of, when, ref_entry_test}
 use Rattle.tool_api.specs.Changes.{new_key, added, all_added}
 use Rattle.tool_api.specs.Closing.{closing_tests}
-use Rattle.tool_api.specs.Import.{IsNewObject, AreNewObjects, file_keys, references, file_reference_test, new_key_of, key_named, new_contents, is_negative}
+use Rattle.tool_api.specs.Import.{IsNewObject, file_keys, references, file_reference_test, new_key_of, key_named, new_contents, is_negative}
 use Rattle.tool_api.proofs.Added.{RefersIn, next_added, there_all, at_added, fresh, new_fit, all_added_sound, number_room}
-use Rattle.tool_api.proofs.Bools.{or_left, or_right, by_bool}
+use Rattle.tool_api.proofs.Bools.{or_left, or_right}
 use Rattle.tool_api.proofs.Passed.{passes, passed_tests, keeps_fit, ref_there}
 use Rattle.import_tool.proofs.Naming.{named_kind, positive_none}
 

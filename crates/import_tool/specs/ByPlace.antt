@@ -1,5 +1,5 @@
 -- What an import leaves, object by object and key by key, with no walk.
-use Rattle.std.specs.Prelude.{◌≡◌, ℕ, ◌+◌, false, List, length, slice_get, Option, Some, None}
+use Rattle.std.specs.Prelude.{◌≡◌, ℕ, ◌+◌, false, List, length, slice_get, Some, None}
 use Rattle.osm_base.specs.declared.key.Key.{Key}
 use Rattle.osm_table.specs.declared.entry.Base.TheVariants.{New}
 use Rattle.osm_table.specs.declared.entry.Entry.TheVariants.{Known}
