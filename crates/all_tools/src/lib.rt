@@ -18,6 +18,7 @@ ghost use Rattle.all_tools.specs.Verbs.{all_verbs};
 use conflict::ResolveTool;
 use edit_history::{no_boxes, with_box};
 use edit_session::{Status, run_session};
+use import_tool::ImportTool;
 use merge_tool::MergeTool;
 use osm_outside::{Shelf, Sink};
 use std::alloc::{AllocError, Global};
@@ -88,6 +89,11 @@ pub fn run_editor<S: Shelf, K: Sink>(
         Box::new(alloc, ReverseTool::new(alloc))?,
     )?;
     let tools = with_box(tools, Verb::Merge, Box::new(alloc, MergeTool::new(alloc))?)?;
+    let tools = with_box(
+        tools,
+        Verb::Import,
+        Box::new(alloc, ImportTool::new(alloc))?,
+    )?;
     let tools = with_box(
         tools,
         Verb::Resolve,

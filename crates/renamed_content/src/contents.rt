@@ -34,11 +34,7 @@ pub fn renamed<R: Renaming>(
     }
 }
 
-fn renamed_nodes<R: Renaming>(
-    alloc: Global,
-    ids: &[i64],
-    names: &R,
-) -> Result<Vec<i64>, AllocError>
+fn renamed_nodes<R: Renaming>(alloc: Global, ids: &[i64], names: &R) -> Result<Vec<i64>, AllocError>
     ensures { IfOk result (λ list. list.items ≡ map (λ i. (R.key_named names.now (node i)).id) ids.now) }
 {
     let mut list = Vec::with_capacity(alloc, ids.len())?;

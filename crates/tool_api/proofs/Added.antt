@@ -1,9 +1,8 @@
 -- Tables with new objects: what they have, and that they are sound.
-use Rattle.std.proofs.Common.{◌≡◌, ◌||◌, ◌+◌, ◌-◌, ◌<◌, ◌≤◌, ◌^◌, ℕ, suc, ℤ, negsuc, Bool, true, false, cond, nat_lt, List, [], ◌∷◌, length, Option, Some, None, refl, sym, ap, ◌∙◌, subst, arith}
+use Rattle.std.proofs.Common.{◌≡◌, ◌||◌, ◌+◌, ◌-◌, ◌<◌, ◌≤◌, ◌^◌, ℕ, suc, negsuc, Bool, true, false, cond, nat_lt, List, [], ◌∷◌, length, Option, Some, None, refl, sym, ap, ◌∙◌, subst, arith}
 use Rattle.std.specs.List.{AllByRecursion}
 use Rattle.std.specs.Option.{option_and_then}
 use Rattle.std.specs.FinMap as fin
-use Rattle.std.proofs.lemmas.Bool.Decides.{nat_tests}
 use Rattle.osm_base.specs.Rank.{is_key}
 use Rattle.osm_base.specs.Content.{refers, fits, kind_of_content}
 use Rattle.osm_base.specs.declared.key.Key.{Key}
@@ -20,9 +19,9 @@ use Rattle.dataset.specs.Sound.{IsSound, IsSoundEntry, IdFits, LivesIn}
 use Rattle.dataset.proofs.Changes.{drafted_put, new_entry}
 use Rattle.dataset.proofs.Kept.{entry_more}
 use Rattle.tool_api.specs.Changes.{new_key, added, all_added, content_of}
-use Rattle.tool_api.specs.Closing.{makes_unfit, closing_tests}
+use Rattle.tool_api.specs.Closing.{makes_unfit}
 use Rattle.tool_api.proofs.Bools.{by_bool}
-use Rattle.tool_api.proofs.Passed.{fits_or_stays, passed_tests}
+use Rattle.tool_api.proofs.Passed.{fits_or_stays}
 use Rattle.tool_api.proofs.Sounds.{only_fits, second_false, at_most}
 
 -- What they have.

@@ -34,7 +34,7 @@ use Rattle.tool_api.specs.Gone.{mended, gone_keys, relations_left, delete_all, e
 abbrev pub n : ℕ → Key
 n i = node (pos i)
 
-abbrev pub w : ℕ → Key
+abbrev w : ℕ → Key
 w i = record { kind = kind.Way; id = pos i }
 
 abbrev new_w : Key

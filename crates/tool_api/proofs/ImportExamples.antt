@@ -1,5 +1,5 @@
 -- Worked examples of imports, on which the definitions compute.
-use Rattle.std.proofs.Common.{◌≡◌, ℕ, pos, negsuc, List, [], ◌∷◌, Option, Some, None, refl}
+use Rattle.std.proofs.Common.{◌≡◌, ℕ, pos, negsuc, List, [], ◌∷◌, Some, None, refl}
 use Rattle.std.specs.FinMap as fin
 use Rattle.osm_base.specs.Rank.{rank_cmp}
 use Rattle.osm_base.specs.RankLaws.{rank_total}
@@ -11,11 +11,10 @@ use Rattle.osm_table.specs.declared.entry.Base.TheVariants as base
 use Rattle.osm_table.specs.declared.entry.Entry.{Entry}
 use Rattle.osm_table.specs.declared.entry.Entry.TheVariants.{Known}
 use Rattle.osm_table.specs.Table.{TableValue}
-use Rattle.std.proofs.lemmas.Str.{chars-nil}
 use Rattle.tool_api.specs.declared.new_objects.NewObject.{NewObject}
 use Rattle.tool_api.specs.declared.refusal.Refusal.TheVariants.{Absent, DeletedObject, Unfit, TableFull}
 use Rattle.tool_api.specs.Import.{import}
-use Rattle.tool_api.proofs.Examples.{n, w, dot, live, server, mine_in, reply_keys, refused}
+use Rattle.tool_api.proofs.Examples.{n, dot, live, server, mine_in, reply_keys, refused}
 
 abbrev new_n : ℕ → Key
 new_n i = record { kind = kind.Node; id = negsuc i }
@@ -41,15 +40,15 @@ abbrev path : List NewObject
 path = object (new_w 1) (content.Way [] (negsuc 6 ∷ pos 1 ∷ [])) ∷ object (new_n 6) (dot []) ∷ []
 
 keys : reply_keys (import table 9 path) ≡ Some (new_w 3 ∷ new_n 4 ∷ [])
-keys = simp (chars-nil, fin.len-entries, fin.get-entries, fin.entries-insert {X = Entry} rank_total, in_table) refl
+keys = simp (fin.len-entries, fin.get-entries, fin.entries-insert {X = Entry} rank_total, in_table) refl
 
 imports : mine_in (import table 9 path)
     ≡ (n 1, Some (dot [])) ∷ (n 2, None) ∷ (new_n 4, Some (dot [])) ∷ (new_w 3, Some (content.Way [] (negsuc 4 ∷ pos 1 ∷ []))) ∷ []
-imports = simp (chars-nil, fin.len-entries, fin.get-entries, fin.entries-insert {X = Entry} rank_total, in_table) refl
+imports = simp (fin.len-entries, fin.get-entries, fin.entries-insert {X = Entry} rank_total, in_table) refl
 
 -- nothing is imported of no objects
 none : reply_keys (import table 9 []) ≡ Some []
-none = simp (chars-nil, fin.len-entries, fin.get-entries, fin.entries-insert {X = Entry} rank_total, in_table) refl
+none = simp (fin.len-entries, fin.get-entries, in_table) refl
 
 -- w-2 alone refers to an n-7 that isn't in the file
 absent : refused (import table 9 (object (new_w 1) (content.Way [] (negsuc 6 ∷ pos 9 ∷ [])) ∷ [])) ≡ Some (Absent (new_n 6))
@@ -60,7 +59,7 @@ deleted = simp (fin.get-entries, in_table) refl
 
 -- a way without nodes doesn't fit, and is named as it would be called
 unfit : refused (import table 9 (object (new_w 1) (content.Way [] []) ∷ [])) ≡ Some (Unfit (new_w 3))
-unfit = simp (chars-nil, fin.len-entries, fin.get-entries, fin.entries-insert {X = Entry} rank_total, in_table) refl
+unfit = simp (fin.len-entries, fin.get-entries, fin.entries-insert {X = Entry} rank_total, in_table) refl
 
 no_room : refused (import table 3 path) ≡ Some TableFull
-no_room = simp (chars-nil, fin.len-entries, fin.get-entries, fin.entries-insert {X = Entry} rank_total, in_table) refl
+no_room = simp (fin.len-entries, fin.get-entries, fin.entries-insert {X = Entry} rank_total, in_table) refl

@@ -1,0 +1,5 @@
+mod Naming
+mod Sounds
+mod ByPlace
+mod Ends
+mod Read

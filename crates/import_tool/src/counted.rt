@@ -1,0 +1,37 @@
+//! The new objects of a file.
+ghost use Rattle.std.specs.Prelude.{◌≡◌, IfOk};
+ghost use Rattle.import_tool.specs.Counted.{new_object, new_objects_of};
+
+use opl_file::Objects;
+use opl_line::OplObject;
+use std::alloc::{AllocError, Global};
+use tool_api::{NewObject, NewObjects};
+
+fn new_object(object: OplObject) -> Option<NewObject>
+    ensures { result ≡ new_object object }
+{
+    let OplObject { key, side, .. } = object;
+    if key.id >= 0 {
+        return None;
+    }
+    match side {
+        None => None,
+        Some(content) => Some(NewObject { key, content }),
+    }
+}
+
+/// The objects of a file that an import adds: those with a negative id that aren't deleted, in the order of the file. The
+/// contents are moved, not copied.
+///
+/// # Errors
+/// No memory was left.
+pub fn new_objects(alloc: Global, objects: Objects) -> Result<NewObjects, AllocError>
+    ensures { IfOk result (λ new. new ≡ new_objects_of objects) }
+{
+    let new = objects
+        .into_vec()
+        .into_iter()
+        .filter_map(|object| new_object(object))
+        .collect(alloc)?;
+    Ok(NewObjects::from_vec(new))
+}

@@ -1,0 +1,75 @@
+//! Imports new objects.
+ghost use Rattle.std.specs.Prelude.{◌≡◌, map, IfOk};
+ghost use Rattle.dataset.specs.Draft.{drafted};
+ghost use Rattle.dataset.specs.Sound.{IsSound};
+ghost use Rattle.renamed_content.specs.Renamed.{renamed};
+ghost use Rattle.tool_api.specs.Changes.{all_added};
+ghost use Rattle.tool_api.specs.Import.{AreNewObjects, import};
+ghost use Rattle.tool_api.specs.Planned.{Plans};
+ghost use Rattle.import_tool.specs.Known.{called};
+
+use crate::new_keys::{NewKeys, new_keys};
+use crate::reference_checks::reference_tests;
+use dataset::{DataSet, Draft};
+use renamed_content::renamed;
+use std::alloc::AllocError;
+use tool_api::{Command, Job, NewObject, Plan, Undoable, Verb, add_new, closed};
+
+/// The draft that puts the objects in order, with what their references are called.
+///
+/// # Errors
+/// No memory was left.
+fn import_draft(ds: &DataSet, objects: &[NewObject], names: &NewKeys) -> Result<Draft, AllocError>
+    requires { IsSound ds.now }
+    ensures { IfOk result (λ draft. drafted draft ds.now ≡ all_added ds.now (map (λ o. renamed (called names.now.keys.entries) o.content) objects.now)) }
+{
+    let mut draft = Draft::with_capacity(ds, objects.len())?;
+    for object in objects {
+        let content = renamed(ds.alloc(), &object.content, names)?;
+        add_new(&mut draft, content)?;
+    }
+    Ok(draft)
+}
+
+fn import_plan(ds: &DataSet, objects: &[NewObject], limit: u64) -> Result<Plan, AllocError>
+    requires sound { IsSound ds.now }
+    requires objects { AreNewObjects objects.now }
+    ensures { IfOk result (Plans ds.now (import ds.now limit objects.now)) }
+{
+    let names = NewKeys::new(ds.alloc(), objects, ds.next())?;
+    if let Some(refusal) = reference_tests(ds, &names, objects)? {
+        return Ok(Plan::Refused(refusal));
+    }
+    let made = new_keys(ds.alloc(), objects, ds.next())?;
+    let draft = import_draft(ds, objects, &names)?;
+    closed(ds, draft, &[], limit, made)
+}
+
+/// Imports new objects. Each gets the next number in the order of the file.
+///
+/// An import costs the objects and what they refer to, each with a few hashed look-ups, and a copy of them.
+#[derive(Drop)]
+pub struct Import {}
+
+impl Command for Import {
+    ghost use Rattle.tool_api.specs.declared.verb.Verb.TheVariants as verb;
+
+    ghost kind = { verb.Import };
+
+    fn new() -> Import {
+        Import {}
+    }
+
+    fn verb(&self) -> Verb {
+        Verb::Import
+    }
+
+    fn plan(&self, ds: &DataSet, job: &Job, limit: u64) -> Result<Plan, AllocError> {
+        match job {
+            Job::Import { objects } => import_plan(ds, objects.as_slice(), limit),
+            _ => unreachable!(),
+        }
+    }
+}
+
+pub type ImportTool = Undoable<Import>;
