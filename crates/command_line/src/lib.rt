@@ -88,37 +88,3 @@ fn line_of<'a>(matches: &ArgMatches<'a>) -> CommandLine<'a>
         max_file: matches.get_one("max-file").unwrap_or(DEFAULT_BYTES),
     }
 }
-
-#[cfg(test)]
-mod tests {
-    use super::*;
-    use std::test::Fail;
-
-    fn words(alloc: Global, text: &str) -> Result<Vec<String>, AllocError> {
-        let mut words = Vec::new(alloc);
-        for word in text.split(' ') {
-            words.push(String::from_str(alloc, word)?)?;
-        }
-        Ok(words)
-    }
-
-    #[test]
-    fn reads_a_name_and_both_limits(rt: HostRuntime) -> Result<(), Fail> {
-        let words = words(
-            rt.alloc(),
-            "editor --max-objects 5 town.script --max-file=1000",
-        )?;
-        let line = read_words(rt.alloc(), &words)?.ok_or("a command line")?;
-        assert!(rt; line.script == "town.script");
-        assert_eq!(rt; line.max_objects, 5);
-        assert_eq!(rt; line.max_file, 1000);
-        Ok(())
-    }
-
-    #[test]
-    fn refuses_what_it_does_not_know(rt: HostRuntime) -> Result<(), Fail> {
-        let words = words(rt.alloc(), "editor --help town.script")?;
-        assert!(rt; read_words(rt.alloc(), &words)?.is_none());
-        Ok(())
-    }
-}

@@ -237,34 +237,3 @@ fn text(alloc: Global, bytes: &[u8]) -> Result<Text, AllocError>
         Err(_) => Err(AllocError),
     }
 }
-
-#[cfg(test)]
-mod tests {
-    use super::*;
-    use osm_table::Base;
-    use std::test::Fail;
-
-    // The name of a street or the number of a route, and what it refers to.
-    fn shown(told: &ToldMap, alloc: Global, key: Key, tag: &[u8]) -> Result<String, Fail> {
-        let mut text = String::new(alloc);
-        let Some(entry) = told.get(key) else {
-            return Ok(text);
-        };
-        if let Some(Base::Live { content, .. }) = entry.base() {
-            let value = content.tags().get(tag).unwrap_or(b"");
-            text.push_str(str::from_utf8(value)?)?;
-        }
-        Ok(text)
-    }
-
-    #[test]
-    fn tells_of_streets_and_routes(rt: HostRuntime) -> Result<(), Fail> {
-        let told = sample_city(rt.alloc(), 10)?;
-        assert_eq!(rt; told.len(), 91 + 10 + 1);
-        let name = shown(&told, rt.alloc(), key(Kind::Way, 7), b"name")?;
-        assert!(rt; name.as_str() == "Street 7");
-        let number = shown(&told, rt.alloc(), key(Kind::Relation, 1), b"ref")?;
-        assert!(rt; number.as_str() == "1");
-        Ok(())
-    }
-}
