@@ -1,7 +1,7 @@
 -- The new objects of a file that was read to be imported.
 --
--- For example of a file with n-1, a deleted n-2, w5 and w-3 they are n-1 and w-3. What has a positive id, or is deleted,
--- is read and passed over.
+-- For example of a file with n-1, a deleted n-2, w5 and w-3 they are n-1 and w-3. What has a positive id, or is
+-- deleted, is read and passed over.
 use Rattle.std.specs.Prelude.{List, Option, None, if◌then◌else◌}
 use Rattle.std.specs.List.{filter_map}
 use Rattle.std.specs.Option.{option_map}

@@ -20,8 +20,8 @@ fn new_object(object: OplObject) -> Option<NewObject>
     }
 }
 
-/// The objects of a file that an import adds: those with a negative id that aren't deleted, in the order of the file. The
-/// contents are moved, not copied.
+/// The objects of a file that an import adds: those with a negative id that aren't deleted, in the order of the file.
+/// The contents are moved, not copied.
 ///
 /// # Errors
 /// No memory was left.

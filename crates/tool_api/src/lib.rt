@@ -4,11 +4,12 @@
 //! and answers a draft of the change, or a refusal. A *tool* runs jobs over the data set, keeps the patch of each that
 //! it did, and can take the last one back or do it again; `Undoable` is the tool of any command. What each job means,
 //! its reply and the new table, is one small definition in `specs/`: `plain`. A command is proved to plan just that.
+//! A job has all that it needs: that of an import has the new objects of a file (`NewObjects`), by the file's own keys.
 //!
 //! To add a command: add its variant to `Job` (and to `Refusal`, with the next number, where it refuses in a new
 //! way); write its definition in a file of `specs/` from the words of `specs/Checks`, `Changes` and `Closing`, with
 //! a worked example in `proofs/Examples`; add its line to `outcome` in `specs/Plain`; then write its `Command` over the
-//! calls of this crate: the tests, a draft of the change, and `closed`.
+//! calls of this crate: the tests, a draft of the change (`edit_all`, `delete_all`, `add_new`), and `closed`.
 #![tactic(auto)]
 
 mod additions;

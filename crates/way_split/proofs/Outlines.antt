@@ -1,32 +1,17 @@
 -- The draft of a split makes the table of the definition.
-use Rattle.std.proofs.Common.{◌≡◌, ◌+◌, ℕ, ℤ, List, [], ◌∷◌, map, Some, None, ap, ◌∙◌}
+use Rattle.std.proofs.Common.{◌≡◌, ℤ, List, [], ◌∷◌, map, ap, ◌∙◌}
 use Rattle.std.specs.FinMap as fin
-use Rattle.osm_base.specs.Content.{kind_of_content}
 use Rattle.osm_base.specs.declared.key.Key.{Key}
-use Rattle.osm_base.specs.declared.key.Kind.{Kind}
-use Rattle.osm_base.specs.declared.content.Content.{Content}
 use Rattle.osm_base.specs.declared.content.Content.TheVariants as content
-use Rattle.osm_table.specs.declared.entry.Base.TheVariants.{New}
-use Rattle.osm_table.specs.declared.entry.Entry.TheVariants.{Known}
 use Rattle.osm_table.specs.Table.{TableValue}
 use Rattle.dataset.specs.Draft.{DraftValue, drafted}
-use Rattle.dataset.proofs.Changes.{drafted_none, drafted_put}
-use Rattle.tool_api.specs.Changes.{new_key, changed, edit, added, all_added}
+use Rattle.dataset.proofs.Changes.{drafted_none}
+use Rattle.tool_api.specs.Changes.{changed, edit, all_added}
 use Rattle.tool_api.specs.Basic.{with_refs}
 use Rattle.tool_api.specs.Split.{tags_at, piece_of, others, kept_refs, relations_of, split_table}
 use Rattle.tool_api.specs.Upkeep.{PieceValue, replaced}
 use Rattle.tool_api.proofs.Looks.{next_changed}
 use Rattle.way_split.proofs.Added.{ways_of}
-
--- a new object put is one added to the draft's table
-pub added_new : (d d₁ d₂ : DraftValue) (n : ℕ) (k : Key) (kind : Kind) (c : Content) → n ≡ d.next → kind ≡ kind_of_content c → k ≡ new_key kind n → d₁ ≡ record { puts = d.puts; next = n + 1 }
-    → d₂ ≡ record { puts = fin.insert d₁.puts k (Some (Known New (Some c) None)); next = d₁.next } → (t : TableValue) → drafted d₂ t ≡ added (drafted d t) c
-added_new d d₁ d₂ n k kind c number same key first put t =
-    ap (λ (x : DraftValue). drafted x t) put
-    ∙ ap (λ (x : DraftValue). drafted (record { puts = fin.insert x.puts k (Some (Known New (Some c) None)); next = x.next }) t) first
-    ∙ drafted_put (record { puts = d.puts; next = n + 1 }) t k (Some (Known New (Some c) None))
-    ∙ ap (λ (x : Key). record { entries = fin.insert (drafted d t).entries x (Known New (Some c) None); next = n + 1 }) key
-    ∙ (λ i. record { entries = fin.insert (drafted d t).entries (new_key (same i) (number i)) (Known New (Some c) None); next = number i + 1 })
 
 -- The whole draft.
 

@@ -7,7 +7,6 @@ use mathlib.Core.Logic.{◌⊎◌, inl, inr}
 use Rattle.std.specs.List.{AllByRecursion, find}
 use Rattle.std.specs.Option.{option_map, option_map_or, option_and_then}
 use Rattle.std.specs.FinMap as fin
-use Rattle.std.proofs.lemmas.Bool.Decides.{nat_tests}
 use Rattle.osm_base.specs.Rank.{is_key}
 use Rattle.osm_base.specs.RisingKeys.{is_in}
 use Rattle.osm_base.specs.Content.{fits, kind_of_content, node}
@@ -45,7 +44,8 @@ use Rattle.tool_api.proofs.Sounds.{content_edited, each_changed, next_is}
 use Rattle.way_split.proofs.Holds.{all_pieces_hold, parts_hold, all_filtered, found_holds}
 use Rattle.way_split.proofs.Members.{has_piece, replaced_refers, replaced_kind}
 use Rattle.way_split.proofs.PartKeys.{pieces_are}
-use Rattle.way_split.proofs.Added.{RefersIn, ways_of, next_added, there_all, new_there, all_added_changed, fresh, new_fit, all_added_sound, nodes_there, there_nodes, ways_refer}
+use Rattle.tool_api.proofs.Added.{RefersIn, next_added, there_all, fresh, new_fit, all_added_sound, number_room}
+use Rattle.way_split.proofs.Added.{ways_of, new_there, all_added_changed, refer_on, nodes_there, there_nodes, ways_refer}
 use Rattle.tool_api.proofs.Bools.{and_left, by_bool, left_alone}
 
 -- What passed the target tests of a way is a living way without conflict.
@@ -220,10 +220,6 @@ parts_there t way nodes kept s lives =
     (all_pieces_hold (λ n. IsThere (entry_of t (node n))) (λ n. is_named nodes (node n)) (way_refs (content_of t way))
     (way_nodes t way (entry_of t way) lives (λ e is. s.closed way e is)))
 
-number_room : (a : Bool) (n m : ℕ) → (a || nat_lt 1000000000000000000 n) ≡ false → n ≡ m → m ≤ 10 ^ 18
-number_room true n m e is = cc
-number_room false n m e is = let h : n ≤ 1000000000000000000 = grind (arith, nat_tests) in omega arith
-
 begun_sound : (t : TableValue) (limit : ℕ) (named : List Key) (way : Key) (parts : List (Key × List ℤ)) → IsSound t → IsWay (entry_of t way) → AllByRecursion (λ (p : Key × List ℤ). AllByRecursion (λ n. IsThere (entry_of t (node n))) p.1) parts
     → closing_tests t limit named (split_table t way parts) ≡ None → IsSound (begun t way parts)
 begun_sound t limit named way parts s lives there passed =
@@ -234,9 +230,9 @@ begun_sound t limit named way parts s lives there passed =
     let room : t.next + length (news t way parts) ≤ 10 ^ 18 =
     number_room (nat_lt limit (fin.len u.entries)) u.next (t.next + length (news t way parts)) (passed_tests t u limit named passed).room
     (next_added changed_all (news t way parts) ∙ ap (λ n. n + length (news t way parts)) next) in
-    all_added_sound t t (news t way parts) s (λ r h. h)
+    all_added_sound t (news t way parts) s
     (new_fit t u changed_all (news t way parts) refl one (λ k m low. fresh t k m s (subst (λ n. n ≤ m) next low)) (λ k e has. keeps_fit t u limit named k e passed has))
-    (ways_refer t (tags_at t way) (others way parts) (all_filtered (λ (p : Key × List ℤ). AllByRecursion (λ n. IsThere (entry_of t (node n))) p.1) (λ p. not (is_key way p.0)) parts there)) room
+    (refer_on t (news t way parts) (news t way parts) (ways_refer t (tags_at t way) (others way parts) (all_filtered (λ (p : Key × List ℤ). AllByRecursion (λ n. IsThere (entry_of t (node n))) p.1) (λ p. not (is_key way p.0)) parts there))) room
 
 -- each piece's key is there in the table with the new ways
 piece_there : (t : TableValue) (way : Key) (kept : ℕ) (ps : List (List ℤ)) (r : Key) → IsSound t → IsWay (entry_of t way) → has_piece r (map (piece_of way) (keyed way kept 0 t.next ps)) ≡ true → IsThere (entry_of (begun t way (keyed way kept 0 t.next ps)) r)

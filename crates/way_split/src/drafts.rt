@@ -1,22 +1,20 @@
 //! The draft of a split: the relations, the way, the new ways.
-ghost use Rattle.std.specs.Prelude.{◌≡◌, ◌+◌, ◌≤◌, ◌<◌, ◌^◌, map, IfOk, OnOk};
+ghost use Rattle.std.specs.Prelude.{◌≡◌, ◌≤◌, ◌^◌, map, IfOk, OnOk};
 ghost use Rattle.osm_base.specs.declared.content.Content.TheVariants.{Way};
-ghost use Rattle.osm_table.specs.Table.{TableValue};
 ghost use Rattle.dataset.specs.Draft.{drafted};
 ghost use Rattle.dataset.specs.Sound.{IsSound};
 ghost use Rattle.tool_api.specs.Basic.{with_members, with_refs};
-ghost use Rattle.tool_api.specs.Changes.{added, all_added};
+ghost use Rattle.tool_api.specs.Changes.{all_added};
 ghost use Rattle.tool_api.specs.Split.{kept_refs, others, relations_of, tags_at, split_table};
 ghost use Rattle.tool_api.specs.Upkeep.{replaced};
 ghost use Rattle.relation_upkeep.specs.Replace.{piece_values};
 
-use crate::parts::{kept_refs, new_key, pieces_of};
+use crate::parts::{kept_refs, pieces_of};
 use dataset::{DataSet, Draft};
 use osm_base::{Content, Key, Members, Refs, Tags, same_key};
-use osm_table::{Base, Entry};
 use relation_upkeep::{Piece, replace_member};
 use std::alloc::AllocError;
-use tool_api::{EditContent, content_of, edit_all, is_relation};
+use tool_api::{EditContent, add_new, content_of, edit_all, is_relation};
 
 fn with_members(content: Content, new: Members) -> Content
     ensures { result ≡ with_members (λ _. new) content }
@@ -94,30 +92,6 @@ fn tags_at(ds: &DataSet, key: Key) -> Result<Tags, AllocError>
         None => Ok(Tags::new(ds.alloc())),
         Some(content) => content.tags().copy(),
     }
-}
-
-/// Puts a new object into the draft, and raises the number.
-///
-/// # Errors
-/// No memory was left.
-pub fn add_new(draft: &mut Draft, content: Content) -> Result<(), AllocError>
-    requires low { 1 ≤ draft.old.next }
-    requires high { draft.old.next < 2 ^ 63 }
-    ensures added { OnOk result ((t : TableValue) → drafted draft.new t ≡ added (drafted draft.old t) content) }
-    ensures next { OnOk result (draft.new.next ≡ draft.old.next + 1) }
-{
-    let number = draft.next();
-    let key = new_key(content.kind(), number);
-    draft.set_next(number + 1);
-    draft.put(
-        key,
-        Some(Entry::Known {
-            base: Base::New,
-            mine: Some(content),
-            conflict: None,
-        }),
-    )?;
-    Ok(())
 }
 
 /// Puts the parts that don't stay in the way into the draft, as new ways with the tags.

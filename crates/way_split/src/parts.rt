@@ -1,25 +1,13 @@
 //! The pieces of a way with their keys.
-ghost use Rattle.std.specs.Prelude.{◌≡◌, ◌≤◌, ◌<◌, ◌^◌, map, pos, IfOk};
+ghost use Rattle.std.specs.Prelude.{◌≡◌, ◌≤◌, ◌^◌, map, pos, IfOk};
 ghost use Rattle.std.specs.Option.{unwrap_or, option_copied};
-ghost use Rattle.tool_api.specs.Changes.{new_key};
 ghost use Rattle.tool_api.specs.Split.{keyed, piece_of, others, kept_refs};
 ghost use Rattle.relation_upkeep.specs.Replace.{piece_value, piece_values};
 
 use osm_base::{Key, Keys, Kind, Refs, same_key};
 use relation_upkeep::Piece;
 use std::alloc::{AllocError, Global};
-
-/// The key of the new object with a number.
-pub fn new_key(kind: Kind, number: u64) -> Key
-    requires low { 1 ≤ number }
-    requires high { number < 2 ^ 63 }
-    ensures { result ≡ new_key kind number }
-{
-    Key {
-        kind,
-        id: -(number as i64),
-    }
-}
+use tool_api::new_key;
 
 /// The pieces with their keys: the kept one has the way's, the others new ones in order, from a number on.
 ///
