@@ -1,5 +1,5 @@
 -- What is told of the city may be told.
-use Rattle.std.proofs.Common.{◌≡◌, ◌+◌, ◌-◌, ◌*◌, ◌^◌, ◌≤◌, ℕ, ℤ, pos, suc, zero, List, [], ◌∷◌, map, refl, arith}
+use Rattle.std.proofs.Common.{◌+◌, ◌-◌, ◌*◌, ◌≤◌, ℕ, pos, suc, zero, map, refl, arith}
 use Rattle.std.specs.List.{AllByRecursion, range_with_len}
 use Rattle.osm_base.specs.Content.{node}
 use Rattle.osm_base.specs.declared.key.Kind.TheVariants as kind

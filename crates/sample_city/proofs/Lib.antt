@@ -1,2 +1,5 @@
 mod Rows
 mod Allowed
+mod Found
+mod Led
+mod Examples

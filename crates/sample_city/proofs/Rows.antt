@@ -1,11 +1,11 @@
 -- Objects with the numbers of a row.
-use Rattle.std.proofs.Common.{◌≡◌, ◌∙◌, ◌+◌, ◌-◌, ◌≤◌, ◌<◌, ℕ, ℤ, pos, suc, zero, List, [], ◌∷◌, ◌++◌, map, refl, sym, ap, arith, append_assoc, append-nil}
+use Rattle.std.proofs.Common.{◌≡◌, ◌∙◌, ◌+◌, ◌-◌, ◌≤◌, ◌<◌, ℕ, ℤ, pos, suc, List, [], ◌∷◌, ◌++◌, map, sym, ap, arith, append_assoc, append-nil}
 use Rattle.std.specs.List.{range_with_len}
 use Rattle.osm_base.specs.declared.key.Kind.{Kind}
 use Rattle.osm_base.specs.declared.key.Key.{Key}
 use Rattle.osm_base.specs.declared.content.Content.{Content}
 use Rattle.osm_table.specs.Told.{ToldValue, with_told}
-use Rattle.sample_city.specs.City.{all_told, as_told, numbered, ten_from}
+use Rattle.sample_city.specs.City.{all_told, as_told, numbered}
 
 -- n objects of a kind, from the number a on
 abbrev pub row : Kind → (ℕ → Content) → ℕ → ℕ → List (Key × Content)

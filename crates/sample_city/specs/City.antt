@@ -2,7 +2,7 @@
 --
 -- For example a city of 10 streets has the nodes n1 to n91, the ways w1 to w10 along ten of them each, so that w1 `Street 1`
 -- ends at n10, where w2 begins, and the route r1 over all ten streets.
-use Rattle.std.specs.Prelude.{ℕ, ℤ, pos, ◌+◌, ◌-◌, ◌*◌, ◌/◌, ◌%◌, ◌++◌, List, [], ◌∷◌, Option, None, Some, codes, map, unwrap_or}
+use Rattle.std.specs.Prelude.{ℕ, ℤ, pos, negsuc, nat_le, ◌&&◌, if◌then◌else◌, option_map, ◌+◌, ◌-◌, ◌*◌, ◌/◌, ◌%◌, ◌++◌, List, [], ◌∷◌, Option, None, Some, codes, map, unwrap_or}
 use Rattle.std.specs.Fmt.{decimal}
 use Rattle.std.specs.List.{fold, range_with_len}
 use Rattle.std.specs.FinMap as fin
@@ -90,3 +90,26 @@ all_told so_far objects = fold (λ told object. with_told told object.0 (as_told
 -- What a city of so many streets tells.
 abbrev pub city : ℕ → ToldValue
 city streets = all_told (record { told = fin.empty; order = [] }) (objects streets)
+
+-- By look-up.
+
+-- how many objects of a kind a city has
+abbrev pub how_many : ℕ → Kind → ℕ
+how_many streets kind.Node = 9 * streets + 1
+how_many streets kind.Way = streets
+how_many streets kind.Relation = streets / 10
+
+-- the object of a kind with a number
+abbrev pub content_of : Kind → ℕ → Content
+content_of kind.Node k = junction k
+content_of kind.Way j = street j
+content_of kind.Relation q = route q
+
+-- the number that an id is, where it is from 1 to n
+abbrev pub number_in : ℕ → ℤ → Option ℕ
+number_in n (pos i) = if nat_le 1 i && nat_le i n then Some i else None
+number_in n (negsuc i) = None
+
+-- what a city of so many streets tells of a key
+abbrev pub told_by : ℕ → Key → Option Told
+told_by streets key = option_map (λ n. as_told (content_of key.kind n)) (number_in (how_many streets key.kind) key.id)

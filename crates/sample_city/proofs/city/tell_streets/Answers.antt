@@ -1,6 +1,6 @@
-use Rattle.std.proofs.Common.{◌≡◌, ◌∙◌, ◌+◌, arith, ap, ap₂, sym, subst}
+use Rattle.std.proofs.Common.{◌≡◌, ◌∙◌, ◌+◌, arith, ap, ap₂}
 use Rattle.osm_base.specs.declared.key.Kind.TheVariants as kind
-use Rattle.osm_table.specs.Told.{with_told, IsTold}
+use Rattle.osm_table.specs.Told.{with_told}
 use Rattle.sample_city.specs.City.{as_told, street, numbered}
 use Rattle.sample_city.proofs.Allowed.{street_told}
 use Rattle.sample_city.proofs.Rows.{told_more}

@@ -1,4 +1,4 @@
-use Rattle.std.proofs.Common.{rules, ◌≡◌, ◌∙◌, ◌+◌, ◌-◌, ◌++◌, ◌∷◌, [], pos, arith, ap, ap₂, sym}
+use Rattle.std.proofs.Common.{rules, ◌≡◌, ◌∙◌, ◌+◌, ◌-◌, ◌++◌, ◌∷◌, [], pos, arith, ap, sym}
 use Rattle.sample_city.specs.City.{ten_from}
 use Rattle.sample_city.proofs.Rows.{id_end, id_more, ids}
 use Rattle.sample_city.proofs.city.ten_from.Goals as goal
