@@ -17,8 +17,6 @@ mod listing;
 mod resolve;
 mod settling;
 mod showing;
-#[cfg(test)]
-mod tests;
 
 pub use listing::conflicts;
 pub use resolve::{Resolve, ResolveTool};

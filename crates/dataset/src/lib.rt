@@ -19,8 +19,6 @@ mod draft;
 mod edit;
 mod pairs;
 mod patch;
-#[cfg(test)]
-mod tests;
 mod writes;
 
 pub use dataset::DataSet;

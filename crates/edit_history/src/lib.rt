@@ -20,8 +20,6 @@ mod jobs;
 mod law;
 mod sides;
 mod stack;
-#[cfg(test)]
-mod tests;
 
 pub use boxes::{no_boxes, with_box};
 pub use counts::Group;

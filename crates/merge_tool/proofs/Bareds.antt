@@ -61,17 +61,6 @@ lost_bared n (Some (Known b None f)) = by (held_by (known_base b f)) refl
     by (Some c) e = ap (λ (x : Option Content). lost_of (cond (n && not (is_some x)) (Some Incomplete) (Some (Known b None f)))) e ∙ unnamed n (Some c) e
     by None e = ap (λ (x : Option Content). lost_of (cond (n && not (is_some x)) (Some Incomplete) (Some (Known b None f)))) e ∙ named n e
 
-pub mine_bared : (n : Bool) (o : Option Entry) → mine_at (bared n o) ≡ mine_at o
-mine_bared true None = refl
-mine_bared false None = refl
-mine_bared n (Some Incomplete) = refl
-mine_bared n (Some (Known b (Some c) f)) = refl
-mine_bared n (Some (Known b None f)) = by (n && not (is_some (held_by (known_base b f))))
-  where
-    by : (x : Bool) → mine_at (cond x (Some Incomplete) (Some (Known b None f))) ≡ None
-    by true = refl
-    by false = refl
-
 -- one name after another
 pub bared_twice : (a b : Bool) (o : Option Entry) → bared a (bared b o) ≡ bared (b || a) o
 bared_twice a true None = refl

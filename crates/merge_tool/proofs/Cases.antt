@@ -53,18 +53,6 @@ pub given : (old new : Option Entry) (s : Option Entry) → Gives old s new → 
 given old None s g = sym g
 given old (Some e) s g = sym g
 
-pub firm_is : (t : TableValue) (m : ToldEntries) (k : Key) (s : Told) (o new : Option Entry) (v : Verdict) → fin.get m k ≡ Some s → o ≡ entry_of t k → v ≡ verdict_of o s → Gives o (staged v o (theirs_told s)) new
-    → refs_by (cond (is_candidate v) None (mine_at (option_or new o))) ≡ firm_refs t m k
-firm_is t m k s o new v is look case g =
-    ap (λ (w : Verdict). refs_by (cond (is_candidate w) None (mine_at (option_or new o)))) (case_is t m k s o v is look case)
-    ∙ ap (λ (x : Option Entry). refs_by (cond (is_going t m k) None (mine_at x))) (given o new _ g ∙ stage_is t m k s o v is look case)
-
-pub going_is : (t : TableValue) (m : ToldEntries) (k : Key) (v : Verdict) → v ≡ verdict_at t m k → filter (λ j. is_candidate v) (k ∷ []) ≡ filter (is_going t m) (k ∷ [])
-going_is t m k v case = ap (λ (w : Verdict). cond (is_candidate w) (k ∷ []) []) case
-
-pub clashing_is : (t : TableValue) (m : ToldEntries) (k : Key) (v : Verdict) → v ≡ verdict_at t m k → filter (λ j. is_clash v) (k ∷ []) ≡ filter (is_clashing t m) (k ∷ [])
-clashing_is t m k v case = ap (λ (w : Verdict). cond (is_clash w) (k ∷ []) []) case
-
 pub uses_at : (o : Option Entry) (k : Key) → option_map_or (λ e. uses e k) o false ≡ refers_by (mine_at o) k
 uses_at None k = refl
 uses_at (Some e) k = refl
@@ -176,14 +164,3 @@ left_gone t m held k news going is off = is ∙ by (fin.get m k) refl going ∙ 
         ap (option_map entry_told) e
         ∙ ap Some (going_told s (entry_of t k) (candidate_is (verdict_of (entry_of t k) s) (sym (ap (λ (s : Option Told). is_candidate (verdict_by (entry_of t k) s)) e) ∙ c)))
         ∙ ap (λ (b : Base). Some (Known b None None)) (theirs_is m k s e)
-
--- where it is, it is against what is told
-pub left_held : (t : TableValue) (m : ToldEntries) (held : List Key) (k : Key) (news old new : Entry) → Some news ≡ option_map entry_told (fin.get m k) → Some old ≡ entry_of t k → new ≡ against Held (theirs_told (told_of news)) old → has is_key held k ≡ true → Some new ≡ left t m held k
-left_held t m held k news old new is look step there =
-    ap Some (step ∙ ap (λ (b : Base). against Held b old) (by (fin.get m k) refl is)) ∙ ap (option_map (against Held (theirs_at m k))) look
-    ∙ heeded (option_map (against Held (theirs_at m k)) (entry_of t k)) (Some (Known (theirs_at m k) None None)) (has is_key held k) there
-  where
-    by : (s : Option Told) → fin.get m k ≡ s → Some news ≡ option_map entry_told (fin.get m k) → theirs_told (told_of news) ≡ theirs_at m k
-    by None e h = let f : ◌≡◌ {A = Option Entry} (Some news) None = h ∙ ap (option_map entry_told) e in cc
-    by (Some s) e h = let f : ◌≡◌ {A = Option Entry} (Some news) (Some (entry_told s)) = h ∙ ap (option_map entry_told) e in let g : news ≡ entry_told s = cc in
-        ap (λ (x : Entry). theirs_told (told_of x)) g ∙ ap theirs_told (told_back s) ∙ theirs_is m k s e

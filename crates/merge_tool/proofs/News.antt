@@ -23,13 +23,6 @@ theirs_known base.New mine f = refl
 theirs_known (base.Live v c m) mine f = refl
 theirs_known (base.Gone v m) mine f = refl
 
--- what is taken is what is told
-pub taken_told : (s : Told) (o : Option Entry) (v : Verdict) → v ≢ Mention → v ≢ Stay → v ≡ verdict_of o s → entry_told s ≡ taken (theirs_told s)
-taken_told (told.Live n c m) o v a b e = refl
-taken_told (told.Gone n m) o v a b e = refl
-taken_told told.Mentioned None v a b e = absurd (a e)
-taken_told told.Mentioned (Some x) v a b e = absurd (b e)
-
 no_mention : (o : Option Entry) (n : ℕ) (c : Option Content) → Says Mention o n c → ⊥
 no_mention None n c s = let e : Mention ≡ Take = s in cc
 no_mention (Some Incomplete) n c s = let e : Mention ≡ Take = s in cc
@@ -58,10 +51,3 @@ told_going o (told.Gone n m) h = refl
 -- a candidate is told gone
 pub going_told : (s : Told) (o : Option Entry) → verdict_of o s ≡ Candidate → entry_told s ≡ Known (theirs_told s) None None
 going_told s o e = told_going o s (subst (λ (w : Verdict). SaysTold w o s) e (says o s))
-
--- the version that is told
-pub version_of_told : (o : Option Told) → version_told (option_map entry_told o) ≡ version_of (theirs_by o)
-version_of_told None = refl
-version_of_told (Some told.Mentioned) = refl
-version_of_told (Some (told.Live v c m)) = refl
-version_of_told (Some (told.Gone v m)) = refl

@@ -46,9 +46,6 @@ name_stays u k same q = by (is_key q k) refl
     by true e = sym (ap (λ (j : Key). bared true (entry_of u j)) (one_key q k e) ∙ same ∙ sym (ap (entry_of u) (one_key q k e)))
     by false e = sym (bared_none (entry_of u q))
 
-pub name_there : (u : TableValue) (k : Key) (o : Option Entry) (b : Bool) → o ≡ entry_of u k → b ≡ is_there o → b ≡ true → (q : Key) → entry_of u q ≡ bared (is_key q k) (entry_of u q)
-name_there u k o b at is there = name_stays u k (there_bared true (entry_of u k) (sym (ap is_there at) ∙ sym is ∙ there))
-
 pub name_lost : (u : TableValue) (k : Key) (o : Option Entry) (b : Bool) → o ≡ entry_of u k → b ≡ is_some (lost_of o) → b ≡ true → (q : Key) → entry_of u q ≡ bared (is_key q k) (entry_of u q)
 name_lost u k o b at is lost = name_stays u k (bared_lost true (entry_of u k) (sym (ap (λ (x : Option Entry). is_some (lost_of x)) at) ∙ sym is ∙ lost))
 

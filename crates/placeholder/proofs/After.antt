@@ -8,7 +8,8 @@ use Rattle.osm_table.specs.Table.{TableValue, entry_of, with_entry}
 use Rattle.upload_order.specs.declared.change.Change.{Change}
 use Rattle.upload_order.specs.declared.change.Change.TheVariants.{Create, Modify, Delete}
 use Rattle.upload_order.specs.Plan.{plan}
-use Rattle.upload_order.specs.Rename.{Names, called, with_id, renamed}
+use Rattle.upload_order.specs.Rename.{Names, called, with_id}
+use Rattle.renamed_content.specs.Renamed.{renamed}
 use Rattle.upload_order.specs.Run.{Ran, Ended, Stopped, on_refusal, run_from, pick_for, picks_left, picked, IsAmong, AreFresh}
 use Rattle.upload_order.specs.World.{World, Accepts, IsEdited, Refusal, IsFresh, refusal, after}
 use Rattle.upload_order.proofs.Accepted.{plan_accepted}

@@ -23,7 +23,8 @@ use Rattle.upload_order.specs.Fall.{Item, falls}
 use Rattle.upload_order.specs.Order.{without}
 use Rattle.upload_order.specs.Plan.{ups, up_of, up_entry, plain_removes, downs, down_of, version_at, plan}
 use Rattle.upload_order.specs.Refused.{is_open, vouches, keeps}
-use Rattle.upload_order.specs.Rename.{called, renamed}
+use Rattle.upload_order.specs.Rename.{called}
+use Rattle.renamed_content.specs.Renamed.{renamed}
 use Rattle.upload_order.specs.World.{World, WorldEntry, content_in, Holds, Alone, put_in}
 use Rattle.upload_order.proofs.Along.{at_is, passed, means_itself}
 use Rattle.upload_order.proofs.Basics.{decide, true_false, both, at_key_put, at_other}

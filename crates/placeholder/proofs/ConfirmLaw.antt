@@ -33,7 +33,8 @@ use Rattle.dataset.specs.Sound.{IsSound}
 use Rattle.upload_order.specs.declared.change.Change.{Change}
 use Rattle.upload_order.specs.declared.change.Change.TheVariants.{Create, Modify, Delete}
 use Rattle.upload_order.specs.Plan.{plan}
-use Rattle.upload_order.specs.Rename.{Names, called, with_id, renamed, is_positive}
+use Rattle.upload_order.specs.Rename.{Names, called, with_id, is_positive}
+use Rattle.renamed_content.specs.Renamed.{renamed}
 use Rattle.upload_order.proofs.PlanUps.{and_both}
 use Rattle.placeholder.specs.declared.answer.Answer.{Answer}
 use Rattle.placeholder.specs.declared.answer.Answer.TheVariants as answer

@@ -30,7 +30,8 @@ use Rattle.upload_order.specs.Fall.{Item, falls}
 use Rattle.upload_order.specs.Order.{without}
 use Rattle.upload_order.specs.Plan.{ups, up_of, up_entry, plain_removes, downs, down_of, version_at, plan}
 use Rattle.upload_order.specs.Refused.{is_open, vouches}
-use Rattle.upload_order.specs.Rename.{called, with_id, renamed, is_positive}
+use Rattle.upload_order.specs.Rename.{called, with_id, is_positive}
+use Rattle.renamed_content.specs.Renamed.{renamed}
 use Rattle.upload_order.specs.World.{World, WorldEntry, stands, content_in, content_at, IsSoundWorld, Holds, Alone}
 use Rattle.upload_order.proofs.Along.{at_is, passed, means_itself, not_based}
 use Rattle.upload_order.proofs.Basics.{key_same, decide, true_false, both, none_some, at_key_put, at_other}

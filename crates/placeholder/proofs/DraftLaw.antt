@@ -20,7 +20,8 @@ use Rattle.dataset.proofs.Listed.{user_uses, rises_users}
 use Rattle.upload_order.specs.declared.change.Change.TheVariants.{Create}
 use Rattle.upload_order.specs.Kinds.{held_of}
 use Rattle.upload_order.specs.Refused.{is_open}
-use Rattle.upload_order.specs.Rename.{with_id, renamed, is_positive}
+use Rattle.upload_order.specs.Rename.{with_id, is_positive}
+use Rattle.renamed_content.specs.Renamed.{renamed}
 use Rattle.upload_order.proofs.Basics.{decide, true_false}
 use Rattle.upload_order.proofs.Keys.{head_once, rises_tail}
 use Rattle.placeholder.specs.Confirmed.{moved, moved_entry, made_entry, confirmed}

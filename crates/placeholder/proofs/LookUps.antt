@@ -11,7 +11,8 @@ use Rattle.osm_table.specs.declared.entry.Entry.{Entry}
 use Rattle.osm_table.specs.Table.{TableValue, entry_of, with_entry}
 use Rattle.osm_table.proofs.Each.{get_with}
 use Rattle.upload_order.specs.declared.change.Change.TheVariants.{Create}
-use Rattle.upload_order.specs.Rename.{with_id, renamed}
+use Rattle.upload_order.specs.Rename.{with_id}
+use Rattle.renamed_content.specs.Renamed.{renamed}
 use Rattle.upload_order.proofs.Basics.{decide, none_some}
 use Rattle.placeholder.specs.Confirmed.{moved, moved_entry, moved_entries, made_entry, confirmed}
 use Rattle.placeholder.proofs.Moved.{get_moved}

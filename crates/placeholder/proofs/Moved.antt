@@ -22,7 +22,7 @@ use Rattle.upload_order.specs.Bases.{base_in, is_based}
 use Rattle.upload_order.specs.Kinds.{is_rising, is_update, is_falling, held_of}
 use Rattle.upload_order.specs.Plan.{version_at}
 use Rattle.upload_order.specs.Refused.{is_open}
-use Rattle.upload_order.specs.Rename.{renamed}
+use Rattle.renamed_content.specs.Renamed.{renamed}
 use Rattle.placeholder.specs.Confirmed.{moved_entry, moved_entries}
 
 -- the tests of an entry don't see the names

@@ -9,7 +9,8 @@ use Rattle.osm_table.specs.declared.entry.Entry.{Entry}
 use Rattle.osm_table.specs.Table.{TableValue, entry_of}
 use Rattle.upload_order.specs.declared.change.Change.{Change}
 use Rattle.upload_order.specs.declared.change.Change.TheVariants.{Create, Modify, Delete}
-use Rattle.upload_order.specs.Rename.{Names, named, called, with_id, renamed, is_positive}
+use Rattle.upload_order.specs.Rename.{Names, named, called, with_id, is_positive}
+use Rattle.renamed_content.specs.Renamed.{renamed}
 use Rattle.upload_order.proofs.Basics.{decide, true_false, none_some, both}
 use Rattle.placeholder.specs.Confirmed.{moved, based_on, moved_change, named_by, confirmed}
 use Rattle.placeholder.specs.Resumed.{left_after}

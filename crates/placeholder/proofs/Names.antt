@@ -11,7 +11,8 @@ use Rattle.osm_base.specs.declared.content.Content.TheVariants as content
 use Rattle.osm_base.proofs.RisingKeys.{one_key}
 use Rattle.upload_order.specs.declared.change.Change.{Change}
 use Rattle.upload_order.specs.declared.change.Change.TheVariants.{Create, Modify, Delete}
-use Rattle.upload_order.specs.Rename.{Names, named, with_id, called, renamed, is_positive}
+use Rattle.upload_order.specs.Rename.{Names, named, with_id, called, is_positive}
+use Rattle.renamed_content.specs.Renamed.{renamed}
 use Rattle.upload_order.specs.World.{World, WorldEntry, put_in, after}
 use Rattle.upload_order.proofs.Basics.{decide, none_some}
 use Rattle.upload_order.proofs.Renaming.{renamed_same, renamed_itself}

@@ -18,7 +18,8 @@ use Rattle.upload_order.specs.Bases.{base_in}
 use Rattle.upload_order.specs.Kinds.{is_falling, at_key, held_refers}
 use Rattle.upload_order.specs.Fall.{Item, uses_some, fall}
 use Rattle.upload_order.specs.Plan.{ups, up_of, up_entry, plain_removes, downs, down_of, version_at, later, empty_relation, plan}
-use Rattle.upload_order.specs.Rename.{called, renamed, is_positive}
+use Rattle.upload_order.specs.Rename.{called, is_positive}
+use Rattle.renamed_content.specs.Renamed.{renamed}
 use Rattle.upload_order.specs.World.{World, IsFresh, Holds, Alone, Accepts, IsEdited, refusal, after, put_in}
 use Rattle.upload_order.proofs.Accepted.{plan_accepted}
 use Rattle.upload_order.proofs.Along.{means_itself, mine_known, up_based}

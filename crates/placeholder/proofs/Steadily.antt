@@ -19,7 +19,8 @@ use Rattle.upload_order.specs.declared.change.Change.TheVariants.{Create, Modify
 use Rattle.upload_order.specs.Bases.{is_based}
 use Rattle.upload_order.specs.Plan.{plan}
 use Rattle.upload_order.specs.Refused.{is_open, upload_refusal}
-use Rattle.upload_order.specs.Rename.{Names, called, with_id, renamed, is_positive}
+use Rattle.upload_order.specs.Rename.{Names, called, with_id, is_positive}
+use Rattle.renamed_content.specs.Renamed.{renamed}
 use Rattle.upload_order.specs.Run.{pick_for, picks_left}
 use Rattle.upload_order.proofs.Along.{not_based, mine_known}
 use Rattle.upload_order.proofs.Basics.{decide, true_false, both, key_same}

@@ -17,7 +17,8 @@ use Rattle.osm_table.specs.declared.entry.Entry.TheVariants.{Incomplete, Known}
 use Rattle.osm_table.specs.Table.{TableValue, entry_of, with_entry}
 use Rattle.upload_order.specs.declared.change.Change.{Change}
 use Rattle.upload_order.specs.declared.change.Change.TheVariants.{Create, Modify, Delete}
-use Rattle.upload_order.specs.Rename.{Names, called, with_id, renamed}
+use Rattle.upload_order.specs.Rename.{Names, called, with_id}
+use Rattle.renamed_content.specs.Renamed.{renamed}
 use Rattle.upload_order.specs.Run.{pick_for, picks_left}
 
 -- a key, where the object of the placeholder got the id

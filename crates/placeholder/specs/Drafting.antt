@@ -13,7 +13,8 @@ use Rattle.osm_table.specs.Table.{TableValue, entry_of, with_entry, without_entr
 use Rattle.dataset.specs.Exact.{mine_at}
 use Rattle.upload_order.specs.declared.change.Change.{Change}
 use Rattle.upload_order.specs.Plan.{empty_relation}
-use Rattle.upload_order.specs.Rename.{with_id, renamed}
+use Rattle.upload_order.specs.Rename.{with_id}
+use Rattle.renamed_content.specs.Renamed.{renamed}
 use Rattle.placeholder.specs.declared.answer.Answer.{Answer}
 use Rattle.placeholder.specs.declared.answer.Answer.TheVariants as answer
 use Rattle.placeholder.specs.declared.fault.ConfirmFault.{ConfirmFault}

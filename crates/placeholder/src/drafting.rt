@@ -7,7 +7,8 @@ ghost use Rattle.osm_table.specs.declared.entry.Base.TheVariants.{Live, Gone};
 ghost use Rattle.osm_table.specs.Table.{entry_of, with_entry, without_entry, users};
 ghost use Rattle.dataset.specs.Draft.{drafted};
 ghost use Rattle.dataset.specs.Exact.{mine_at};
-ghost use Rattle.upload_order.specs.Rename.{renamed, with_id};
+ghost use Rattle.upload_order.specs.Rename.{with_id};
+ghost use Rattle.renamed_content.specs.Renamed.{renamed};
 ghost use Rattle.placeholder.specs.Confirmed.{based_on, made_entry, moved};
 ghost use Rattle.placeholder.specs.Drafting.{all_moved, answered_by, made_from, mine_moved_at, sent_content};
 

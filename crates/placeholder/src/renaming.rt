@@ -1,7 +1,7 @@
 //! Contents and entries whose references were renamed.
 ghost use Rattle.std.specs.Prelude.{◌≡◌, map, IfOk};
 ghost use Rattle.std.specs.Option.{option_map};
-ghost use Rattle.upload_order.specs.Rename.{renamed};
+ghost use Rattle.renamed_content.specs.Renamed.{renamed};
 ghost use Rattle.placeholder.specs.Confirmed.{moved};
 ghost use Rattle.placeholder.specs.Drafting.{with_mine, moved_member, moved_node};
 

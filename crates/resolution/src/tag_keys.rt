@@ -84,24 +84,3 @@ impl TagKeys {
         Ok(())
     }
 }
-
-#[cfg(test)]
-mod tests {
-    use super::*;
-    use std::test::Fail;
-
-    #[test]
-    fn lists_each_key_once(rt: HostRuntime) -> Result<(), Fail> {
-        let mut keys = TagKeys::new(rt.alloc());
-        assert!(rt; keys.is_empty());
-        for name in ["name", "ref", "name"] {
-            let key = Text::from_bytes(rt.alloc(), name.as_bytes())?;
-            if !key.as_bytes().is_empty() && !keys.has(key.as_bytes()) {
-                keys.push(key)?;
-            }
-        }
-        assert_eq!(rt; keys.len(), 2);
-        assert_eq!(rt; keys.key_at(1), b"ref".as_slice());
-        Ok(())
-    }
-}

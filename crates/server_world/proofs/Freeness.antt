@@ -49,10 +49,3 @@ neither : {A B : Type 0} (a : Option A) (b : Option B) → (is_some a || is_some
 neither None None e = (refl, refl)
 neither None (Some y) e = cc
 neither (Some x) b e = cc
-
--- a positive id that isn't taken is free
-pub not_taken : (w : World) (t : TableValue) (kind : Kind) (id : ℕ) → 1 ≤ id → is_taken w t kind id ≡ false → IsFreeId w t kind (pos id)
-not_taken w t kind id least free =
-    let k : Key = record { kind = kind; id = pos id } in
-    let n = neither (stands w k) (entry_of t k) free in
-    (lt-ltb 0 id (omega (arith, least)), n.0, n.1)

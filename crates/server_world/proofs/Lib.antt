@@ -3,4 +3,3 @@ mod Naming
 mod Freeness
 mod Based
 mod Rehearsals
-mod Towns

@@ -43,10 +43,6 @@ use Rattle.server_world.specs.Rehearsed.{pick_for, unless_refused, rehearsed}
 use Rattle.server_world.proofs.Based.{bases_stand}
 use Rattle.server_world.proofs.Freeness.{first_start}
 
-some_is : {A : Type 0} (o : Option A) → is_some o ≡ true → (x : A) × (o ≡ Some x)
-some_is None e = cc
-some_is (Some x) e = (x, refl)
-
 -- what stands in a map stands after one more was put
 still_some : (m : Objects) (k q : Key) (e : WorldEntry) → is_some (fin.get m q) ≡ true → is_some (fin.get (fin.insert m k e) q) ≡ true
 still_some m k q e h = elim (decide (is_key q k)) [ inl i ↦ ap is_some (at_key_put m k q e i) | inr o ↦ ap is_some (at_other m k q e o) ∙ h ]

@@ -7,4 +7,3 @@ pub mod Putting
 pub mod Free
 pub mod Rehearsed
 pub mod Starts
-pub mod Town

@@ -18,8 +18,6 @@ mod pairs;
 mod refusal;
 mod rehearsal;
 mod renaming;
-#[cfg(test)]
-mod tests;
 mod world;
 
 pub use entry::WorldEntry;

@@ -1,7 +1,8 @@
 //! Contents whose references mean what placeholders were named.
 ghost use Rattle.std.specs.Prelude.{◌≡◌, map, IfOk};
 ghost use Rattle.osm_base.specs.Content.{node};
-ghost use Rattle.upload_order.specs.Rename.{called, renamed};
+ghost use Rattle.upload_order.specs.Rename.{called};
+ghost use Rattle.renamed_content.specs.Renamed.{renamed};
 
 use crate::names::Names;
 use osm_base::{Content, Member, Members, Refs, node_key};

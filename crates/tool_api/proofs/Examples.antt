@@ -31,10 +31,10 @@ use Rattle.tool_api.specs.Changes.{Outcome}
 use Rattle.tool_api.specs.Upkeep.{PieceValue, replaced, folded}
 use Rattle.tool_api.specs.Gone.{mended, gone_keys, relations_left, delete_all, erase, purge}
 
-abbrev n : ℕ → Key
+abbrev pub n : ℕ → Key
 n i = node (pos i)
 
-abbrev w : ℕ → Key
+abbrev pub w : ℕ → Key
 w i = record { kind = kind.Way; id = pos i }
 
 abbrev new_w : Key
@@ -135,7 +135,7 @@ city = record { entries = fin.from_sorted ways; next = 1 }
 in_city : fin.entries (fin.from_sorted {R = rank_cmp} ways) ≡ ways
 in_city = fin.entries-from_sorted rank_cmp ways tt
 
-abbrev reply_keys : Result Outcome Refusal → Option (List Key)
+abbrev pub reply_keys : Result Outcome Refusal → Option (List Key)
 reply_keys (Ok new) = Some new.keys
 reply_keys (Err r) = None
 
@@ -143,16 +143,16 @@ splits : reply_keys (split city 1000 (w 10) (n 2 ∷ [])) ≡ Some (new_w ∷ []
 splits = simp (chars-nil, fin.len-entries, fin.get-entries, fin.entries-insert {X = Entry} rank_total, in_city) refl
 
 -- a village that a server knows: w1 Nn1,n2, w2 Nn3,n2, and a route over both
-abbrev server : Meta
+abbrev pub server : Meta
 server = record { changeset = 1; time = None; uid = 1; user = [] }
 
-abbrev live : Key → Content → Key × Entry
+abbrev pub live : Key → Content → Key × Entry
 live k c = (k, Known (base.Live 1 c server) (Some c) None)
 
 abbrev here : Coord
 here = record { lon = pos 0; lat = pos 0; on_map = refl }
 
-abbrev dot : List Pair → Content
+abbrev pub dot : List Pair → Content
 dot tags = content.Node tags here
 
 abbrev line : List ℕ → Content
@@ -173,11 +173,11 @@ village = record { entries = fin.from_sorted houses; next = 1 }
 in_village : fin.entries (fin.from_sorted {R = rank_cmp} houses) ≡ houses
 in_village = fin.entries-from_sorted rank_cmp houses tt
 
-abbrev mine_in : Result Outcome Refusal → List (Key × Option Content)
+abbrev pub mine_in : Result Outcome Refusal → List (Key × Option Content)
 mine_in (Ok new) = map (λ e. (e.0, mine_of e.1)) (fin.entries new.table.entries)
 mine_in (Err r) = []
 
-abbrev refused : Result Outcome Refusal → Option Refusal
+abbrev pub refused : Result Outcome Refusal → Option Refusal
 refused (Ok new) = None
 refused (Err r) = Some r
 

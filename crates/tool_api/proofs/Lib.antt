@@ -1,8 +1,10 @@
+pub mod Added
 pub mod Bools
 pub mod Bridge
 pub mod Distincts
 pub mod Ends
 pub mod Examples
+mod ImportExamples
 mod MergeExamples
 mod ResolveExamples
 mod ConflictExamples

@@ -61,7 +61,7 @@ pub named_lives : (t : TableValue) (kinds : Kinds) (ks : List Key) (k : Key) (e 
 named_lives t kinds ks k e passed named is = target_lives kinds k e (ap (entry_test kinds k) (sym is) ∙ passes (target_test t kinds) ks k passed named)
 
 -- what passed the reference tests is there
-ref_there : (r : Key) (o : Option Entry) → ref_entry_test r o ≡ None → IsThere o
+pub ref_there : (r : Key) (o : Option Entry) → ref_entry_test r o ≡ None → IsThere o
 ref_there r None e = cc
 ref_there r (Some Incomplete) e = tt
 ref_there r (Some (Known base None conflict)) e = cc

@@ -124,11 +124,11 @@ pub only_fits : (c : Content) → (fits c ≡ true) ⊎ (◌≡◌ {A = Option C
 only_fits c (inl fit) = fit
 only_fits c (inr same) = cc
 
-second_false : (a b : Bool) → (a || b) ≡ false → b ≡ false
+pub second_false : (a b : Bool) → (a || b) ≡ false → b ≡ false
 second_false true b e = cc
 second_false false b e = e
 
-at_most : (n m : ℕ) → nat_lt n m ≡ false → m ≤ n
+pub at_most : (n m : ℕ) → nat_lt n m ≡ false → m ≤ n
 at_most n m e = grind (arith, nat_tests)
 
 pub add_sound : (t : TableValue) (limit : ℕ) (named : List Key) (c : Content) → IsSound t → ref_tests t (refs_of c) ≡ None → closing_tests t limit named (added t c) ≡ None → IsSound (added t c)

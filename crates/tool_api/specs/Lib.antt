@@ -13,5 +13,6 @@ pub mod Split
 pub mod Combine
 pub mod Staged
 pub mod Merged
+pub mod Import
 pub mod Plain
 pub mod Planned

@@ -18,11 +18,13 @@ use Rattle.tool_api.specs.Gone.{delete_all, erase, purge}
 use Rattle.tool_api.specs.Split.{split}
 use Rattle.tool_api.specs.Combine.{combine}
 use Rattle.tool_api.specs.Merged.{merge}
+use Rattle.tool_api.specs.Import.{AreNewObjects, import}
 use Rattle.tool_api.specs.Resolve.{resolve}
 
--- a job that names what it has to: at least two ways to combine
+-- a job that names what it has to: at least two ways to combine, and for an import objects as a file has them
 abbrev pub IsWellFormed : Job → Type 0
 IsWellFormed (job.Combine ways) = 2 ≤ length ways
+IsWellFormed (job.Import objects) = AreNewObjects objects
 IsWellFormed j = Unit {0}
 
 -- the verb of the tool that runs a job
@@ -42,6 +44,7 @@ verb_of (job.Split way nodes) = verb.Split
 verb_of (job.Combine ways) = verb.Combine
 verb_of (job.Reverse way) = verb.Reverse
 verb_of (job.Merge told) = verb.Merge
+verb_of (job.Import objects) = verb.Import
 verb_of (job.Resolve key choice) = verb.Resolve
 
 -- a reply, and the table after it
@@ -71,6 +74,7 @@ outcome (job.Split way nodes) t limit = split t limit way nodes
 outcome (job.Combine ways) t limit = combine t limit ways
 outcome (job.Reverse way) t limit = reversed t limit way
 outcome (job.Merge told) t limit = merge t limit told
+outcome (job.Import objects) t limit = import t limit objects
 outcome (job.Resolve key choice) t limit = resolve t limit key choice
 
 -- The reply and the new table of a job.

@@ -3,7 +3,7 @@ use Rattle.std.specs.Prelude.{ℕ, Bool, List, codes}
 use denote.Enum.Bare.{sameb}
 use Rattle.tool_api.specs.contracts.verb.Verb.{the_type}
 use Rattle.tool_api.specs.declared.verb.Verb.{Verb}
-use Rattle.tool_api.specs.declared.verb.Verb.TheVariants.{Add, Tag, Move, Change, Delete, Erase, Purge, Split, Combine, Reverse, Merge, Resolve}
+use Rattle.tool_api.specs.declared.verb.Verb.TheVariants.{Add, Tag, Move, Change, Delete, Erase, Purge, Split, Combine, Reverse, Merge, Import, Resolve}
 
 -- what `==` answers at verbs
 abbrev pub same_verb : Verb → Verb → Bool
@@ -22,4 +22,5 @@ verb_name Split = codes "Split"
 verb_name Combine = codes "Combine"
 verb_name Reverse = codes "Reverse"
 verb_name Merge = codes "Merge"
+verb_name Import = codes "Import"
 verb_name Resolve = codes "Resolve"

@@ -91,10 +91,11 @@ pub fn list_tests(ds: &DataSet, kinds: Kinds, keys: &[Key]) -> Result<Option<Ref
     Ok(target_tests(ds, kinds, keys))
 }
 
-fn reference_test(key: Key, found: Option<&SharedEntry>) -> Option<Refusal>
-    ensures { result ≡ ref_entry_test key (option_copied found.entry) }
+/// The reference test of one key: Absent, DeletedObject. One look-up.
+pub fn reference_test(ds: &DataSet, key: Key) -> Option<Refusal>
+    ensures { result ≡ ref_entry_test key (entry_of ds.now key) }
 {
-    let Some(entry) = found else {
+    let Some(entry) = ds.entry(key) else {
         return Some(Refusal::Absent(key));
     };
     match entry.parts() {
@@ -108,7 +109,7 @@ pub fn reference_tests(ds: &DataSet, refs: &[Key]) -> Option<Refusal>
     ensures { result ≡ ref_tests ds.now refs.now }
 {
     for key in refs {
-        if let Some(refusal) = reference_test(*key, ds.entry(*key)) {
+        if let Some(refusal) = reference_test(ds, *key) {
             return Some(refusal);
         }
     }

@@ -2,6 +2,7 @@
 ghost use Rattle.std.specs.Prelude.{◌≡◌};
 ghost use Rattle.tool_api.specs.Plain.{verb_of};
 
+use crate::new_objects::NewObjects;
 use crate::verb::Verb;
 use osm_base::{Coord, Key, Keys, Members, Refs, Tags};
 use osm_table::ToldMap;
@@ -40,6 +41,8 @@ pub enum Job {
     Reverse { way: Key },
     /// What a download tells is taken in.
     Merge { told: ToldMap },
+    /// Objects that no server knows yet, with a file's own ids, are added together.
+    Import { objects: NewObjects },
     /// An object in conflict is settled by a choice.
     Resolve { key: Key, choice: Choice },
 }
@@ -65,6 +68,7 @@ impl Job {
             Job::Combine { .. } => Verb::Combine,
             Job::Reverse { .. } => Verb::Reverse,
             Job::Merge { .. } => Verb::Merge,
+            Job::Import { .. } => Verb::Import,
             Job::Resolve { .. } => Verb::Resolve,
         }
     }

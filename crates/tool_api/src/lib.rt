@@ -11,6 +11,7 @@
 //! calls of this crate: the tests, a draft of the change, and `closed`.
 #![tactic(auto)]
 
+mod additions;
 mod checks;
 mod closing;
 mod command;
@@ -20,6 +21,7 @@ mod edits;
 mod job;
 mod key_set;
 mod kinds;
+mod new_objects;
 mod nodes;
 mod plan;
 mod refusal;
@@ -30,8 +32,10 @@ mod undoable;
 mod uses;
 mod verb;
 
+pub use additions::{add_new, new_key};
 pub use checks::{
-    complete_test, is_named, list_tests, reference_tests, target_test, target_tests, twice_test,
+    complete_test, is_named, list_tests, reference_test, reference_tests, target_test,
+    target_tests, twice_test,
 };
 pub use closing::{closed, in_conflict, makes_unfit, room_test};
 pub use command::Command;
@@ -41,6 +45,7 @@ pub use edits::{EditContent, edit_all, edits_plan};
 pub use job::Job;
 pub use key_set::{KeySet, distinct};
 pub use kinds::Kinds;
+pub use new_objects::{NewObject, NewObjects};
 pub use nodes::node_keys;
 pub use plan::Plan;
 pub use refusal::Refusal;

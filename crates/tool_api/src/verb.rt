@@ -16,6 +16,7 @@ pub enum Verb {
     Combine,
     Reverse,
     Merge,
+    Import,
     Resolve,
 }
 
@@ -36,6 +37,7 @@ impl Verb {
             Verb::Combine => "Combine",
             Verb::Reverse => "Reverse",
             Verb::Merge => "Merge",
+            Verb::Import => "Import",
             Verb::Resolve => "Resolve",
         }
     }

@@ -104,38 +104,3 @@ impl Command for Add {
 }
 
 pub type AddTool = Undoable<Add>;
-
-#[cfg(test)]
-mod tests {
-    use super::*;
-    use osm_base::{Coord, Tags};
-    use std::test::Fail;
-    use tool_api::{Reply, Tool};
-
-    // Adds a node, and gives its id, or none where it is refused.
-    fn add_node(
-        alloc: Global,
-        tool: &mut AddTool,
-        ds: &mut DataSet,
-    ) -> Result<Option<i64>, AllocError> {
-        let job = Job::AddNode {
-            tags: Tags::new(alloc),
-            at: Coord { lon: 0, lat: 0 },
-        };
-        match tool.run(ds, &job, 3)? {
-            Reply::Done(keys) => Ok(keys.as_slice().first().map(|key| key.id)),
-            Reply::Refused(_) => Ok(None),
-        }
-    }
-
-    #[test]
-    fn adds_up_to_the_limit(rt: HostRuntime) -> Result<(), Fail> {
-        let mut ds = DataSet::new(rt.alloc());
-        let mut tool = AddTool::new(rt.alloc());
-        for want in [Some(-1), Some(-2), Some(-3), None] {
-            assert_eq!(rt; add_node(rt.alloc(), &mut tool, &mut ds)?, want);
-        }
-        assert_eq!(rt; ds.len(), 3);
-        Ok(())
-    }
-}

@@ -8,7 +8,8 @@ use Rattle.osm_table.specs.declared.entry.Entry.{Entry}
 use Rattle.osm_table.specs.declared.entry.Entry.TheVariants.{Incomplete, Known}
 use Rattle.osm_table.specs.declared.entry.Base.TheVariants.{New, Live, Gone}
 use Rattle.osm_table.specs.Table.{TableValue, entry_of, mine_of, version_of, is_new, is_incomplete}
-use Rattle.upload_order.specs.Rename.{Names, named, meant, called, with_id, renamed, is_positive}
+use Rattle.upload_order.specs.Rename.{Names, named, meant, called, with_id, is_positive}
+use Rattle.renamed_content.specs.Renamed.{renamed}
 use Rattle.upload_order.specs.Kinds.{held_of, at_key, is_rising}
 use Rattle.upload_order.specs.World.{World, stands, content_in, content_at, has_content, reaches, Backs}
 use Rattle.upload_order.proofs.Basics.{decide, true_false, both, none_some}

@@ -9,7 +9,8 @@ use Rattle.osm_table.specs.declared.entry.Entry.{Entry}
 use Rattle.osm_table.specs.declared.entry.Entry.TheVariants.{Incomplete, Known}
 use Rattle.osm_table.specs.declared.entry.Base.TheVariants.{New, Live, Gone}
 use Rattle.osm_table.specs.Table.{TableValue, entry_of, mine_of, version_of, is_new}
-use Rattle.upload_order.specs.Rename.{Names, id_meant, meant, called, with_id, renamed}
+use Rattle.upload_order.specs.Rename.{Names, id_meant, meant, called, with_id}
+use Rattle.renamed_content.specs.Renamed.{renamed}
 use Rattle.upload_order.specs.World.{World, WorldEntry, stands}
 use Rattle.upload_order.proofs.Basics.{key_same, decide, true_false, both, none_some}
 use Rattle.upload_order.proofs.Renaming.{renamed_same}

@@ -29,17 +29,6 @@ kind_is kind.Way kind.Way = true
 kind_is kind.Relation kind.Relation = true
 kind_is a b = false
 
-pub kind_one : (a b : Kind) → kind_is a b ≡ true → a ≡ b
-kind_one kind.Node kind.Node e = refl
-kind_one kind.Node kind.Way e = cc
-kind_one kind.Node kind.Relation e = cc
-kind_one kind.Way kind.Node e = cc
-kind_one kind.Way kind.Way e = refl
-kind_one kind.Way kind.Relation e = cc
-kind_one kind.Relation kind.Node e = cc
-kind_one kind.Relation kind.Way e = cc
-kind_one kind.Relation kind.Relation e = refl
-
 pub kind_self : (a : Kind) → kind_is a a ≡ true
 kind_self kind.Node = refl
 kind_self kind.Way = refl

@@ -7,7 +7,8 @@ use Rattle.osm_table.specs.declared.entry.Entry.{Entry}
 use Rattle.osm_table.specs.declared.entry.Entry.TheVariants.{Incomplete, Known}
 use Rattle.osm_table.specs.declared.entry.Base.TheVariants.{New, Live, Gone}
 use Rattle.osm_table.specs.Table.{TableValue, entry_of, mine_of, version_of, is_new, is_incomplete}
-use Rattle.upload_order.specs.Rename.{Names, meant, called, renamed}
+use Rattle.upload_order.specs.Rename.{Names, meant, called}
+use Rattle.renamed_content.specs.Renamed.{renamed}
 use Rattle.upload_order.specs.Kinds.{held_of, at_key, is_rising, is_update, is_falling}
 use Rattle.osm_base.specs.Same.{same_content}
 use Rattle.osm_base.proofs.SameLaws.{same_content_decides}
@@ -98,10 +99,6 @@ idle e r u (inr h) = true_false (is_update e) h u
 pub known_mine : (e : Entry) → is_known e ≡ true → is_incomplete e ≡ false
 known_mine Incomplete h = cc
 known_mine (Known b m d) h = refl
-
-pub based_known : (e : Entry) → is_based e ≡ true → is_known e ≡ true
-based_known Incomplete h = cc
-based_known (Known b m d) h = refl
 
 -- the falling keys, none of them emptied
 abbrev pub to_go : Bool → Option Bool

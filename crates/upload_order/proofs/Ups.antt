@@ -13,7 +13,8 @@ use Rattle.osm_table.specs.declared.entry.Base.TheVariants.{New, Live, Gone}
 use Rattle.osm_table.specs.Table.{TableValue, entry_of, mine_of, version_of, is_new}
 use Rattle.upload_order.specs.declared.change.Change.{Change}
 use Rattle.upload_order.specs.declared.change.Change.TheVariants.{Create, Modify}
-use Rattle.upload_order.specs.Rename.{named, called, with_id, renamed, is_positive}
+use Rattle.upload_order.specs.Rename.{named, called, with_id, is_positive}
+use Rattle.renamed_content.specs.Renamed.{renamed}
 use Rattle.upload_order.specs.Kinds.{held_of, at_key, is_rising}
 use Rattle.upload_order.specs.World.{World, stands, bad_ref, BadRef, Exists, Unfit, OldVersion, refusal, on_content, on_modify, after, Backs, IsFresh, Accepts}
 use Rattle.upload_order.proofs.Basics.{both, true_false}

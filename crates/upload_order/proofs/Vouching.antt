@@ -8,13 +8,16 @@ use Rattle.osm_base.specs.declared.key.Key.{Key}
 use Rattle.osm_base.specs.declared.content.Content.{Content}
 use Rattle.osm_table.specs.declared.entry.Entry.{Entry}
 use Rattle.osm_table.specs.Table.{TableValue, entry_of, is_changed, is_incomplete, is_living, keys_by_rank, mine_of, users, uses}
+use Rattle.dataset.proofs.Drafted.{none_at}
 use Rattle.dataset.proofs.Listed.{user_uses}
+use Rattle.upload_order.specs.declared.refusal.PlanRefusal.{PlanRefusal}
 use Rattle.upload_order.specs.declared.refusal.PlanRefusal.TheVariants.{IncompleteRef}
 use Rattle.upload_order.specs.Counts.{put_where}
 use Rattle.upload_order.specs.Kinds.{at_key, held_at, held_list, held_of}
 use Rattle.upload_order.specs.Part.{changed_keys}
 use Rattle.upload_order.specs.Refused.{keeps, keeps_at, vouches, vouches_at, vouched_among, is_loose, is_loose_in, loose_of, loose_among, loose_refusal, refs_sent}
 use Rattle.upload_order.proofs.Changed.{not_sent}
+use Rattle.upload_order.proofs.ClearLaw.{map_none, or_none}
 use Rattle.upload_order.proofs.FallSteps.{find_alike}
 use Rattle.upload_order.proofs.FallTurns.{in_put}
 
@@ -71,6 +74,27 @@ among_alike : (p q : Key → Bool) → ((k : Key) → p k ≡ q k) → (t : Tabl
 among_alike p q h t [] = refl
 among_alike p q h t (k ∷ ks) = λ i. option_or (option_map (IncompleteRef k) (find_alike p q h (refs_sent (entry_of t k)) i)) (among_alike p q h t ks i)
 
+find_case : (p q : Key → Bool) (k : Key) (ks : List Key) → (p k ≡ false → q k ≡ false) → (find p ks ≡ None → find q ks ≡ None) → (b : Bool) → p k ≡ b → cond b (Some k) (find p ks) ≡ None →
+    cond (q k) (Some k) (find q ks) ≡ None
+find_case p q k ks h rest true at e = cc
+find_case p q k ks h rest false at e = ap (λ b. cond b (Some k) (find q ks)) (h at) ∙ rest e
+
+find_none : (p q : Key → Bool) → ((k : Key) → p k ≡ false → q k ≡ false) → (ks : List Key) → find p ks ≡ None → find q ks ≡ None
+find_none p q h [] e = refl
+find_none p q h (k ∷ ks) e = find_case p q k ks (h k) (find_none p q h ks) (p k) refl e
+
+in_none : (i v : Bool) → (i && not false) ≡ false → (i && not v) ≡ false
+in_none false v e = refl
+in_none true v e = cc
+
+-- what isn't loose where nobody vouches for anything isn't loose at all
+pub none_looser : (t : TableValue) (s ks : List Key) → loose_among (is_loose_in t []) t ks ≡ None → loose_among (is_loose_in t s) t ks ≡ None
+none_looser t s [] e = refl
+none_looser t s (k ∷ ks) e =
+    let parts = or_none _ _ e in
+    let first = find_none (is_loose_in t []) (is_loose_in t s) (λ r. in_none (at_key t is_incomplete r) (is_in r s)) (refs_sent (entry_of t k)) (map_none (IncompleteRef k) _ parts.0) in
+    ap (λ (o : Option Key). option_or (option_map (IncompleteRef k) o) (loose_among (is_loose_in t s) t ks)) first ∙ none_looser t s ks parts.1
+
 -- of what isn't changed nothing is sent
 still_sends : (o : Option Entry) → option_map_or is_changed o false ≡ false → refs_sent o ≡ []
 still_sends None h = refl
@@ -90,6 +114,19 @@ pub loose_by_set : (t : TableValue) → loose_among (is_loose_in t (vouched_amon
 loose_by_set t =
     among_changed (is_loose_in t (vouched_among t [] (keys_by_rank t))) t (keys_by_rank t)
     ∙ among_alike (is_loose_in t (vouched_among t [] (keys_by_rank t))) (is_loose t) (loose_alike t) t (keys_by_rank t)
+
+-- where nothing sent refers to an Incomplete object, nobody has to vouch for one
+pub none_loose : (t : TableValue) (s ks : List Key) (o : Option PlanRefusal) → s ≡ [] → ks ≡ changed_keys t → o ≡ loose_among (is_loose_in t s) t ks → is_some o ≡ false → None ≡ loose_refusal t
+none_loose t s ks o empty changed is none =
+    sym (
+    sym (loose_by_set t)
+    ∙ none_looser t (vouched_among t [] (keys_by_rank t)) (changed_keys t) (
+    ap (loose_among (is_loose_in t []) t) (sym changed)
+    ∙ ap (λ (v : List Key). loose_among (is_loose_in t v) t ks) (sym empty)
+    ∙ sym is
+    ∙ none_at o none
+    )
+    )
 
 kept_case : (o : Option Content) (r : Key) → is_some o ≡ true → option_map_or (λ c. refers c r) o false ≡ keeps o r
 kept_case None r h = cc

@@ -12,7 +12,8 @@ use Rattle.osm_table.specs.declared.entry.Entry.TheVariants.{Incomplete, Known}
 use Rattle.osm_table.specs.Table.{TableValue, entry_of, mine_of, version_of, is_incomplete}
 use Rattle.upload_order.specs.declared.change.Change.{Change}
 use Rattle.upload_order.specs.declared.change.Change.TheVariants.{Create, Modify, Delete}
-use Rattle.upload_order.specs.Rename.{Names, meant, called, with_id, renamed, is_positive}
+use Rattle.upload_order.specs.Rename.{Names, meant, called, with_id, is_positive}
+use Rattle.renamed_content.specs.Renamed.{renamed}
 use Rattle.upload_order.specs.Kinds.{held_of, at_key, is_falling, is_rising}
 use Rattle.upload_order.specs.Bases.{base_in, is_based, IsHeldUser}
 

@@ -21,8 +21,8 @@ use std::alloc::{AllocError, Global};
 /// The changes that bring the edits to the server, in an order in which it can take them; or why
 /// nothing is sent.
 ///
-/// Costs a sort of all keys, three walks over the entries and one over the references of their bases, a look-up each; and
-/// of what is sent a step of log n for each object, reference and user.
+/// Costs a sort of all keys and three walks over the entries; of what is sent a step of log n for each object, reference
+/// and user; and where something sent refers to an Incomplete object a walk over the references of all bases, a look-up each.
 ///
 /// # Errors
 /// Answers the first refusal that holds, or that no memory was left.
@@ -85,41 +85,4 @@ fn relations(alloc: Global, ds: &DataSet, changed: &[Key]) -> Result<Order, Allo
     let relations = part_of(alloc, ds, changed, Part::RisingRelations)?;
     let order = order_of(alloc, ds, &relations)?;
     Ok(order)
-}
-
-#[cfg(test)]
-mod tests {
-    use super::*;
-    use crate::change::Change;
-    use osm_base::Kind;
-    use std::test::Fail;
-
-    fn sent(ds: &DataSet) -> Result<usize, AllocError> {
-        let Ok(changes) = plan(ds) else {
-            return Err(AllocError);
-        };
-        Ok(changes.len())
-    }
-
-    #[test]
-    fn a_data_set_without_objects_sends_nothing(rt: HostRuntime) -> Result<(), Fail> {
-        let ds = DataSet::new(rt.alloc());
-        assert_eq!(rt; sent(&ds)?, 0);
-        Ok(())
-    }
-
-    #[test]
-    fn changes_stand_in_order(rt: HostRuntime) -> Result<(), Fail> {
-        let mut changes = Changes::new(rt.alloc());
-        for version in [2, 5] {
-            let key = Key {
-                kind: Kind::Node,
-                id: 7,
-            };
-            changes.push(Change::Delete { key, version })?;
-        }
-        assert_eq!(rt; changes.len(), 2);
-        assert!(rt; matches!(changes.change_at(1), Change::Delete { version: 5, .. }));
-        Ok(())
-    }
 }

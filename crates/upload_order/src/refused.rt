@@ -166,7 +166,8 @@ fn loose_among(ds: &DataSet, vouched: &RankSet, keys: &[Key]) -> Option<PlanRefu
 }
 
 /// That something is sent that refers to what may not stand at the server, if it is so. The keys are all, by rank, and the
-/// changed ones of them.
+/// changed ones of them. Costs a look-up for each reference of what is sent, and where one of these is Incomplete one for
+/// each reference of a base.
 ///
 /// # Errors
 /// No memory was left.
@@ -180,6 +181,9 @@ pub fn loose_refusal(
     requires changed { changed.now ≡ changed_keys ds.now }
     ensures { IfOk result (λ r. r ≡ loose_refusal ds.now) }
 {
+    if loose_among(ds, &RankSet::new(alloc), changed).is_none() {
+        return Ok(None);
+    }
     let vouched = vouched_among(alloc, ds, keys)?;
     Ok(loose_among(ds, &vouched, changed))
 }
