@@ -4,7 +4,7 @@
 //! The sessions are data: the bundles of `BUNDLES` in the folder where it runs, one for each subject. Each has its words,
 //! its files and, behind them, what is expected of it, written from the rules of the formats. It prints `ok` and the name
 //! of each run that came as expected, else both texts, and then it ends with an error. A case more needs no code and no
-//! proof, and its lines of `stdout`.
+//! proof, and its lines of `stdout`, which `bench/cases` writes.
 //! A line that begins with `= ` directs, every other line is a line of what was begun last:
 //!
 //! - `= case NAME` begins a case,
@@ -31,7 +31,7 @@ use running::run_case;
 use std::fs;
 
 /// The bundles of cases, in the order in which they run.
-const BUNDLES: [&str; 33] = [
+const BUNDLES: [&str; 35] = [
     "reading.txt",
     "jobs.txt",
     "groups.txt",
@@ -64,6 +64,8 @@ const BUNDLES: [&str; 33] = [
     "limits.txt",
     "words.txt",
     "whole_upload.txt",
+    "hostile_files.txt",
+    "cut_files.txt",
     "faults.txt",
 ];
 
