@@ -89,9 +89,9 @@ blank_spares : SparesWords is_blank
 blank_spares = (refl, λ b least. grind (arith, nat_tests))
 
 words_are : (a : Answer) → AreWords (verb_of a ∷ others_of a)
-words_are (Create placeholder id) = (some 99 _, (key_some placeholder, (key_some (with_id placeholder id), (some 118 (49 ∷ []), tt))))
-words_are (Modify key version) = (some 109 _, (key_some key, (some 118 (decimal version), tt)))
-words_are (Delete key version) = (some 100 _, (key_some key, (some 118 (decimal version), tt)))
+words_are (Create placeholder id) = (some 99 (codes "reate"), (key_some placeholder, (key_some (with_id placeholder id), (some 118 (49 ∷ []), tt))))
+words_are (Modify key version) = (some 109 (codes "odify"), (key_some key, (some 118 (decimal version), tt)))
+words_are (Delete key version) = (some 100 (codes "elete"), (key_some key, (some 118 (decimal version), tt)))
 
 words_again : (a : Answer) → words_of (line_of a) ≡ verb_of a ∷ others_of a
 words_again a =
@@ -100,8 +100,9 @@ words_again a =
 -- ---- the ends of the line
 
 -- the bytes end with another one than these
-abbrev EndsApart : (ℕ → Bool) → List ℕ → Type 0
-EndsApart ends bytes = (0 < length bytes) × (ends (slice_index bytes (length bytes - 1)) ≡ false)
+record EndsApart (ends : ℕ → Bool) (bytes : List ℕ) : Type 0 where
+  some : 0 < length bytes
+  last : ends (slice_index bytes (length bytes - 1)) ≡ false
 
 unbroken_at : (ends : ℕ → Bool) (bytes : List ℕ) (k : ℕ) → Unbroken ends bytes → k < length bytes → ends (get_or bytes k 0) ≡ false
 unbroken_at ends [] k h below = absurd (omega arith)
@@ -109,12 +110,12 @@ unbroken_at ends (b ∷ bytes) zero h below = h.0
 unbroken_at ends (b ∷ bytes) (suc k) h below = unbroken_at ends bytes k h.1 (omega arith)
 
 ends_unbroken : (ends : ℕ → Bool) (byte : ℕ) (bytes : List ℕ) → Unbroken ends (byte ∷ bytes) → EndsApart ends (byte ∷ bytes)
-ends_unbroken ends byte bytes h = (omega arith, unbroken_at ends (byte ∷ bytes) (length (byte ∷ bytes) - 1) h (omega arith))
+ends_unbroken ends byte bytes h = record { some = omega arith; last = unbroken_at ends (byte ∷ bytes) (length (byte ∷ bytes) - 1) h (omega arith) }
 
 ends_more : (ends : ℕ → Bool) (byte : ℕ) (bytes : List ℕ) → EndsApart ends bytes → EndsApart ends (byte ∷ bytes)
 ends_more ends byte bytes h =
-    let at : length (byte ∷ bytes) - 1 ≡ suc (length bytes - 1) = omega (arith, h.0) in
-    (omega arith, ap (λ (k : ℕ). ends (slice_index (byte ∷ bytes) k)) at ∙ h.1)
+    let at : length (byte ∷ bytes) - 1 ≡ suc (length bytes - 1) = omega (arith, h.some) in
+    record { some = omega arith; last = ap (λ (k : ℕ). ends (slice_index (byte ∷ bytes) k)) at ∙ h.last }
 
 ends_behind : (ends : ℕ → Bool) (a b : List ℕ) → EndsApart ends b → EndsApart ends (a ++ b)
 ends_behind ends [] b h = h
@@ -144,7 +145,7 @@ begins_apart (Modify key version) = refl
 begins_apart (Delete key version) = refl
 
 no_outer_blank : (a : Answer) → has_outer_blank (line_of a) ≡ false
-no_outer_blank a = rw (begins_apart a, (line_ends a).1) refl
+no_outer_blank a = rw (begins_apart a, (line_ends a).last) refl
 
 pub line_freed : (a : Answer) → freed (line_of a) ≡ line_of a
 line_freed a = freed_same (line_of a) (line_unbroken (is 13) a (refl, λ b least. grind (arith, nat_tests)) refl)
