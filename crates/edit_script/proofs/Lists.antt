@@ -1,10 +1,13 @@
 -- What was read so far, and what is left.
 use Rattle.std.proofs.Common.{◌≡◌, ℕ, ◌+◌, Bool, true, List, [], ◌∷◌, ◌++◌, Option, Some, None, Result, Ok, Err, refl, ap, append_assoc, sym, ◌∙◌}
 use Rattle.opl_text.specs.Time.{◌>>=◌}
+use Rattle.opl_line.specs.Cut.{split}
+use Rattle.opl_line.specs.Field.{is}
+use Rattle.opl_line.proofs.Fronts.{split_front}
 use Rattle.edit_script.specs.declared.line.ScriptLine.TheVariants.{Asks}
 use Rattle.edit_script.specs.declared.step.Act.{Act}
 use Rattle.edit_script.specs.declared.step.Step.{Step}
-use Rattle.edit_script.specs.Items.{all_of}
+use Rattle.edit_script.specs.Items.{all_of, four_texts}
 use Rattle.edit_script.specs.Order.{may_stand, inside_after}
 use Rattle.edit_script.specs.Script.{onto_steps, after_act, after_line, line_of, steps_from}
 
@@ -28,6 +31,10 @@ onto_items-more read front x text texts e = rw e (more_items front x (all_of rea
 -- a text that isn't read ends it
 pub onto_items-none : {A : Type 0} (read : List ℕ → Option A) (front : List A) (text : List ℕ) (texts : List (List ℕ)) → read text ≡ None → onto_items front (all_of read (text ∷ texts)) ≡ None
 onto_items-none read front text texts e = rw e refl
+
+-- behind a fourth comma stands a fifth text, which may be empty
+pub fifth_text : (first second third fourth rest : List ℕ) → four_texts (first ∷ second ∷ third ∷ fourth ∷ split (is 44) rest) ≡ None
+fifth_text first second third fourth rest = rw (split_front (is 44) rest) refl
 
 -- steps before the others, unless there is a bad line
 abbrev pub onto_front : List Step → Result (List Step) ℕ → Result (List Step) ℕ

@@ -11,6 +11,7 @@ use Rattle.opl_line.specs.Cut.{split, before, after}
 use Rattle.opl_line.specs.Field.{is}
 use Rattle.opl_line.proofs.Fronts.{pieces_behind, split_front}
 use Rattle.resolution.specs.Keys.{is_listed, are_tag_keys}
+use Rattle.tool_api.proofs.Bools.{left_alone}
 use Rattle.edit_script.specs.Items.{all_of, tag_keys_of}
 use Rattle.edit_script.proofs.Lists.{onto_items, onto_items-more}
 
@@ -26,10 +27,6 @@ listed_inside : (front more : List (List ℕ)) (key x : List ℕ) → same_text 
 listed_inside [] more key x like = rw like refl
 listed_inside (first ∷ front) more key x like = rw (listed_inside front more key x like) (or-true (same_text first x))
 
-or_nothing : (b : Bool) → (b || false) ≡ true → b ≡ true
-or_nothing true e = refl
-or_nothing false e = e
-
 some_bytes : (byte : ℕ) (bytes : List ℕ) → (length (byte ∷ bytes) == 0) ≡ true → ⊥
 some_bytes byte bytes none = grind (arith, nat_tests, none)
 
@@ -42,7 +39,7 @@ not_keys_behind first front more key false e none fewer =
 -- keys of which one adds none are no keys of tags
 not_keys : (front more : List (List ℕ)) (key : List ℕ) → adds_no_key front key ≡ true → are_tag_keys (front ++ key ∷ more) ≡ false
 not_keys [] more [] none = refl
-not_keys [] more (byte ∷ bytes) none = absurd (some_bytes byte bytes (or_nothing _ none))
+not_keys [] more (byte ∷ bytes) none = absurd (some_bytes byte bytes (left_alone _ none))
 not_keys (first ∷ front) more key none = not_keys_behind first front more key (same_text first key) refl none (not_keys front more key)
 
 -- the keys, if they are keys of tags

@@ -16,7 +16,7 @@ use Rattle.edit_script.specs.declared.step.Act.{Act}
 use Rattle.edit_script.specs.declared.step.Act.TheVariants as act
 use Rattle.edit_script.specs.Items.{alone, one_word, two_words, three_words, optional, area_text, wanted_text, keys_word, tags_word, refs_word, members_word, place_words, count_word, streets_word, size_word, side_word, tag_keys_word}
 
--- a file: no word is empty, and so no name that one spells
+-- the name of a file, alone: no word is empty, and so no name that one spells
 unfoldable pub file_word : List (List ℕ) → Option (List ℕ)
 file_word words = do
   file ← one_word words

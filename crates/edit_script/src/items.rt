@@ -92,6 +92,7 @@ pub fn three_words(words: &[u8]) -> Result<(&[u8], &[u8], &[u8]), Unread>
 }
 
 /// The texts between commas, where there are four and no more.
+#[tactic(auto, using(crate::proofs::Lists::fifth_text))]
 fn four_texts(text: &[u8]) -> Result<(&[u8], &[u8], &[u8], &[u8]), Unread>
     ensures { MatchResult result
         (λ four. four_texts (split (is 44) text.now) ≡ Some (four.0.now, four.1.now, four.2.now, four.3.now))
@@ -106,10 +107,10 @@ fn four_texts(text: &[u8]) -> Result<(&[u8], &[u8], &[u8], &[u8]), Unread>
     let (third, Some(rest)) = cut(rest, b',', b',') else {
         return Err(Unread::Outside);
     };
-    let (fourth, None) = cut(rest, b',', b',') else {
-        return Err(Unread::Outside);
-    };
-    Ok((first, second, third, fourth))
+    match cut(rest, b',', b',') {
+        (fourth, None) => Ok((first, second, third, fourth)),
+        (_, Some(_)) => Err(Unread::Outside),
+    }
 }
 
 /// What stands behind the blanks at the front.

@@ -9,7 +9,8 @@
 //!
 //! The first word of a line finds its form. A new line wants a definition in `specs/Forms` and a
 //! function of that name in `forms.rt`, which read the words behind the first one; its word in one of
-//! the lists of words there; and an example in `proofs/Examples`.
+//! the lists of words there; and an example in `proofs/Examples`. A word that can be left out begins with
+//! a letter of its own, and is read by `optional` of `specs/Items`.
 #![tactic(auto)]
 
 mod fault;
@@ -20,7 +21,9 @@ mod reply;
 mod script;
 mod step;
 
-pub use fault::ScriptFault;
+pub use fault::{ScriptFault, Unread};
+pub use items::{key_word, next_word, three_words, two_words};
+pub use line::{has_outer_blank, is_skipped, next_line};
 pub use reply::{StepRefusal, StepReply, write_reply};
 pub use script::read_script;
 pub use step::{Act, Step};

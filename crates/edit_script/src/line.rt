@@ -59,7 +59,8 @@ fn kind_of_line(pool: &mut Pool, line: &[u8]) -> Result<ScriptLine, Unread>
     Ok(ScriptLine::Asks(act))
 }
 
-fn is_skipped(line: &[u8]) -> bool
+/// Whether it is nothing but blanks, or a comment.
+pub fn is_skipped(line: &[u8]) -> bool
     ensures value { result ≡ is_skipped line.now }
     ensures some { result ≡ false → 0 < length line.now }
 {
@@ -72,7 +73,8 @@ fn all_blank(line: &[u8]) -> bool
     line.iter().all(|byte| is_blank(*byte))
 }
 
-fn has_outer_blank(line: &[u8]) -> bool
+/// Whether a blank stands before its first word or behind its last.
+pub fn has_outer_blank(line: &[u8]) -> bool
     requires { 0 < length line.now }
     ensures { result ≡ has_outer_blank line.now }
 {
