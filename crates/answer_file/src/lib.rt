@@ -13,8 +13,6 @@ mod fault;
 mod laws;
 mod line;
 mod reading;
-#[cfg(test)]
-mod tests;
 
 pub use confirming::confirm_file;
 pub use fault::AnswerFault;

@@ -118,25 +118,3 @@ pub fn confirm(ds: &DataSet, answers: &[Answer]) -> Result<Patch, ConfirmFault>
     let patch = ds.patch_of(&draft)?;
     Ok(patch)
 }
-
-#[cfg(test)]
-mod tests {
-    use super::*;
-    use std::alloc::AllocError;
-    use std::test::Fail;
-
-    // How many objects the answers to no change concern.
-    fn confirmed_edits(ds: &DataSet) -> Result<usize, AllocError> {
-        let Ok(patch) = confirm(ds, &[]) else {
-            return Err(AllocError);
-        };
-        Ok(patch.len())
-    }
-
-    #[test]
-    fn no_answers_change_nothing(rt: HostRuntime) -> Result<(), Fail> {
-        let ds = DataSet::new(rt.alloc());
-        assert_eq!(rt; confirmed_edits(&ds)?, 0);
-        Ok(())
-    }
-}
