@@ -1,9 +1,8 @@
 -- Worked examples.
-use Rattle.std.proofs.Common.{◌≡◌, ℕ, pos, negsuc, [], ◌∷◌, None, Some, refl}
+use Rattle.std.proofs.Common.{◌≡◌, pos, negsuc, [], ◌∷◌, None, Some, refl}
 use Rattle.std.specs.Prelude.{codes}
 use Rattle.osm_base.specs.Number.{number_text, id_text, kind_letter, key_text}
 use Rattle.osm_base.specs.declared.key.Kind.TheVariants as kind
-use Rattle.osm_base.specs.declared.key.Key.{Key}
 use Rattle.placeholder.specs.declared.answer.Answer.TheVariants.{Create, Modify, Delete}
 use Rattle.answer_file.specs.Answers.{answers_of}
 use Rattle.answer_file.specs.Lines.{answer_form, answer_of, created, deleted, modified, version_word}

@@ -1,15 +1,13 @@
 -- The line of an answer is read back.
-use Rattle.std.proofs.Common.{◌≡◌, ℕ, ℤ, zero, suc, ◌+◌, ◌-◌, ◌<◌, ◌≤◌, ◌^◌, ◌==◌, ◌&&◌, Bool, true, false, get_or, List, [], ◌∷◌, ◌++◌, length, filter, Option, Some, None, refl, sym, ap, subst, ◌∙◌, arith, length-append}
+use Rattle.std.proofs.Common.{◌≡◌, ℕ, ℤ, zero, suc, ◌-◌, ◌<◌, ◌≤◌, ◌^◌, ◌==◌, Bool, true, false, get_or, List, [], ◌∷◌, ◌++◌, length, filter, Some, refl, sym, ap, subst, ◌∙◌, arith}
 use Rattle.std.specs.Prelude.{codes, decimal, slice_index, nat_lt}
-use Rattle.std.specs.Str.{bytes_eq}
 use Rattle.std.specs.Fmt.{signed_decimal}
 use Rattle.std.proofs.lemmas.Fmt.{first_decimal}
 use Rattle.std.proofs.lemmas.Bool.Decides.{nat_tests}
-use Rattle.osm_base.specs.Number.{IsId, key_text, key_written, letter_of, number_text}
+use Rattle.osm_base.specs.Number.{IsId, key_written, letter_of, number_text}
 use Rattle.osm_base.specs.declared.key.Key.{Key}
 use Rattle.osm_base.proofs.KeyLaw.{key_again, number_again}
 use Rattle.osm_base.proofs.RisingKeys.{key_itself}
-use Rattle.opl_line.specs.Cut.{split}
 use Rattle.opl_line.specs.Field.{is}
 use Rattle.opl_line.specs.Line.{is_blank, freed}
 use Rattle.opl_line.specs.Written.{spaced}

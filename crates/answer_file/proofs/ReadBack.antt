@@ -1,6 +1,5 @@
 -- The text of answers is read back.
-use Rattle.std.proofs.Common.{◌≡◌, ℕ, ◌+◌, List, [], ◌∷◌, ◌++◌, Some, None, refl, sym, ap, ◌∙◌}
-use Rattle.opl_line.specs.Line.{freed}
+use Rattle.std.proofs.Common.{◌≡◌, ℕ, ◌+◌, List, [], ◌∷◌, Some, None, refl, ap, ◌∙◌}
 use Rattle.opl_file.specs.Cut.{lines_of}
 use Rattle.edit_script.specs.Script.{is_skipped}
 use Rattle.edit_script.proofs.Cutting.{lines_of-line}

@@ -1,5 +1,5 @@
 -- What was read of a file, and what is left.
-use Rattle.std.proofs.Common.{◌≡◌, ℕ, ◌+◌, ◌≤◌, true, false, cond, List, [], ◌∷◌, ◌++◌, length, Option, Some, None, Result, Ok, Err, refl, sym, ap, subst, ◌∙◌, append_assoc, append-nil, arith}
+use Rattle.std.proofs.Common.{◌≡◌, ℕ, ◌+◌, true, false, cond, List, [], ◌∷◌, ◌++◌, length, Option, Some, None, Result, Ok, Err, refl, sym, ap, subst, ◌∙◌, append_assoc, append-nil, arith}
 use Rattle.dataset.specs.Patch.{PatchValue}
 use Rattle.opl_line.specs.Line.{freed}
 use Rattle.edit_script.specs.Script.{is_skipped}
@@ -8,7 +8,6 @@ use Rattle.placeholder.specs.declared.answer.Answer.{Answer}
 use Rattle.placeholder.specs.declared.fault.ConfirmFault.{ConfirmFault}
 use Rattle.placeholder.specs.declared.fault.ConfirmFault.TheVariants as confirm
 use Rattle.placeholder.specs.Confirm as placeholder
-use Rattle.answer_file.specs.declared.fault.AnswerFault.{AnswerFault}
 use Rattle.answer_file.specs.Lines.{answer_of}
 use Rattle.answer_file.specs.Answers.{FileAnswers, before_others, answers_from, answers_of, unless_wrong, by_lines, confirm_text, Confirms}
 

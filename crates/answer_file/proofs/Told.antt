@@ -1,5 +1,5 @@
 -- A server's answers to the first changes of a plan, as a text, are taken.
-use Rattle.std.proofs.Common.{◌≡◌, ℕ, ◌+◌, ◌≤◌, ◌^◌, ℤ, pos, negsuc, suc, Bool, true, List, [], ◌∷◌, ◌++◌, Option, Some, None, Result, Ok, Err, refl, sym, ap, subst, ◌∙◌, inl, inr, arith}
+use Rattle.std.proofs.Common.{◌≡◌, ℕ, ◌≤◌, ◌^◌, ℤ, pos, negsuc, List, [], ◌∷◌, ◌++◌, Some, None, Ok, ap, subst, ◌∙◌, inl, inr, arith}
 use Rattle.std.proofs.lemmas.Bool.Decides.{nat_tests}
 use Rattle.osm_base.specs.Number.{IsId}
 use Rattle.osm_base.specs.declared.key.Key.{Key}
@@ -16,14 +16,12 @@ use Rattle.upload_order.specs.Plan.{plan}
 use Rattle.upload_order.specs.Refused.{unless, upload, upload_refusal}
 use Rattle.upload_order.specs.Run.{pick_for, picks_left}
 use Rattle.placeholder.specs.Answers.{AreWithin}
-use Rattle.placeholder.specs.Confirm.{answer_of, answers_of, confirm, confirms, on_upload, patch_to}
-use Rattle.placeholder.specs.Confirmed.{confirmed_all}
+use Rattle.placeholder.specs.Confirm.{answers_of, confirm, confirms, on_upload, patch_to}
 use Rattle.placeholder.proofs.Names.{changes_stay}
 use Rattle.placeholder.proofs.Steadily.{start_steady}
 use Rattle.placeholder.proofs.Steady.{AreSteady, IsSentAs}
 use Rattle.answer_file.specs.Answers as file
 use Rattle.answer_file.specs.Text.{text_of}
-use Rattle.answer_file.proofs.Lines.{IsTold}
 use Rattle.answer_file.proofs.ReadBack.{AreTold, numbers_from, text_again}
 use Rattle.answer_file.proofs.SoFar.{ended}
 

@@ -1,5 +1,5 @@
 -- What a file answers, said by its lines.
-use Rattle.std.specs.Prelude.{◌≡◌, ℕ, ◌-◌, ◌<◌, ◌≤◌, false, List, [], length, slice_index, slice_index_or, slice_get, Option, Some, None, IfSome, Contains}
+use Rattle.std.specs.Prelude.{◌≡◌, ℕ, ◌-◌, ◌<◌, ◌≤◌, false, List, [], length, slice_index, slice_index_or, slice_get, Some, None, IfSome, Contains}
 use Rattle.opl_line.specs.Line.{freed}
 use Rattle.opl_file.specs.Cut.{lines_of}
 use Rattle.edit_script.specs.Script.{is_skipped}

@@ -6,7 +6,6 @@
 use Rattle.std.specs.Prelude.{ℕ, Bool, ◌==◌, ◌&&◌, ◌||◌, nat_lt, if◌then◌else◌, codes, List, [], ◌∷◌, slice_index, Option, Some, None}
 use Rattle.std.specs.Str.{bytes_eq}
 use Rattle.osm_base.specs.Number.{key_text, number_text}
-use Rattle.osm_base.specs.declared.key.Kind.{Kind}
 use Rattle.osm_base.specs.declared.key.Key.{Key}
 use Rattle.osm_base.specs.Rank.{is_key}
 use Rattle.opl_text.specs.Time.{◌>>=◌}
