@@ -23,3 +23,4 @@ pub mod Steadily
 pub mod DraftLaw
 pub mod Drafted
 pub mod ConfirmLaw
+pub mod Numbered

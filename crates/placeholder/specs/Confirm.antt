@@ -1,5 +1,5 @@
 -- What becomes of a table with answers, or why they are not taken.
-use Rattle.std.specs.Prelude.{◌≡◌, ◌+◌, ◌==◌, ◌&&◌, ℕ, ℤ, pos, negsuc, Bool, false, is_some, if◌then◌else◌, nat_lt, nat_le, Option, Some, None, Result, Ok, Err, List, [], ◌∷◌}
+use Rattle.std.specs.Prelude.{◌≡◌, ◌≤◌, ◌+◌, ◌==◌, ◌&&◌, ℕ, ℤ, pos, negsuc, Bool, false, is_some, if◌then◌else◌, nat_lt, nat_le, Option, Some, None, Result, Ok, Err, List, [], ◌∷◌}
 use Rattle.osm_base.specs.Rank.{is_key}
 use Rattle.osm_base.specs.declared.key.Key.{Key}
 use Rattle.osm_table.specs.Table.{TableValue, entry_of}
@@ -118,3 +118,10 @@ abbrev pub Confirms : Result PatchValue ConfirmFault → Result PatchValue Confi
 Confirms (Ok patch) answer = answer ≡ Ok patch
 Confirms (Err Memory) answer = Unit {0}
 Confirms (Err fault) answer = answer ≡ Err fault
+
+-- the number of a wrong answer is one of the answers
+abbrev pub IsNumbered : ℕ → ConfirmFault → Type 0
+IsNumbered answers (WrongAnswer number) = (1 ≤ number) × (number ≤ answers)
+IsNumbered answers (Plan refusal) = Unit {0}
+IsNumbered answers (IdTaken key) = Unit {0}
+IsNumbered answers Memory = Unit {0}

@@ -3,3 +3,4 @@ pub mod Answers
 pub mod Resumed
 pub mod Confirm
 pub mod Drafting
+pub mod Answered

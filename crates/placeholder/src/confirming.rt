@@ -1,12 +1,12 @@
 //! The confirmed table, or why answers are not taken.
-ghost use Rattle.std.specs.Prelude.{◌≡◌, slice_get, IfOk, Ok};
+ghost use Rattle.std.specs.Prelude.{◌≡◌, slice_get, length, IfOk, IfErr, Ok};
 ghost use Rattle.osm_table.specs.Table.{entry_of};
 ghost use Rattle.dataset.specs.Draft.{drafted};
 ghost use Rattle.dataset.specs.Patch.{StandsBefore, after_of};
 ghost use Rattle.dataset.specs.Sound.{IsSound};
 ghost use Rattle.upload_order.specs.Refused.{upload};
 ghost use Rattle.std.specs.Option.{option_copied};
-ghost use Rattle.placeholder.specs.Confirm.{Confirms, Drafts, confirm, confirms, is_taken, key_given, taken_at};
+ghost use Rattle.placeholder.specs.Confirm.{Confirms, Drafts, IsNumbered, confirm, confirms, is_taken, key_given, taken_at};
 ghost use Rattle.placeholder.specs.Drafting.{answered_by, drafts_from};
 
 use crate::answer::{Answer, is_answer};
@@ -89,6 +89,7 @@ fn drafted(ds: &DataSet, changes: &[Change], answers: &[Answer]) -> Result<Draft
 fn confirmed(ds: &DataSet, changes: &[Change], answers: &[Answer]) -> Result<Draft, ConfirmFault>
     requires { upload ds.now ≡ Ok changes.now }
     ensures draft { Drafts ds.now result (confirms ds.now changes.now answers.now) }
+    ensures numbered { IfErr result (IsNumbered (length answers.now)) }
     ensures sound { IfOk result (λ d. IsSound (drafted d ds.now)) }
 {
     ds.sound();
@@ -103,6 +104,7 @@ fn confirmed(ds: &DataSet, changes: &[Change], answers: &[Answer]) -> Result<Dra
 pub fn confirm(ds: &DataSet, answers: &[Answer]) -> Result<Patch, ConfirmFault>
     // It is the difference by the definition, or the fault.
     ensures value { Confirms result (confirm ds.now answers.now) }
+    ensures numbered { IfErr result (IsNumbered (length answers.now)) }
     // It leads to a sound table.
     ensures stands { IfOk result (λ patch. StandsBefore patch ds.now) }
     ensures sound { IfOk result (λ patch. IsSound (after_of patch ds.now)) }
@@ -115,26 +117,4 @@ pub fn confirm(ds: &DataSet, answers: &[Answer]) -> Result<Patch, ConfirmFault>
     let draft = confirmed(ds, changes.as_slice(), answers)?;
     let patch = ds.patch_of(&draft)?;
     Ok(patch)
-}
-
-#[cfg(test)]
-mod tests {
-    use super::*;
-    use std::alloc::AllocError;
-    use std::test::Fail;
-
-    // How many objects the answers to no change concern.
-    fn confirmed_edits(ds: &DataSet) -> Result<usize, AllocError> {
-        let Ok(patch) = confirm(ds, &[]) else {
-            return Err(AllocError);
-        };
-        Ok(patch.len())
-    }
-
-    #[test]
-    fn no_answers_change_nothing(rt: HostRuntime) -> Result<(), Fail> {
-        let ds = DataSet::new(rt.alloc());
-        assert_eq!(rt; confirmed_edits(&ds)?, 0);
-        Ok(())
-    }
 }

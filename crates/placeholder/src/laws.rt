@@ -1,5 +1,5 @@
 //! What the definitions mean.
-ghost use Rattle.std.specs.Prelude.{◌≡◌, ◌+◌, ◌∷◌, ◌++◌, if◌then◌else◌, List, map, None, Ok, Some, ℕ, ℤ};
+ghost use Rattle.std.specs.Prelude.{◌≡◌, ◌+◌, ◌++◌, if◌then◌else◌, List, map, None, Ok, Some, ℕ, ℤ};
 ghost use Rattle.std.specs.Option.{option_map};
 ghost use Rattle.osm_base.specs.Meta.{empty_meta};
 ghost use Rattle.osm_base.specs.Rank.{is_key};
@@ -16,7 +16,8 @@ ghost use Rattle.upload_order.specs.Run.{run_from, Ended};
 ghost use Rattle.upload_order.specs.World.{World, after};
 ghost use Rattle.dataset.specs.Sound.{IsSound};
 ghost use Rattle.upload_order.specs.Refused.{upload_refusal};
-ghost use Rattle.placeholder.specs.Answers.{IsAnswer, AreAnswers, AreNew, AreWithin};
+ghost use Rattle.placeholder.specs.Answered.{IsAnswered, AreAnswered};
+ghost use Rattle.placeholder.specs.Answers.{AreNew, AreWithin};
 ghost use Rattle.placeholder.specs.Confirm.{answers_of, confirms};
 ghost use Rattle.placeholder.specs.Confirmed.{based_on, confirmed, confirmed_all, made_entry, moved, moved_change, moved_entry, names_of};
 ghost use Rattle.placeholder.specs.Resumed.{IsReady, left_after};
@@ -33,18 +34,18 @@ pub fn confirmed_by_key()
 /// After the answer to the first change of a plan the confirmed table can be sent to the server as it is then, and its plan
 /// is the rest of the plan, where a placeholder that was answered has the id that its object got.
 pub fn plan_is_resumed()
-    ensures ready { (w : World) (t : TableValue) (c : Change) (cs : List Change) (id : ℤ) → IsReady w t → plan t ≡ c ∷ cs → IsAnswer w t c id → IsReady (after w c id) (confirmed t c id) }
-    ensures rest { (w : World) (t : TableValue) (c : Change) (cs : List Change) (id : ℤ) → IsReady w t → plan t ≡ c ∷ cs → IsAnswer w t c id → plan (confirmed t c id) ≡ left_after c id cs }
+    ensures ready { (w : World) (t : TableValue) (c : Change) (cs : List Change) (id : ℤ) → IsAnswered w t c cs id → IsReady (after w c id) (confirmed t c id) }
+    ensures rest { (w : World) (t : TableValue) (c : Change) (cs : List Change) (id : ℤ) → IsAnswered w t c cs id → plan (confirmed t c id) ≡ left_after c id cs }
 {}
 
 /// The server takes any number of first changes one after the other, whatever new ids it gives. After these answers the
 /// confirmed table can be sent to the server as it is then, and its plan is the rest of the plan, where each placeholder that
 /// was answered has the id that its object got. It is the table that `confirm` makes of these answers.
 pub fn plan_is_resumed_after()
-    ensures accepted { (w : World) (t : TableValue) (cs ds : List Change) (ids : List ℤ) → IsReady w t → plan t ≡ cs ++ ds → AreAnswers w t cs ids → confirms t (cs ++ ds) (answers_of cs ids) ≡ Ok (confirmed_all t cs ids) }
-    ensures taken { (w : World) (t : TableValue) (cs ds : List Change) (ids : List ℤ) → IsReady w t → plan t ≡ cs ++ ds → AreAnswers w t cs ids → (v : World) × (run_from 1 w cs ids ≡ Ended v) }
-    ensures ready { (w v : World) (t : TableValue) (cs ds : List Change) (ids : List ℤ) → IsReady w t → plan t ≡ cs ++ ds → AreAnswers w t cs ids → run_from 1 w cs ids ≡ Ended v → IsReady v (confirmed_all t cs ids) }
-    ensures rest { (w v : World) (t : TableValue) (cs ds : List Change) (ids : List ℤ) → IsReady w t → plan t ≡ cs ++ ds → AreAnswers w t cs ids → run_from 1 w cs ids ≡ Ended v → plan (confirmed_all t cs ids) ≡ map (moved_change (called (names_of cs ids))) ds }
+    ensures accepted { (w : World) (t : TableValue) (cs ds : List Change) (ids : List ℤ) → AreAnswered w t cs ds ids → confirms t (cs ++ ds) (answers_of cs ids) ≡ Ok (confirmed_all t cs ids) }
+    ensures taken { (w : World) (t : TableValue) (cs ds : List Change) (ids : List ℤ) → AreAnswered w t cs ds ids → (v : World) × (run_from 1 w cs ids ≡ Ended v) }
+    ensures ready { (w v : World) (t : TableValue) (cs ds : List Change) (ids : List ℤ) → AreAnswered w t cs ds ids → run_from 1 w cs ids ≡ Ended v → IsReady v (confirmed_all t cs ids) }
+    ensures rest { (w v : World) (t : TableValue) (cs ds : List Change) (ids : List ℤ) → AreAnswered w t cs ds ids → run_from 1 w cs ids ≡ Ended v → plan (confirmed_all t cs ids) ≡ map (moved_change (called (names_of cs ids))) ds }
 {}
 
 /// A confirmed table is sound whatever the server is that gave the answers, if they are within the limits and each id is new

@@ -74,7 +74,6 @@ impl Names {
             Some(id) => Some(with_id(key, id)),
         }
     }
-
 }
 
 impl Renaming for Names {

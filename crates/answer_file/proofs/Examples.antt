@@ -1,0 +1,46 @@
+-- Worked examples.
+use Rattle.std.proofs.Common.{◌≡◌, pos, negsuc, [], ◌∷◌, None, Some, refl}
+use Rattle.std.specs.Prelude.{codes}
+use Rattle.osm_base.specs.Number.{number_text, id_text, kind_letter, key_text}
+use Rattle.osm_base.specs.declared.key.Kind.TheVariants as kind
+use Rattle.placeholder.specs.declared.answer.Answer.TheVariants.{Create, Modify, Delete}
+use Rattle.answer_file.specs.Answers.{answers_of}
+use Rattle.answer_file.specs.Lines.{answer_form, answer_of, created, deleted, modified, version_word}
+
+-- a node was made
+made : answer_of (codes "create n-1 n50 v1") ≡ Some (Create (record { kind = kind.Node; id = negsuc 0 }) (pos 50))
+unfolding answer_form created key_text id_text kind_letter number_text
+made = refl
+
+-- words may stand apart
+apart : answer_of (codes "modify \t w5  v4") ≡ Some (Modify (record { kind = kind.Way; id = pos 5 }) 4)
+unfolding answer_form modified version_word key_text id_text kind_letter number_text
+apart = refl
+
+-- an id takes leading zeros, a version doesn't
+zeros_in_id : answer_of (codes "delete r09 v2") ≡ Some (Delete (record { kind = kind.Relation; id = pos 9 }) 2)
+unfolding answer_form deleted version_word key_text id_text kind_letter number_text
+zeros_in_id = refl
+
+zeros_in_version : answer_of (codes "delete r9 v02") ≡ None
+unfolding answer_form deleted version_word key_text id_text kind_letter number_text
+zeros_in_version = refl
+
+-- a node becomes no way
+other_kind : answer_of (codes "create n-1 w50 v1") ≡ None
+unfolding answer_form created key_text id_text kind_letter number_text
+other_kind = refl
+
+-- an object is made with the version 1
+made_later : answer_of (codes "create n-1 n50 v2") ≡ None
+unfolding answer_form created key_text id_text kind_letter number_text
+made_later = refl
+
+outer_blank : answer_of (codes " modify w5 v4") ≡ None
+outer_blank = refl
+
+-- the second line answers, and the third doesn't
+file_read : answers_of (codes "# chunk 1\nmodify w5 v4\r\nmodify w5\nmodify w5 v4\n")
+    ≡ record { answers = Modify (record { kind = kind.Way; id = pos 5 }) 4 ∷ []; lines = 2 ∷ []; wrong = Some 3 }
+unfolding answer_form modified version_word key_text id_text kind_letter number_text
+file_read = refl

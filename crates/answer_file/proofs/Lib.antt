@@ -1,0 +1,6 @@
+pub mod ByLine
+mod Examples
+pub mod Lines
+pub mod SoFar
+pub mod ReadBack
+pub mod Told

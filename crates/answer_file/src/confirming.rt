@@ -1,0 +1,49 @@
+//! What a file of answers makes of a table.
+ghost use Rattle.std.specs.Prelude.{◌≡◌, ◌≤◌, length, IfOk};
+ghost use Rattle.dataset.specs.Patch.{StandsBefore, after_of};
+ghost use Rattle.dataset.specs.Sound.{IsSound};
+ghost use Rattle.placeholder.specs.Confirm.{IsNumbered};
+ghost use Rattle.answer_file.specs.Answers.{Confirms, at_line, confirm_text};
+
+use crate::fault::AnswerFault;
+use crate::reading::read_answers;
+use dataset::{DataSet, Patch};
+use placeholder::{ConfirmFault, confirm};
+
+/// The fault, with the line of an answer for its number.
+fn at_line(lines: &[u64], fault: ConfirmFault) -> AnswerFault
+    requires { IsNumbered (length lines.now) fault }
+    ensures { result ≡ at_line lines.now fault }
+{
+    match fault {
+        ConfirmFault::Plan { refusal } => AnswerFault::Plan { refusal },
+        ConfirmFault::WrongAnswer { number } => AnswerFault::WrongAnswer {
+            line: lines[number as usize - 1],
+        },
+        ConfirmFault::IdTaken { key } => AnswerFault::IdTaken { key },
+        ConfirmFault::Memory => AnswerFault::Memory,
+    }
+}
+
+/// The difference to the table that the server's answers in a file confirm. Costs the bytes, a plan, and of each object that was
+/// made its users with their references.
+///
+/// # Errors
+/// The plan is refused; or by the first of the lines, it isn't the answer to its change, or gives an id that is taken; or no
+/// memory was left.
+pub fn confirm_file(ds: &DataSet, bytes: &[u8]) -> Result<Patch, AnswerFault>
+    // It is the difference by the definition, or the fault.
+    ensures value { Confirms result (confirm_text ds.now bytes.now) }
+    // It leads to a sound table.
+    ensures stands { IfOk result (λ patch. StandsBefore patch ds.now) }
+    ensures sound { IfOk result (λ patch. IsSound (after_of patch ds.now)) }
+{
+    let file = read_answers(ds.alloc(), bytes)?;
+    match confirm(ds, file.answers.as_slice()) {
+        Err(fault) => Err(at_line(file.lines.as_slice(), fault)),
+        Ok(patch) => match file.wrong {
+            None => Ok(patch),
+            Some(line) => Err(AnswerFault::WrongAnswer { line }),
+        },
+    }
+}
