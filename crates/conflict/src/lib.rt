@@ -20,4 +20,4 @@ mod showing;
 
 pub use listing::conflicts;
 pub use resolve::{Resolve, ResolveTool};
-pub use showing::write_conflict;
+pub use showing::{write_conflict, write_known};

@@ -105,6 +105,25 @@ fn write_side(
     ensures kept { OnErr result (Extends out.old.items out.new.items) }
 {
     out.extend_from_slice(name)?;
+    write_known(key, base, content, unknown, out)
+}
+
+/// Appends the line of a content with a base's version and metadata, or of a deleted object; `unknown` is the empty metadata.
+///
+/// # Errors
+/// No memory was left; what stood in `out` stays at its front.
+#[tactic(auto, using(osm_base::proofs::ExtendLaws::extends_steps))]
+pub fn write_known(
+    key: Key,
+    base: &Base,
+    content: Option<&Content>,
+    unknown: &Meta,
+    out: &mut Vec<u8>,
+) -> Result<(), AllocError>
+    requires { unknown.now ≡ empty_meta }
+    ensures written { OnOk result (out.new.items ≡ out.old.items ++ known_text key base.now (option_copied content.entry)) }
+    ensures kept { OnErr result (Extends out.old.items out.new.items) }
+{
     write_line(key, base.version(), content, meta_of(base, unknown), out)?;
     out.push(b'\n')?;
     Ok(())
