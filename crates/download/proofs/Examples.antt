@@ -1,5 +1,5 @@
 -- Worked examples, on which the definitions compute.
-use Rattle.std.proofs.Common.{◌≡◌, ℕ, ℤ, pos, negsuc, Bool, true, false, List, [], ◌∷◌, Option, Some, None, map, refl}
+use Rattle.std.proofs.Common.{◌≡◌, ℕ, ℤ, pos, negsuc, true, false, List, [], ◌∷◌, Some, None, refl}
 use Rattle.std.specs.Prelude.{codes}
 use Rattle.osm_base.specs.Meta.{empty_meta}
 use Rattle.osm_base.specs.Tags.{Pair}
@@ -11,7 +11,6 @@ use Rattle.osm_base.specs.declared.coord.Coord.{Coord}
 use Rattle.osm_base.specs.declared.members.Member.{Member}
 use Rattle.osm_base.specs.declared.content.Content.{Content}
 use Rattle.osm_base.specs.declared.content.Content.TheVariants as content
-use Rattle.osm_table.specs.declared.told.Told.{Told}
 use Rattle.osm_table.specs.declared.told.Told.TheVariants.{Mentioned, Gone}
 use Rattle.opl_line.specs.declared.object.OplObject.{OplObject}
 use Rattle.opl_file.specs.Objects.{keys_of}

@@ -1,5 +1,5 @@
 -- What the passes of the filter leave of a file, and the sets of keys that they fill.
-use Rattle.std.specs.Prelude.{Bool, true, false, ◌||◌, ◌++◌, if◌then◌else◌, List, [], ◌∷◌, Option, None, Some, fold}
+use Rattle.std.specs.Prelude.{Bool, true, false, ◌||◌, ◌++◌, if◌then◌else◌, List, [], ◌∷◌, Option, Some, fold}
 use Rattle.osm_base.specs.Tags.{Pair}
 use Rattle.osm_base.specs.declared.key.Key.{Key}
 use Rattle.osm_base.specs.declared.area.Area.{Area}

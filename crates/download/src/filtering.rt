@@ -4,13 +4,13 @@
 //! pass that fills the set of keys by which it decides, so a set holds only keys of what is asked for, and the order of
 //! the file plays no part.
 ghost use Rattle.std.specs.Prelude.{◌≡◌, ◌≤ℤ◌, [], Some, IfOk, OnOk, filter, fold, map, pos};
-ghost use Rattle.std.specs.List.{list_any, list_all};
+ghost use Rattle.std.specs.List.{list_any};
 ghost use Rattle.std.specs.Option.{option_copied, option_map};
 ghost use Rattle.osm_base.specs.Content.{kind_of_content, node, refs_of};
 ghost use Rattle.osm_base.specs.Meta.{empty_meta};
 ghost use Rattle.opl_file.specs.Objects.{keys_of};
 ghost use Rattle.download.specs.Tell.{references, told_of, AreTellable};
-ghost use Rattle.download.specs.Filter.{among, in_box, in_area, is_between, is_wanted, has_tags, is_near, near, is_reached, is_kept_way, is_kept_node, is_related, on_side, keeps, kept, filtered};
+ghost use Rattle.download.specs.Filter.{among, in_box, in_area, is_between, is_wanted, has_tags, is_near, near, is_reached, is_related, on_side, keeps, kept, filtered};
 ghost use Rattle.download.specs.FilterCode.{with_key, key_set, is_way, is_place, way_left, is_left, relation_left};
 
 use crate::key_set::KeySet;
