@@ -7,12 +7,12 @@
 //! To add a tool of a new verb: its line here, and the verb in `specs/Verbs`.
 #![tactic(auto)]
 
-ghost use Rattle.std.specs.Prelude.{◌≡◌, ◌≤◌, ◌⊎◌, ◌↔◌, None, IfSome, IfOk, OnErr, map, string_bytes};
+ghost use Rattle.std.specs.Prelude.{◌≡◌, ◌≤◌, ◌⊎◌, None, IfSome, IfOk, OnErr, map, string_bytes};
 ghost use Rattle.osm_outside.specs.Outside.{Rose};
+ghost use Rattle.command_line.specs.Words.{command_of};
 ghost use Rattle.tool_api.specs.declared.verb.Verb.{Verb};
-ghost use Rattle.edit_session.specs.Limits.{default_limits};
-ghost use Rattle.edit_session.specs.Session.{outcome, script_name, Agrees, IsAsked, IsEarly};
-ghost use Rattle.edit_session.specs.Uploads.{AreUploads, run_of};
+ghost use Rattle.edit_session.specs.Session.{outcome, Agrees, IsAsked, IsEarly};
+ghost use Rattle.edit_session.specs.Uploads.{AreUploadsOf};
 ghost use Rattle.all_tools.specs.Verbs.{all_verbs};
 
 use conflict::ResolveTool;
@@ -40,11 +40,13 @@ pub fn run_editor<S: Shelf, K: Sink>(
 ) -> Result<Status, AllocError>
     // Where the shelf tells its files, the status is that of the outcome and the sink took its text; after a fault
     // or want of memory it took a front of the text.
-    ensures outcome { IfOk result (λ status. IfSome (S.told shelf.old) (λ files. Agrees (K.taken out.old) (K.taken out.new) status (outcome default_limits all_verbs (map string_bytes words.now) files))) }
+    ensures outcome { IfOk result (λ status. IfSome (S.told shelf.old) (λ files. Agrees (K.taken out.old) (K.taken out.new) status (outcome all_verbs (map string_bytes words.now) files))) }
     ensures read { IfOk result (λ status. status ≡ Status.ReadFault → Rose (S.faults shelf.old) (S.faults shelf.new)) }
     ensures write { IfOk result (λ status. status ≡ Status.WriteFault → Rose (K.faults out.old) (K.faults out.new)) }
-    ensures words { IfOk result (λ status. (status ≡ Status.BadWords) ↔ (script_name (map string_bytes words.now) ≡ None)) }
-    ensures unread { IfOk result (λ status. status ≡ Status.BadWords → (shelf.new ≡ shelf.old) × (out.new ≡ out.old)) }
+    // Words that ask for nothing are bad, unless no memory is left, and then nothing is read or written. No others are.
+    ensures words { IfOk result (λ status. status ≡ Status.BadWords → command_of (map string_bytes words.now) ≡ None) }
+    ensures bad_words { IfOk result (λ status. command_of (map string_bytes words.now) ≡ None → (status ≡ Status.BadWords) ⊎ (status ≡ Status.Memory)) }
+    ensures unread { command_of (map string_bytes words.now) ≡ None → (shelf.new ≡ shelf.old) × (out.new ≡ out.old) }
     // Until the steps run nothing is written, and whether there is a script is what the shelf answered.
     ensures unwritten { IfOk result (λ status. IsEarly status → out.new ≡ out.old) }
     ensures asked { IfOk result (IsAsked (S.begun shelf.new)) }
@@ -52,13 +54,13 @@ pub fn run_editor<S: Shelf, K: Sink>(
     ensures later { IfOk result (λ _. (S.faults shelf.old ≤ S.faults shelf.new) × (K.faults out.old ≤ K.faults out.new)) }
     ensures tools { (verb : Verb) → IfOk result (λ status. status ≡ Status.NoTool verb → ⊥) }
     // It doesn't give up by itself, but for memory.
-    ensures complete { IfOk result (λ status. IfSome (S.told shelf.old) (λ files. (outcome default_limits all_verbs (map string_bytes words.now) files).0 ≡ Status.Done
+    ensures complete { IfOk result (λ status. IfSome (S.told shelf.old) (λ files. (outcome all_verbs (map string_bytes words.now) files).0 ≡ Status.Done
         → (Rose (S.faults shelf.old) (S.faults shelf.new) → ⊥) → (Rose (K.faults out.old) (K.faults out.new) → ⊥)
         → (status ≡ Status.Done) ⊎ (status ≡ Status.Memory))) }
     // Each upload of the run replies ok exactly where nothing refuses the plan of the table. Its text is then the changes in
     // chunks, and each sound server that has the bases, and nothing else that refers to what is deleted, takes each prefix of
     // them whatever fresh ids it picks, and has the edited data after the last.
-    ensures uploads { IfOk result (λ status. status ≡ Status.Done → IfSome (S.told shelf.old) (λ files. AreUploads default_limits files (run_of default_limits (map string_bytes words.now) files))) }
+    ensures uploads { IfOk result (λ status. status ≡ Status.Done → IfSome (S.told shelf.old) (λ files. AreUploadsOf (command_of (map string_bytes words.now)) files)) }
     ensures err { OnErr result ((shelf.new ≡ shelf.old) × (out.new ≡ out.old)) }
 {
     let tools = no_boxes(alloc);

@@ -1,23 +1,27 @@
 -- Worked examples of turns.
-use Rattle.std.proofs.Common.{◌≡◌, true, false, [], ◌∷◌, Ok, Err, length, pos, refl}
+use Rattle.std.proofs.Common.{◌≡◌, true, false, [], ◌∷◌, None, Ok, Err, length, pos, refl}
 use Rattle.std.specs.Prelude.{codes}
 use Rattle.std.specs.FinMap as fin
 use Rattle.osm_base.specs.declared.key.Kind.TheVariants.{Node}
 use Rattle.osm_table.specs.Table.{TableValue}
+use Rattle.opl_file.specs.declared.fault.FileFault.TheVariants.{FileTooLong}
 use Rattle.upload_order.specs.declared.change.Change.TheVariants.{Delete}
 use Rattle.upload_order.specs.declared.refusal.PlanRefusal.TheVariants as plan
-use Rattle.edit_script.specs.declared.step.Act.TheVariants.{Download, Begin, End, Undo, Print, Conflicts}
+use Rattle.edit_script.specs.declared.step.Act.TheVariants.{Download, Begin, End, Undo, Print, Conflicts, Confirm}
 use Rattle.edit_script.specs.declared.reply.StepReply.TheVariants.{Done, Refused, Skipped}
-use Rattle.edit_script.specs.declared.reply.StepRefusal.TheVariants.{NoFile, NothingToUndo, OpenConflicts}
+use Rattle.edit_script.specs.declared.reply.StepRefusal.TheVariants.{NoFile, BadFile, NothingToUndo, OpenConflicts}
 use Rattle.edit_history.specs.declared.counts.Group.TheVariants as group
 use Rattle.edit_history.specs.Machine.{State, first_state}
-use Rattle.edit_session.specs.declared.loading.Found.TheVariants.{Nothing}
+use Rattle.edit_session.specs.declared.limits.Limits.{Limits}
+use Rattle.edit_session.specs.declared.loading.Found.TheVariants.{Nothing, Bad}
 use Rattle.edit_session.specs.declared.response.Behind.TheVariants as behind
-use Rattle.edit_session.specs.Limits.{default_limits}
 use Rattle.edit_session.specs.Load.{found_in}
 use Rattle.edit_session.specs.Planned.{on_plan, planned}
 use Rattle.edit_session.specs.Session.{states_before}
 use Rattle.edit_session.specs.Turn.{turn}
+
+abbrev limits : Limits
+limits = record { script = 16777216; file = 5; objects = 3 }
 
 abbrev numbered : TableValue
 numbered = record { entries = fin.empty; next = 7 }
@@ -30,30 +34,37 @@ abbrev given_up : State
 given_up = record { past = []; now = first_state.now; undone = []; group = group.Refused; start = first_state.now; accepted = false }
 
 -- A download that isn't there is refused, and gives the group up: the table is again the one at `begin`.
-no_file : turn default_limits Nothing (Download (codes "f")) running ≡ record { answer = record { reply = Refused NoFile; behind = behind.Nothing }; state = given_up }
+no_file : turn limits Nothing (Download (codes "f") None None) running ≡ record { answer = record { reply = Refused NoFile; behind = behind.Nothing }; state = given_up }
 no_file = refl
 
 -- Then each step is skipped, with nothing behind it, up to the group's end.
-print_skipped : turn default_limits Nothing Print given_up ≡ record { answer = record { reply = Skipped; behind = behind.Nothing }; state = given_up }
+print_skipped : turn limits Nothing Print given_up ≡ record { answer = record { reply = Skipped; behind = behind.Nothing }; state = given_up }
 print_skipped = refl
 
-end_skipped : turn default_limits Nothing End given_up ≡ record { answer = record { reply = Skipped; behind = behind.Nothing }; state = first_state }
+end_skipped : turn limits Nothing End given_up ≡ record { answer = record { reply = Skipped; behind = behind.Nothing }; state = first_state }
 end_skipped = refl
 
 -- No file is read in it.
-nothing_read : found_in default_limits ((codes "f", codes "x") ∷ []) group.Refused (Download (codes "f")) ≡ Nothing
+nothing_read : found_in limits ((codes "f", codes "x") ∷ []) group.Refused (Download (codes "f") None None) ≡ Nothing
 nothing_read = refl
 
+-- Answers that are too long for the limit are refused.
+answers_long : found_in limits ((codes "f", codes "123456") ∷ []) group.Outside (Confirm (codes "f")) ≡ Bad FileTooLong
+answers_long = refl
+
+answers_refused : turn limits (Bad FileTooLong) (Confirm (codes "f")) first_state ≡ record { answer = record { reply = Refused (BadFile FileTooLong); behind = behind.Nothing }; state = first_state }
+answers_refused = refl
+
 -- There is nothing to undo at first.
-undo_first : turn default_limits Nothing (Undo 1) first_state ≡ record { answer = record { reply = Refused NothingToUndo; behind = behind.Nothing }; state = first_state }
+undo_first : turn limits Nothing (Undo 1) first_state ≡ record { answer = record { reply = Refused NothingToUndo; behind = behind.Nothing }; state = first_state }
 undo_first = refl
 
 -- Behind `print` stands the table.
-print_done : turn default_limits Nothing Print first_state ≡ record { answer = record { reply = Done []; behind = behind.Table }; state = first_state }
+print_done : turn limits Nothing Print first_state ≡ record { answer = record { reply = Done []; behind = behind.Table }; state = first_state }
 print_done = refl
 
 -- Behind `conflicts` stand the objects in conflict.
-conflicts_done : turn default_limits Nothing Conflicts first_state ≡ record { answer = record { reply = Done []; behind = behind.Conflicts }; state = first_state }
+conflicts_done : turn limits Nothing Conflicts first_state ≡ record { answer = record { reply = Done []; behind = behind.Conflicts }; state = first_state }
 conflicts_done = refl
 
 -- Where the plan is refused, nothing stands behind the reply of an upload.
@@ -66,6 +77,6 @@ one_deleted : on_plan (λ changes. behind.Rehearsed (length changes)) (planned (
 one_deleted = refl
 
 -- Each step has the state before it.
-two_steps : states_before default_limits [] (record { line = 1; act = Begin } ∷ record { line = 2; act = End } ∷ []) first_state
+two_steps : states_before limits [] (record { line = 1; act = Begin } ∷ record { line = 2; act = End } ∷ []) first_state
     ≡ (record { line = 1; act = Begin }, first_state) ∷ (record { line = 2; act = End }, record { past = []; now = first_state.now; undone = []; group = group.Running; start = first_state.now; accepted = false }) ∷ []
 two_steps = refl

@@ -1,6 +1,8 @@
 pub mod Examples
 pub mod Fed
+pub mod Refusing
 pub mod Steps
+pub mod Taking
 pub mod Opens
 pub mod Uploads
 pub mod Verbs

@@ -1,19 +1,22 @@
 -- A step leaves a group open where one was open, but for `begin` and `end`.
-use Rattle.std.proofs.Common.{◌≡◌, ℕ, Bool, true, false, refl, ap, if◌then◌else◌}
+use Rattle.std.proofs.Common.{◌≡◌, ℕ, List, Bool, true, false, Result, Ok, Err, refl, sym, ap, if◌then◌else◌}
 use Rattle.osm_table.specs.Table.{TableValue}
+use Rattle.dataset.specs.Patch.{PatchValue}
+use Rattle.answer_file.specs.declared.fault.AnswerFault.{AnswerFault}
+use Rattle.answer_file.specs.Answers.{confirm_text}
 use Rattle.tool_api.specs.declared.reply.Reply.{Reply}
 use Rattle.tool_api.specs.declared.reply.Reply.TheVariants as reply
 use Rattle.edit_script.specs.declared.step.Act.{Act}
-use Rattle.edit_script.specs.declared.step.Act.TheVariants.{Job, Download, Begin, End, Undo, Redo, Print, Count, Conflicts, Rehearse, Upload}
-use Rattle.edit_script.specs.Order.{inside_after}
+use Rattle.edit_script.specs.declared.step.Act.TheVariants.{Job, Download, Generate, ImportFile, Begin, End, Undo, Redo, Print, Count, Conflicts, Rehearse, Upload, Confirm}
+use Rattle.edit_script.specs.Order.{inside_after, may_stand}
 use Rattle.edit_history.specs.declared.counts.Group.{Group}
 use Rattle.edit_history.specs.declared.counts.Group.TheVariants.{Outside, Running, Refused}
 use Rattle.edit_history.specs.Machine.{State, done_in, refused_in, ran}
 use Rattle.edit_session.specs.declared.limits.Limits.{Limits}
 use Rattle.edit_session.specs.declared.loading.Found.{Found}
-use Rattle.edit_session.specs.declared.loading.Found.TheVariants.{Nothing, Bad, Objects}
+use Rattle.edit_session.specs.declared.loading.Found.TheVariants as found
 use Rattle.edit_session.specs.Groups.{is_open, is_given_up}
-use Rattle.edit_session.specs.Turn.{Turn, turn, act_turn, download_turn, skipped_turn}
+use Rattle.edit_session.specs.Turn.{Turn, turn, act_turn, file_turn, settled_turn, confirm_turn, skipped_turn}
 
 done_open : (g : Group) (u : TableValue) (s : State) → s.group ≡ g → is_given_up g ≡ false → is_open (done_in g u s).group ≡ is_open g
 done_open Outside u s e going = refl
@@ -29,27 +32,46 @@ ran_open : (r : Reply) (u : TableValue) (s : State) → is_given_up s.group ≡ 
 ran_open (reply.Done keys) u s going = done_open s.group u s refl going
 ran_open (reply.Refused why) u s going = refused_open s.group s refl going
 
-download_open : (limit : ℕ) (found : Found) (s : State) → is_given_up s.group ≡ false → is_open (download_turn limit found s).state.group ≡ is_open s.group
-download_open limit Nothing s going = refused_open s.group s refl going
-download_open limit (Bad fault) s going = refused_open s.group s refl going
-download_open limit (Objects objects) s going = ran_open _ _ s going
+file_open : (limit : ℕ) (found : Found) (s : State) → is_given_up s.group ≡ false → is_open (file_turn limit found s).state.group ≡ is_open s.group
+file_open limit (found.Job job) s going = ran_open _ _ s going
+file_open limit (found.Bad fault) s going = refused_open s.group s refl going
+file_open limit found.Nothing s going = refused_open s.group s refl going
+file_open limit (found.Answers bytes) s going = refused_open s.group s refl going
+
+settled_open : (answer : Result PatchValue AnswerFault) (s : State) → is_open s.group ≡ false → is_open (settled_turn answer s).state.group ≡ is_open s.group
+settled_open (Ok patch) s outside = sym outside
+settled_open (Err fault) s outside = refl
+
+confirm_open : (found : Found) (s : State) → is_given_up s.group ≡ false → is_open s.group ≡ false → is_open (confirm_turn found s).state.group ≡ is_open s.group
+confirm_open (found.Answers bytes) s going outside = settled_open (confirm_text s.now bytes) s outside
+confirm_open (found.Bad fault) s going outside = refused_open s.group s refl going
+confirm_open found.Nothing s going outside = refused_open s.group s refl going
+confirm_open (found.Job job) s going outside = refused_open s.group s refl going
+
+-- answers are taken outside groups alone
+answers_outside : (is_inside : Bool) (name : List ℕ) → may_stand is_inside (Confirm name) ≡ true → is_inside ≡ false
+answers_outside true name e = absurd cc
+answers_outside false name e = refl
 
 either_open : (test : Bool) (a b : Turn) (open_before : Bool) → is_open a.state.group ≡ open_before → is_open b.state.group ≡ open_before → is_open (if test then a else b).state.group ≡ open_before
 either_open true a b open_before e f = e
 either_open false a b open_before e f = f
 
-act_open : (limits : Limits) (found : Found) (act : Act) (s : State) → is_given_up s.group ≡ false → is_open (act_turn limits found act s).state.group ≡ inside_after (is_open s.group) act
-act_open limits found (Job job) s going = ran_open _ _ s going
-act_open limits found (Download name) s going = download_open limits.objects found s going
-act_open limits found Begin s going = refl
-act_open limits found End s going = refl
-act_open limits found (Undo n) s going = either_open _ _ _ (is_open s.group) refl refl
-act_open limits found (Redo n) s going = either_open _ _ _ (is_open s.group) refl refl
-act_open limits found Print s going = refl
-act_open limits found Count s going = refl
-act_open limits found Conflicts s going = refl
-act_open limits found Rehearse s going = refl
-act_open limits found (Upload size) s going = refl
+act_open : (limits : Limits) (found : Found) (act : Act) (s : State) → may_stand (is_open s.group) act ≡ true → is_given_up s.group ≡ false → is_open (act_turn limits found act s).state.group ≡ inside_after (is_open s.group) act
+act_open limits found (Job job) s stands going = ran_open _ _ s going
+act_open limits found (Download name area wanted) s stands going = file_open limits.objects found s going
+act_open limits found (Generate streets) s stands going = ran_open _ _ s going
+act_open limits found (ImportFile name) s stands going = file_open limits.objects found s going
+act_open limits found Begin s stands going = refl
+act_open limits found End s stands going = refl
+act_open limits found (Undo n) s stands going = either_open _ _ _ (is_open s.group) refl refl
+act_open limits found (Redo n) s stands going = either_open _ _ _ (is_open s.group) refl refl
+act_open limits found Print s stands going = refl
+act_open limits found Count s stands going = refl
+act_open limits found Conflicts s stands going = refl
+act_open limits found Rehearse s stands going = refl
+act_open limits found (Upload size) s stands going = refl
+act_open limits found (Confirm name) s stands going = confirm_open found s going (answers_outside (is_open s.group) name stands)
 
 given_up_open : (g : Group) → is_given_up g ≡ true → is_open g ≡ true
 given_up_open Outside e = absurd cc
@@ -58,7 +80,9 @@ given_up_open Refused e = refl
 
 skipped_open : (act : Act) (s : State) → is_given_up s.group ≡ true → is_open (skipped_turn act s).state.group ≡ inside_after (is_open s.group) act
 skipped_open (Job job) s given_up = refl
-skipped_open (Download name) s given_up = refl
+skipped_open (Download name area wanted) s given_up = refl
+skipped_open (Generate streets) s given_up = refl
+skipped_open (ImportFile name) s given_up = refl
 skipped_open Begin s given_up = given_up_open s.group given_up
 skipped_open End s given_up = refl
 skipped_open (Undo n) s given_up = refl
@@ -68,10 +92,11 @@ skipped_open Count s given_up = refl
 skipped_open Conflicts s given_up = refl
 skipped_open Rehearse s given_up = refl
 skipped_open (Upload size) s given_up = refl
+skipped_open (Confirm name) s given_up = refl
 
-turn_open_by : (limits : Limits) (found : Found) (act : Act) (s : State) (given_up : Bool) → is_given_up s.group ≡ given_up → is_open (if given_up then skipped_turn act s else act_turn limits found act s).state.group ≡ inside_after (is_open s.group) act
-turn_open_by limits found act s true e = skipped_open act s e
-turn_open_by limits found act s false e = act_open limits found act s e
+turn_open_by : (limits : Limits) (found : Found) (act : Act) (s : State) (given_up : Bool) → may_stand (is_open s.group) act ≡ true → is_given_up s.group ≡ given_up → is_open (if given_up then skipped_turn act s else act_turn limits found act s).state.group ≡ inside_after (is_open s.group) act
+turn_open_by limits found act s true stands e = skipped_open act s e
+turn_open_by limits found act s false stands e = act_open limits found act s stands e
 
-pub turn_open : (limits : Limits) (found : Found) (act : Act) (s : State) → is_open (turn limits found act s).state.group ≡ inside_after (is_open s.group) act
-turn_open limits found act s = turn_open_by limits found act s (is_given_up s.group) refl
+pub turn_open : (limits : Limits) (found : Found) (act : Act) (s : State) → may_stand (is_open s.group) act ≡ true → is_open (turn limits found act s).state.group ≡ inside_after (is_open s.group) act
+turn_open limits found act s stands = turn_open_by limits found act s (is_given_up s.group) stands refl

@@ -82,8 +82,8 @@ pub orderly_first : (steps : List Step) (s : State) → s ≡ first_state → Is
 orderly_first steps s first orderly = rw first orderly
 
 -- and from the state behind a step on
-pub orderly_on : (limits : Limits) (found : Found) (act : Act) (s next : State) (steps : List Step) → next ≡ (turn limits found act s).state → IsOrderly (inside_after (is_open s.group) act) steps → IsOrderly (is_open next.group) steps
-orderly_on limits found act s next steps after orderly = subst (λ is_inside. IsOrderly is_inside steps) (sym (ap (λ (t : State). is_open t.group) after ∙ turn_open limits found act s)) orderly
+pub orderly_on : (limits : Limits) (found : Found) (act : Act) (s next : State) (steps : List Step) → may_stand (is_open s.group) act ≡ true → next ≡ (turn limits found act s).state → IsOrderly (inside_after (is_open s.group) act) steps → IsOrderly (is_open next.group) steps
+orderly_on limits found act s next steps stands after orderly = subst (λ is_inside. IsOrderly is_inside steps) (sym (ap (λ (t : State). is_open t.group) after ∙ turn_open limits found act s stands)) orderly
 
 -- what is orderly from a step on
 pub orderly_at : (is_inside : Bool) (i : ℕ) (steps : List Step) (step : Step) → i < length steps → step ≡ get_or steps i step → IsOrderly is_inside (drop i steps)

@@ -4,6 +4,7 @@ use Rattle.std.specs.List.{All}
 use Rattle.std.proofs.lemmas.List.{drop_all}
 use Rattle.std.proofs.lemmas.List.Elements.{All-nil, All-cons, All-head, All-tail}
 use Rattle.osm_outside.specs.Outside.{Shelved, held}
+use Rattle.command_line.specs.Words.{CommandLineValue}
 use Rattle.dataset.specs.Sound.{IsSound}
 use Rattle.upload_order.specs.declared.refusal.PlanRefusal.{PlanRefusal}
 use Rattle.upload_order.specs.Plan.{plan}
@@ -23,13 +24,15 @@ use Rattle.edit_session.specs.declared.response.Behind.TheVariants as behind
 use Rattle.edit_session.specs.declared.status.Status.{Status}
 use Rattle.edit_session.specs.declared.status.Status.TheVariants as status
 use Rattle.edit_session.specs.declared.stop.Stop.{Stop}
-use Rattle.edit_session.specs.Fetch.{whole, reading}
+use Rattle.edit_session.specs.declared.files.Fetched.TheVariants.{Whole}
+use Rattle.edit_session.specs.Fetch.{reading}
+use Rattle.edit_session.specs.Limits.{limits_of}
 use Rattle.edit_session.specs.Groups.{is_given_up, is_open}
 use Rattle.edit_session.specs.Load.{found_in}
 use Rattle.edit_session.specs.Planned.{plan_refused, planned, on_plan, upload_answer}
-use Rattle.edit_session.specs.Session.{states_before, run, script_name}
+use Rattle.edit_session.specs.Session.{states_before, run}
 use Rattle.edit_session.specs.Turn.{Turn, turn, step_turn, turn_text, still_turn, act_turn, skipped_turn}
-use Rattle.edit_session.specs.Uploads.{IsUpload, AreUploads, run_of, steps_in, steps_named, steps_read}
+use Rattle.edit_session.specs.Uploads.{IsUpload, AreUploads, AreUploadsOf, run_of, steps_in, steps_read}
 use Rattle.edit_session.proofs.Steps.{steps-drop, orderly_on}
 
 -- each table before a step of a run is sound
@@ -111,7 +114,7 @@ all_sent limits files (step ∷ steps) s orderly sound =
     (λ size is. by_refusal limits files step size s is
     (not_given_up s.group (outside (is_open s.group) size (subst (λ act. may_stand (is_open s.group) act ≡ true) is orderly.1)))
     (All-head (λ (at : Step × State). IsSound at.1.now) (step, s) behind sound) (upload_refusal s.now) refl)
-    (all_sent limits files steps next (orderly_on limits (found_in limits files s.group step.act) step.act s next steps refl orderly.2)
+    (all_sent limits files steps next (orderly_on limits (found_in limits files s.group step.act) step.act s next steps orderly.1 refl orderly.2)
     (All-tail (λ (at : Step × State). IsSound at.1.now) (step, s) behind sound))
 
 -- All steps have run: each upload is sent.
@@ -128,21 +131,26 @@ pub sent_in_script : (limits : Limits) (o : Option Shelved) (read : Result (List
     → IfSome o (λ files. AreUploads limits files (run limits files steps)) → IfSome o (λ files. AreUploads limits files (run limits files (steps_read read)))
 sent_in_script limits o read steps is sent = subst (λ r. IfSome o (λ files. AreUploads limits files (run limits files (steps_read r)))) (sym is) sent
 
-file_sent : (limits : Limits) (o : Option Shelved) (name bytes : List ℕ) → IfSome o (λ files. whole bytes ≡ reading limits.script (held files name))
-    → IfSome o (λ files. AreUploads limits files (run limits files (steps_read (steps_of bytes)))) → IfSome o (λ files. AreUploads limits files (run limits files (steps_named limits files (Some name))))
+file_sent : (limits : Limits) (o : Option Shelved) (name bytes : List ℕ) → IfSome o (λ files. Whole bytes ≡ reading limits.script (held files name))
+    → IfSome o (λ files. AreUploads limits files (run limits files (steps_read (steps_of bytes)))) → IfSome o (λ files. AreUploads limits files (run_of limits files name))
 file_sent limits None name bytes is sent = tt
 file_sent limits (Some files) name bytes is sent = subst (λ r. AreUploads limits files (run limits files (steps_in r))) is sent
 
 -- in that file,
-pub sent_in_file : (limits : Limits) (o mid : Option Shelved) (result : Result Status Stop) (name bytes : List ℕ) → mid ≡ o → IfSome o (λ files. whole bytes ≡ reading limits.script (held files name))
+pub sent_in_file : (limits : Limits) (o mid : Option Shelved) (result : Result Status Stop) (name bytes : List ℕ) → mid ≡ o → IfSome o (λ files. Whole bytes ≡ reading limits.script (held files name))
     → IfOk result (λ answer. answer ≡ status.Done → IfSome mid (λ files. AreUploads limits files (run limits files (steps_read (steps_of bytes)))))
-    → IfOk result (λ answer. answer ≡ status.Done → IfSome o (λ files. AreUploads limits files (run limits files (steps_named limits files (Some name)))))
+    → IfOk result (λ answer. answer ≡ status.Done → IfSome o (λ files. AreUploads limits files (run_of limits files name)))
 sent_in_file limits o mid (Ok answer) name bytes told is sent = λ done. file_sent limits o name bytes is (subst (λ m. IfSome m (λ files. AreUploads limits files (run limits files (steps_read (steps_of bytes))))) told (sent done))
 sent_in_file limits o mid (Err stop) name bytes told is sent = tt
 
 -- of that name.
-pub sent_by_name : (limits : Limits) (o : Option Shelved) (result : Result Status Stop) (words : List (List ℕ)) (name : List ℕ) → script_name words ≡ Some name
-    → IfOk result (λ answer. answer ≡ status.Done → IfSome o (λ files. AreUploads limits files (run limits files (steps_named limits files (Some name)))))
-    → IfOk result (λ answer. answer ≡ status.Done → IfSome o (λ files. AreUploads limits files (run_of limits words files)))
-sent_by_name limits o result words name is sent =
-    subst (λ n. IfOk result (λ answer. answer ≡ status.Done → IfSome o (λ files. AreUploads limits files (run limits files (steps_named limits files n))))) (sym is) sent
+pub sent_by_line : (line : CommandLineValue) (limits : Limits) (name : List ℕ) (o : Option Shelved) (result : Result Status Stop) (asked : Option CommandLineValue)
+    → asked ≡ Some line → limits ≡ limits_of line → name ≡ line.script
+    → IfOk result (λ answer. answer ≡ status.Done → IfSome o (λ files. AreUploads limits files (run_of limits files name)))
+    → IfOk result (λ answer. answer ≡ status.Done → IfSome o (λ files. AreUploadsOf asked files))
+sent_by_line line limits name o result asked is same_limits same_name sent =
+    let named : IfOk result (λ answer. answer ≡ status.Done → IfSome o (λ files. AreUploads limits files (run_of limits files line.script))) =
+    subst (λ n. IfOk result (λ answer. answer ≡ status.Done → IfSome o (λ files. AreUploads limits files (run_of limits files n)))) same_name sent in
+    let limited : IfOk result (λ answer. answer ≡ status.Done → IfSome o (λ files. AreUploads (limits_of line) files (run_of (limits_of line) files line.script))) =
+    subst (λ l. IfOk result (λ answer. answer ≡ status.Done → IfSome o (λ files. AreUploads l files (run_of l files line.script)))) same_limits named in
+    subst (λ a. IfOk result (λ answer. answer ≡ status.Done → IfSome o (λ files. AreUploadsOf a files))) (sym is) limited

@@ -1,44 +1,53 @@
--- Words that are no session.
-use Rattle.std.proofs.Common.{◌≡◌, ℕ, ◌≤◌, ◌<◌, List, [], ◌∷◌, Option, None, Some, IfSome, map, length, get_or, Result, refl, sym, ap, subst, arith}
-use Rattle.std.proofs.lemmas.List.{length-map}
+-- What words come to, and how a session ends.
+use Rattle.std.proofs.Common.{◌≡◌, ◌∙◌, ◌⊎◌, inl, ℕ, List, [], Option, None, Some, IfSome, Result, refl, sym, subst}
 use Rattle.osm_outside.specs.Outside.{Shelved}
 use Rattle.osm_outside.proofs.Along.{along-start, along-end}
+use Rattle.command_line.specs.Words.{CommandLineValue}
 use Rattle.tool_api.specs.declared.verb.Verb.{Verb}
 use Rattle.edit_session.specs.declared.limits.Limits.{Limits}
 use Rattle.edit_session.specs.declared.status.Status.{Status}
-use Rattle.edit_session.specs.declared.status.Status.TheVariants.{BadWords}
+use Rattle.edit_session.specs.declared.status.Status.TheVariants as status
 use Rattle.edit_session.specs.declared.stop.Stop.{Stop}
-use Rattle.edit_session.specs.Session.{outcome, name_outcome, script_name, Ends, Comes}
+use Rattle.edit_session.specs.Limits.{limits_of}
+use Rattle.edit_session.specs.Session.{line_outcome, name_outcome, Agrees, Ends, Comes, IsEnd}
 
-few : (words : List (List ℕ)) → length words < 2 → script_name words ≡ None
-few [] h = refl
-few (a ∷ []) h = refl
-few (a ∷ b ∷ words) h = absurd (omega (arith, h))
+-- with a command line the session comes to what the script of its name does
+pub comes_named : (line : CommandLineValue) (limits : Limits) (name : List ℕ) (o : Option Shelved) (verbs : List Verb) (old new : Option (List ℕ)) (result : Result Status Stop) (asked : Option CommandLineValue)
+    → asked ≡ Some line → limits ≡ limits_of line → name ≡ line.script
+    → Comes o verbs old new result (λ vs files. name_outcome limits vs files name) → Comes o verbs old new result (λ vs files. line_outcome vs files asked)
+comes_named line limits name o verbs old new result asked is same_limits same_name comes =
+    let named : Comes o verbs old new result (λ vs files. name_outcome limits vs files line.script) = subst (λ n. Comes o verbs old new result (λ vs files. name_outcome limits vs files n)) same_name comes in
+    let limited : Comes o verbs old new result (λ vs files. name_outcome (limits_of line) vs files line.script) = subst (λ l. Comes o verbs old new result (λ vs files. name_outcome l vs files line.script)) same_limits named in
+    subst (λ a. Comes o verbs old new result (λ vs files. line_outcome vs files a)) (sym is) limited
 
-many : (words : List (List ℕ)) → 3 ≤ length words → script_name words ≡ None
-many [] h = refl
-many (a ∷ []) h = refl
-many (a ∷ b ∷ []) h = absurd (omega (arith, h))
-many (a ∷ b ∷ c ∷ words) h = refl
+-- and without one nothing is written
+pub ends_bad : (verbs : List Verb) (asked : Option CommandLineValue) (o : Option Shelved) (taken : Option (List ℕ)) → asked ≡ None → IfSome o (λ files. Ends taken taken status.BadWords (line_outcome verbs files asked))
+ends_bad verbs asked None taken none = tt
+ends_bad verbs asked (Some files) taken none = rw none (refl, along-end taken taken [] (along-start taken []))
 
--- two words name a script
-pub script_named : {X : Type 0} (f : X → List ℕ) (words : List X) (name : X) → 2 ≤ length words → length words < 3 → name ≡ get_or words 1 name → script_name (map f words) ≡ Some (f name)
-script_named f [] name least most e = absurd (omega (arith, least))
-script_named f (a ∷ []) name least most e = absurd (omega (arith, least))
-script_named f (a ∷ b ∷ []) name least most e = ap (λ x. Some (f x)) (sym e)
-script_named f (a ∷ b ∷ c ∷ words) name least most e = absurd (omega (arith, most))
+-- An answer that is none of a fault or of memory ends the session.
+agrees_by : (old new : Option (List ℕ)) (answer : Status) (end : Status × List ℕ) → IsEnd answer → Ends old new answer end → Agrees old new answer end
+agrees_by old new status.ReadFault end is ends = absurd is
+agrees_by old new status.WriteFault end is ends = absurd is
+agrees_by old new status.Memory end is ends = absurd is
+agrees_by old new status.Done end is ends = ends
+agrees_by old new status.BadWords end is ends = ends
+agrees_by old new status.NoScript end is ends = ends
+agrees_by old new (status.BadScript line) end is ends = ends
+agrees_by old new status.ScriptTooLong end is ends = ends
+agrees_by old new (status.NoTool verb) end is ends = ends
 
--- and with them the session comes to what the script of that name does
-pub comes_named : (limits : Limits) (o : Option Shelved) (verbs : List Verb) (old new : Option (List ℕ)) (result : Result Status Stop) (words : List (List ℕ)) (name : List ℕ) → script_name words ≡ Some name
-    → Comes o verbs old new result (λ vs files. name_outcome limits vs files (Some name)) → Comes o verbs old new result (λ vs files. outcome limits vs words files)
-comes_named limits o verbs old new result words name is comes = subst (λ n. Comes o verbs old new result (λ vs files. name_outcome limits vs files n)) (sym is) comes
+pub agrees_ended : (o : Option Shelved) (old new : Option (List ℕ)) (ended answer : Status) (had has : List Verb) (end : List Verb → Shelved → Status × List ℕ) → answer ≡ ended → had ≡ has → IsEnd ended
+    → IfSome o (λ files. Ends old new ended (end had files)) → IfSome o (λ files. Agrees old new answer (end has files))
+agrees_ended None old new ended answer had has end same verbs is ends = tt
+agrees_ended (Some files) old new ended answer had has end same verbs is ends =
+    let there : Ends old new answer (end has files) = subst (λ vs. Ends old new answer (end vs files)) verbs (subst (λ a. Ends old new a (end had files)) (sym same) ends) in
+    agrees_by old new answer (end has files) (subst IsEnd (sym same) is) there
 
-ends_bad : (limits : Limits) (verbs : List Verb) (words : List (List ℕ)) (o : Option Shelved) (taken : Option (List ℕ)) → script_name words ≡ None → IfSome o (λ files. Ends taken taken BadWords (outcome limits verbs words files))
-ends_bad limits verbs words None taken none = tt
-ends_bad limits verbs words (Some files) taken none = rw none (refl, along-end taken taken [] (along-start taken []))
-
-pub too_few : {X : Type 0} (f : X → List ℕ) (limits : Limits) (verbs : List Verb) (words : List X) (o : Option Shelved) (taken : Option (List ℕ)) → length words < 2 → IfSome o (λ files. Ends taken taken BadWords (outcome limits verbs (map f words) files))
-too_few f limits verbs words o taken h = ends_bad limits verbs (map f words) o taken (few (map f words) (omega (arith, h, length-map {B = List ℕ} words f)))
-
-pub too_many : {X : Type 0} (f : X → List ℕ) (limits : Limits) (verbs : List Verb) (words : List X) (o : Option Shelved) (taken : Option (List ℕ)) → 3 ≤ length words → IfSome o (λ files. Ends taken taken BadWords (outcome limits verbs (map f words) files))
-too_many f limits verbs words o taken h = ends_bad limits verbs (map f words) o taken (many (map f words) (omega (arith, h, length-map {B = List ℕ} words f)))
+-- It is done where the outcome is.
+pub done_ended : (R W : Type 0) (o : Option Shelved) (old new : Option (List ℕ)) (ended answer : Status) (had has : List Verb) (end : List Verb → Shelved → Status × List ℕ) → answer ≡ ended → had ≡ has
+    → IfSome o (λ files. Ends old new ended (end had files)) → IfSome o (λ files. (end has files).0 ≡ status.Done → R → W → (answer ≡ status.Done) ⊎ (answer ≡ status.Memory))
+done_ended R W None old new ended answer had has end same verbs ends = tt
+done_ended R W (Some files) old new ended answer had has end same verbs ends =
+    let there : ended ≡ (end has files).0 = subst (λ vs. ended ≡ (end vs files).0) verbs ends.0 in
+    λ done r w. inl (same ∙ there ∙ done)

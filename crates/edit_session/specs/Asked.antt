@@ -1,11 +1,14 @@
 -- What the functions of a session ask of the history that they move.
 use Rattle.std.specs.Prelude.{◌≡◌, Bool, true, false, List, None, IfSome}
 use Rattle.tool_api.specs.declared.verb.Verb.{Verb}
+use Rattle.tool_api.specs.Plain.{IsWellFormed, verb_of}
 use Rattle.edit_script.specs.declared.step.Act.{Act}
 use Rattle.edit_script.specs.declared.step.Step.{Step}
 use Rattle.edit_script.specs.Order.{IsMeant, may_stand}
 use Rattle.edit_history.specs.Machine.{State, first_state}
 use Rattle.edit_history.specs.Shown.{IsThere}
+use Rattle.edit_session.specs.declared.loading.Found.{Found}
+use Rattle.edit_session.specs.declared.loading.Found.TheVariants as found
 use Rattle.edit_session.specs.Groups.{is_given_up, is_open}
 use Rattle.edit_session.specs.Needs.{needs, missing_verb}
 
@@ -19,6 +22,11 @@ pub record MayTake (act : Act) (s : State) (verbs : List Verb) : Type 0 where
 pub record MayWork (verb : Verb) (s : State) (verbs : List Verb) : Type 0 where
   pub there : IsThere verb verbs
   pub going : is_given_up s.group ≡ false
+
+-- what was found, where it is no job or one that may be done
+abbrev pub MayRunFound : Found → State → List Verb → Type 0
+MayRunFound (found.Job job) s verbs = IsWellFormed job × MayWork (verb_of job) s verbs
+MayRunFound other s verbs = is_given_up s.group ≡ false
 
 -- the group was given up, or not
 abbrev pub IsGivenUp : Bool → State → List Verb → Type 0

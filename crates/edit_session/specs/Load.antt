@@ -1,50 +1,74 @@
 -- What a step finds on the shelf.
 --
--- For example `download f` finds the objects of f, or which of its lines is bad, or nothing where the shelf has no f.
+-- For example `download f` finds a job that merges what f tells, or which of its lines is bad, or nothing where the shelf has
+-- no f. And `confirm f` finds the bytes of f, or that they are too many.
 use Rattle.std.specs.Prelude.{◌≡◌, ℕ, List, Option, None, Some, Result, Ok, Err, IfErr, if◌then◌else◌}
+use Rattle.std.specs.Option.{option_map}
 use Rattle.osm_outside.specs.Outside.{Shelved, held}
 use Rattle.opl_line.specs.declared.object.OplObject.{OplObject}
+use Rattle.opl_line.specs.declared.mode.Mode.{Mode}
 use Rattle.opl_line.specs.declared.mode.Mode.TheVariants as mode
 use Rattle.opl_file.specs.declared.fault.FileFault.{FileFault}
+use Rattle.opl_file.specs.declared.fault.FileFault.TheVariants.{FileTooLong}
 use Rattle.opl_file.specs.Reading.{objects_of}
-use Rattle.download.specs.Tell.{AreTellable}
+use Rattle.download.specs.Filter.{filtered}
+use Rattle.import_tool.specs.Counted.{new_objects_of}
+use Rattle.tool_api.specs.declared.job.Job as jobs
+use Rattle.tool_api.specs.declared.job.Job.TheVariants.{Merge, Import}
+use Rattle.tool_api.specs.declared.verb.Verb.{Verb}
+use Rattle.tool_api.specs.declared.verb.Verb.TheVariants as verb
+use Rattle.tool_api.specs.Plain.{IsWellFormed, verb_of}
 use Rattle.edit_script.specs.declared.step.Act.{Act}
-use Rattle.edit_script.specs.declared.step.Act.TheVariants.{Download}
+use Rattle.edit_script.specs.declared.step.Act.TheVariants.{Download, ImportFile, Confirm}
 use Rattle.edit_history.specs.declared.counts.Group.{Group}
 use Rattle.edit_session.specs.declared.files.ReadError.{ReadError}
 use Rattle.edit_session.specs.declared.files.ReadError.TheVariants.{Memory}
 use Rattle.edit_session.specs.declared.limits.Limits.{Limits}
 use Rattle.edit_session.specs.declared.loading.Found.{Found}
-use Rattle.edit_session.specs.declared.loading.Found.TheVariants.{Nothing, Bad, Objects}
+use Rattle.edit_session.specs.declared.loading.Found.TheVariants.{Nothing, Bad, Job, Answers}
+use Rattle.edit_session.specs.declared.files.Fetched.{Fetched}
+use Rattle.edit_session.specs.declared.files.Fetched.TheVariants.{Missing, TooLong, Whole}
+use Rattle.edit_session.specs.Fetch.{reading}
 use Rattle.edit_session.specs.Groups.{is_given_up}
 
--- the objects in the bytes of a file that a server gave, or why it isn't taken
-abbrev pub objects_in : ℕ → List ℕ → Result (List OplObject) FileFault
-objects_in limit bytes = objects_of mode.Download limit bytes
+-- the job that the objects of a file make, where the shelf has it and it is taken
+abbrev pub job_found : (List OplObject → jobs.Job) → Option (Result (List OplObject) FileFault) → Found
+job_found job None = Nothing
+job_found job (Some (Err fault)) = Bad fault
+job_found job (Some (Ok objects)) = Job (job objects)
 
-abbrev pub as_found : Result (List OplObject) FileFault → Found
-as_found (Ok objects) = Objects objects
-as_found (Err fault) = Bad fault
-
--- what a file of objects comes to, where the shelf has it
-abbrev pub file_found : ℕ → Option (List ℕ) → Found
-file_found limit None = Nothing
-file_found limit (Some bytes) = as_found (objects_in limit bytes)
+-- a file of answers, whose lines are not read yet
+abbrev pub answers_found : Fetched → Found
+answers_found Missing = Nothing
+answers_found TooLong = Bad FileTooLong
+answers_found (Whole bytes) = Answers bytes
 
 -- what an act finds in the file that it names
 abbrev pub act_found : Limits → Shelved → Act → Found
-act_found limits files (Download name) = file_found limits.file (held files name)
+act_found limits files (Download name area wanted) = job_found (λ objects. Merge (filtered objects area wanted)) (option_map (objects_of mode.Download limits.file) (held files name))
+act_found limits files (ImportFile name) = job_found (λ objects. Import (new_objects_of objects)) (option_map (objects_of mode.Import limits.file) (held files name))
+act_found limits files (Confirm name) = answers_found (reading limits.file (held files name))
 act_found limits files act = Nothing
 
 -- What an act finds there in this group. One that was given up reads no file.
 abbrev pub found_in : Limits → Shelved → Group → Act → Found
 found_in limits files group act = if is_given_up group then Nothing else act_found limits files act
 
--- what was found may be told
-abbrev pub AreTold : Found → Type 0
-AreTold Nothing = Unit {0}
-AreTold (Bad fault) = Unit {0}
-AreTold (Objects objects) = AreTellable objects
+-- these are the objects of some bytes
+abbrev pub AreRead : Mode → ℕ → Result (List OplObject) FileFault → Type 0
+AreRead mode limit (Ok objects) = (bytes : List ℕ) × (objects_of mode limit bytes ≡ Ok objects)
+AreRead mode limit (Err fault) = Unit {0}
+
+-- a job that was found is well formed, and one for the tool of this verb
+abbrev pub IsFor : Verb → Found → Type 0
+IsFor verb (Job job) = (verb_of job ≡ verb) × IsWellFormed job
+IsFor verb found = Unit {0}
+
+-- What an act may find: a job for its tool.
+abbrev pub MayFind : Act → Found → Type 0
+MayFind (Download name area wanted) found = IsFor verb.Merge found
+MayFind (ImportFile name) found = IsFor verb.Import found
+MayFind act found = Unit {0}
 
 -- a reader's end fails for want of memory alone
 abbrev pub FinishCause : {T : Type 0} → Result T ReadError → Type 0

@@ -6,17 +6,19 @@ use Rattle.std.specs.Prelude.{Bool, if◌then◌else◌, List, [], ◌∷◌, Op
 use Rattle.std.specs.List.{list_any}
 use Rattle.std.specs.Option.{option_or}
 use Rattle.tool_api.specs.declared.verb.Verb.{Verb}
-use Rattle.tool_api.specs.declared.verb.Verb.TheVariants.{Merge}
+use Rattle.tool_api.specs.declared.verb.Verb.TheVariants.{Merge, Import}
 use Rattle.tool_api.specs.Plain.{verb_of}
 use Rattle.tool_api.specs.Verbs.{same_verb}
 use Rattle.edit_script.specs.declared.step.Act.{Act}
-use Rattle.edit_script.specs.declared.step.Act.TheVariants.{Job, Download}
+use Rattle.edit_script.specs.declared.step.Act.TheVariants.{Job, Download, Generate, ImportFile}
 use Rattle.edit_script.specs.declared.step.Step.{Step}
 
 -- the verb of the tool that an act needs, if it needs one
 abbrev pub needs : Act → Option Verb
 needs (Job job) = Some (verb_of job)
-needs (Download name) = Some Merge
+needs (Download name area wanted) = Some Merge
+needs (Generate streets) = Some Merge
+needs (ImportFile name) = Some Import
 needs act = None
 
 -- whether a verb is among these

@@ -1,4 +1,4 @@
--- What `upload` and `rehearse` answer: something of the changes that bring the edits to a server, or why nothing is sent.
+-- What `upload`, `rehearse` and `confirm` answer of the changes that bring the edits to a server, or why nothing is sent.
 --
 -- For example over a table with two objects in conflict, of which n4 is the least, both reply `refused 23 2 n4`. Where one
 -- node is to be made and one to be deleted, `rehearse` writes `rehearse accepted 2` behind its reply.
@@ -8,9 +8,11 @@ use Rattle.upload_order.specs.declared.change.Change.{Change}
 use Rattle.upload_order.specs.declared.refusal.PlanRefusal.{PlanRefusal}
 use Rattle.upload_order.specs.declared.refusal.PlanRefusal.TheVariants as plan
 use Rattle.upload_order.specs.Refused.{upload}
+use Rattle.answer_file.specs.declared.fault.AnswerFault.{AnswerFault}
+use Rattle.answer_file.specs.declared.fault.AnswerFault.TheVariants as answer
 use Rattle.edit_script.specs.declared.reply.StepReply.TheVariants.{Done, Refused}
 use Rattle.edit_script.specs.declared.reply.StepRefusal.{StepRefusal}
-use Rattle.edit_script.specs.declared.reply.StepRefusal.TheVariants.{OpenConflicts, IncompleteRef, CyclicNew}
+use Rattle.edit_script.specs.declared.reply.StepRefusal.TheVariants.{OpenConflicts, IncompleteRef, CyclicNew, WrongAnswer, IdTaken}
 use Rattle.edit_session.specs.Counted.{part}
 use Rattle.edit_session.specs.declared.response.Behind.{Behind}
 use Rattle.edit_session.specs.declared.response.Behind.TheVariants as behind
@@ -22,6 +24,13 @@ plan_refused (plan.Conflicts count first) = OpenConflicts count first
 plan_refused (plan.IncompleteRef key of) = IncompleteRef key of
 plan_refused (plan.Cyclic keys) = CyclicNew keys
 plan_refused plan.Memory = CyclicNew []
+
+-- why a file of answers isn't taken
+abbrev pub answers_refused : AnswerFault → StepRefusal
+answers_refused (answer.Plan why) = plan_refused why
+answers_refused (answer.WrongAnswer line) = WrongAnswer line
+answers_refused (answer.IdTaken key) = IdTaken key
+answers_refused answer.Memory = WrongAnswer 0
 
 abbrev pub planned : Result (List Change) PlanRefusal → Result (List Change) StepRefusal
 planned (Ok changes) = Ok changes

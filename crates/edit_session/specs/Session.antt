@@ -2,6 +2,7 @@
 use Rattle.std.specs.Prelude.{◌≡◌, ℕ, ◌≤◌, Bool, true, false, List, [], ◌∷◌, flat_map, Option, None, Some, Result, Ok, Err, IsErrOf, IfSome, IfOk, OnErr}
 use Rattle.std.specs.Io.KnownBytes.{Appends}
 use Rattle.osm_outside.specs.Outside.{Shelved, held, Rose, AppendsFront}
+use Rattle.command_line.specs.Words.{CommandLineValue, command_of}
 use Rattle.tool_api.specs.declared.verb.Verb.{Verb}
 use Rattle.edit_script.specs.declared.step.Step.{Step}
 use Rattle.edit_script.specs.Script.{steps_of}
@@ -12,7 +13,10 @@ use Rattle.edit_session.specs.declared.status.Status.{Status}
 use Rattle.edit_session.specs.declared.status.Status.TheVariants as status
 use Rattle.edit_session.specs.declared.stop.Stop.{Stop}
 use Rattle.edit_session.specs.declared.stop.Stop.TheVariants.{ReadFault, WriteFault}
-use Rattle.edit_session.specs.Fetch.{Reading, missing, too_long, whole, reading}
+use Rattle.edit_session.specs.declared.files.Fetched.{Fetched}
+use Rattle.edit_session.specs.declared.files.Fetched.TheVariants.{Missing, TooLong, Whole}
+use Rattle.edit_session.specs.Fetch.{reading}
+use Rattle.edit_session.specs.Limits.{limits_of}
 use Rattle.edit_session.specs.Needs.{missing_verb}
 use Rattle.edit_session.specs.Turn.{step_turn, step_text}
 
@@ -44,25 +48,23 @@ abbrev pub script_outcome : Limits → List Verb → Shelved → Result (List St
 script_outcome limits verbs files (Err line) = (status.BadScript line, [])
 script_outcome limits verbs files (Ok steps) = steps_outcome limits files steps (missing_verb verbs steps)
 
-abbrev pub file_outcome : Limits → List Verb → Shelved → Reading → Status × List ℕ
-file_outcome limits verbs files missing = (status.NoScript, [])
-file_outcome limits verbs files too_long = (status.ScriptTooLong, [])
-file_outcome limits verbs files (whole bytes) = script_outcome limits verbs files (steps_of bytes)
+abbrev pub file_outcome : Limits → List Verb → Shelved → Fetched → Status × List ℕ
+file_outcome limits verbs files Missing = (status.NoScript, [])
+file_outcome limits verbs files TooLong = (status.ScriptTooLong, [])
+file_outcome limits verbs files (Whole bytes) = script_outcome limits verbs files (steps_of bytes)
 
--- the words are the program's name and the script's
-abbrev pub script_name : List (List ℕ) → Option (List ℕ)
-script_name [] = None
-script_name (program ∷ []) = None
-script_name (program ∷ name ∷ []) = Some name
-script_name (program ∷ name ∷ more ∷ others) = None
+-- what the script of that name comes to
+abbrev pub name_outcome : Limits → List Verb → Shelved → List ℕ → Status × List ℕ
+name_outcome limits verbs files name = file_outcome limits verbs files (reading limits.script (held files name))
 
-abbrev pub name_outcome : Limits → List Verb → Shelved → Option (List ℕ) → Status × List ℕ
-name_outcome limits verbs files None = (status.BadWords, [])
-name_outcome limits verbs files (Some name) = file_outcome limits verbs files (reading limits.script (held files name))
+-- what a command line comes to, if the words are one
+abbrev pub line_outcome : List Verb → Shelved → Option CommandLineValue → Status × List ℕ
+line_outcome verbs files None = (status.BadWords, [])
+line_outcome verbs files (Some line) = name_outcome (limits_of line) verbs files line.script
 
 -- What a session comes to with tools of these verbs, and what it writes.
-abbrev pub outcome : Limits → List Verb → List (List ℕ) → Shelved → Status × List ℕ
-outcome limits verbs words files = name_outcome limits verbs files (script_name words)
+abbrev pub outcome : List Verb → List (List ℕ) → Shelved → Status × List ℕ
+outcome verbs words files = line_outcome verbs files (command_of words)
 
 -- a fault is answered only where its count rose
 pub record StopCause {T : Type 0} (read_before read_now write_before write_now : ℕ) (result : Result T Stop) : Type 0 where

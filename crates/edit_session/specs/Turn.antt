@@ -2,37 +2,40 @@
 --
 -- For example in a state without a group `tag n9 Ta=1` over a table without n9 replies `refused 1 n9`, and the state
 -- stays. In a running group the table is then again the one at `begin`, and what follows up to `end` is skipped.
-use Rattle.std.specs.Prelude.{ℕ, nat_le, if◌then◌else◌, List, [], ◌++◌, length}
+use Rattle.std.specs.Prelude.{ℕ, nat_le, if◌then◌else◌, List, [], ◌++◌, length, Result, Ok, Err}
 use Rattle.osm_outside.specs.Outside.{Shelved}
 use Rattle.osm_table.specs.Table.{TableValue}
 use Rattle.chunking.specs.Chunks.{chunks}
 use Rattle.conflict.specs.Shown.{conflicts_text}
-use Rattle.download.specs.Tell.{told_of}
+use Rattle.dataset.specs.Patch.{PatchValue, after_of}
+use Rattle.sample_city.specs.City.{city}
+use Rattle.answer_file.specs.declared.fault.AnswerFault.{AnswerFault}
+use Rattle.answer_file.specs.Answers.{confirm_text}
 use Rattle.tool_api.specs.declared.job.Job as jobs
 use Rattle.tool_api.specs.declared.job.Job.TheVariants.{Merge}
 use Rattle.tool_api.specs.declared.reply.Reply.{Reply}
 use Rattle.tool_api.specs.declared.reply.Reply.TheVariants as reply
 use Rattle.tool_api.specs.Plain.{plain}
 use Rattle.edit_script.specs.declared.step.Act.{Act}
-use Rattle.edit_script.specs.declared.step.Act.TheVariants.{Job, Download, Begin, End, Undo, Redo, Print, Count, Conflicts, Rehearse, Upload}
+use Rattle.edit_script.specs.declared.step.Act.TheVariants.{Job, Download, Generate, ImportFile, Begin, End, Undo, Redo, Print, Count, Conflicts, Rehearse, Upload, Confirm}
 use Rattle.edit_script.specs.declared.step.Step.{Step}
 use Rattle.edit_script.specs.declared.reply.StepReply.{StepReply}
 use Rattle.edit_script.specs.declared.reply.StepReply.TheVariants.{Done, Refused, Skipped}
 use Rattle.edit_script.specs.declared.reply.StepRefusal.{StepRefusal}
 use Rattle.edit_script.specs.declared.reply.StepRefusal.TheVariants.{Tool, NoFile, BadFile, NothingToUndo, NothingToRedo}
 use Rattle.edit_script.specs.Reply.{reply_line}
-use Rattle.edit_history.specs.Machine.{State, ran, refused_in, began, ended, went_back, went_on}
+use Rattle.edit_history.specs.Machine.{State, ran, refused_in, began, ended, settled, went_back, went_on}
 use Rattle.edit_history.specs.Moved.{Move}
 use Rattle.edit_session.specs.declared.limits.Limits.{Limits}
 use Rattle.edit_session.specs.declared.loading.Found.{Found}
-use Rattle.edit_session.specs.declared.loading.Found.TheVariants.{Nothing, Bad, Objects}
+use Rattle.edit_session.specs.declared.loading.Found.TheVariants as found
 use Rattle.edit_session.specs.declared.response.Behind.{Behind}
 use Rattle.edit_session.specs.declared.response.Behind.TheVariants as behind
 use Rattle.edit_session.specs.declared.response.Response.{Response}
 use Rattle.edit_session.specs.Counted.{count_text}
 use Rattle.edit_session.specs.Groups.{is_given_up}
 use Rattle.edit_session.specs.Load.{found_in}
-use Rattle.edit_session.specs.Planned.{upload_answer, rehearse_answer, rehearsed_text}
+use Rattle.edit_session.specs.Planned.{answers_refused, upload_answer, rehearse_answer, rehearsed_text}
 use Rattle.edit_session.specs.Printed.{table_text}
 
 -- What a step answers, and the state after it.
@@ -68,11 +71,26 @@ job_turn limit job s = record { answer = reply_alone (replied (plain job s.now l
 abbrev pub refused_turn : StepRefusal → State → Turn
 refused_turn why s = record { answer = reply_alone (Refused why); state = refused_in s.group s }
 
--- the objects of a file are taken in, where it is there and can be read
-abbrev pub download_turn : ℕ → Found → State → Turn
-download_turn limit Nothing s = refused_turn NoFile s
-download_turn limit (Bad fault) s = refused_turn (BadFile fault) s
-download_turn limit (Objects objects) s = job_turn limit (Merge (told_of objects)) s
+-- a city with so many streets is taken in
+abbrev pub city_turn : ℕ → ℕ → State → Turn
+city_turn limit streets s = job_turn limit (Merge (city streets)) s
+
+-- the job that the objects of a file make is run, where the file is there and can be read
+abbrev pub file_turn : ℕ → Found → State → Turn
+file_turn limit (found.Job job) s = job_turn limit job s
+file_turn limit (found.Bad fault) s = refused_turn (BadFile fault) s
+file_turn limit other s = refused_turn NoFile s
+
+-- the table that the answers confirm is the table now for good
+abbrev pub settled_turn : Result PatchValue AnswerFault → State → Turn
+settled_turn (Ok patch) s = done_turn (settled (after_of patch s.now) s)
+settled_turn (Err fault) s = still_turn (reply_alone (Refused (answers_refused fault))) s
+
+-- the answers in a file are taken, where the file is there and not too long
+abbrev pub confirm_turn : Found → State → Turn
+confirm_turn (found.Answers bytes) s = settled_turn (confirm_text s.now bytes) s
+confirm_turn (found.Bad fault) s = refused_turn (BadFile fault) s
+confirm_turn other s = refused_turn NoFile s
 
 -- n steps back, where there are so many
 abbrev pub undo_turn : ℕ → State → Turn
@@ -85,7 +103,9 @@ redo_turn n s = if nat_le n (length s.undone) then done_turn (went_on n s) else 
 -- an act, where no group was given up
 abbrev pub act_turn : Limits → Found → Act → State → Turn
 act_turn limits found (Job job) s = job_turn limits.objects job s
-act_turn limits found (Download name) s = download_turn limits.objects found s
+act_turn limits found (Download name area wanted) s = file_turn limits.objects found s
+act_turn limits found (Generate streets) s = city_turn limits.objects streets s
+act_turn limits found (ImportFile name) s = file_turn limits.objects found s
 act_turn limits found Begin s = done_turn (began s)
 act_turn limits found End s = done_turn (ended s)
 act_turn limits found (Undo n) s = undo_turn n s
@@ -95,6 +115,7 @@ act_turn limits found Count s = look_turn behind.Counts s
 act_turn limits found Conflicts s = look_turn behind.Conflicts s
 act_turn limits found Rehearse s = still_turn (rehearse_answer s.now) s
 act_turn limits found (Upload size) s = still_turn (upload_answer size s.now) s
+act_turn limits found (Confirm name) s = confirm_turn found s
 
 -- in a group that was given up each act is skipped; its end ends the group
 abbrev pub skipped_turn : Act → State → Turn

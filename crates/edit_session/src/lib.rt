@@ -2,7 +2,8 @@
 //!
 //! `run_session` is the top call. Where the shelf tells its files, the session's text and its
 //! status are those of `outcome` in `specs/Session.antt`, byte for byte; a fault or want of memory
-//! leaves a front of that text. A step is read first: what it finds on the shelf is a value (`find`).
+//! leaves a front of that text. The words name the script and the limits, as `command_line` reads them. A step is read
+//! first: what it finds on the shelf is a value (`find`), the job that a file's objects make or the bytes of its answers.
 //! Then it moves the history: `turn` in `specs/Turn.antt` says of that value and of the state of the
 //! machine of whole tables what it answers and which state follows, and knows no shelf and no sink.
 //! Then its answer is written: the reply line and the text behind it. The tools come in boxes from

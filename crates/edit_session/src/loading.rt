@@ -1,19 +1,31 @@
-//! What a step finds on the shelf: the objects of the file that it names.
-ghost use Rattle.std.specs.Prelude.{◌≡◌, ◌<◌, [], Some, true, length, IfOk, IfSome};
-ghost use Rattle.osm_outside.specs.Outside.{held};
+//! What a step finds on the shelf: the job that the objects of its file make, or its answers.
+ghost use Rattle.std.specs.Prelude.{◌≡◌, ◌<◌, [], true, length, Result, Ok, IfOk, IfSome};
+ghost use Rattle.std.specs.Option.{option_copied, option_map};
+ghost use Rattle.osm_outside.specs.Outside.{held, HasCauseOf};
+ghost use Rattle.opl_line.specs.declared.mode.Mode.TheVariants as modes;
 ghost use Rattle.opl_file.specs.Feeding.{reads_on};
-ghost use Rattle.edit_session.specs.Fetch.{ReadCause};
-ghost use Rattle.edit_session.specs.Load.{file_found, as_found, objects_in, found_in, AreTold, FinishCause};
+ghost use Rattle.opl_file.specs.Reading.{objects_of};
+ghost use Rattle.download.specs.Filter.{filtered};
+ghost use Rattle.import_tool.specs.Counted.{new_objects_of};
+ghost use Rattle.tool_api.specs.declared.job.Job.TheVariants as jobs;
+ghost use Rattle.tool_api.specs.declared.verb.Verb.TheVariants as verbs;
+ghost use Rattle.edit_session.specs.Fetch.{reading};
+ghost use Rattle.edit_session.specs.Load.{job_found, answers_found, found_in, AreRead, IsFor, MayFind, FinishCause};
+ghost use Rattle.edit_session.specs.declared.files.ReadError.TheVariants.{Fault};
 
-use crate::files::ReadError;
+use crate::files::{Bytes, Fetched, ReadError, fetch};
 use crate::limits::Limits;
 use crate::turns::is_given_up;
+use download::{filter, what_is_read_may_be_told};
 use edit_history::Group;
 use edit_script::Act;
+use import_tool::{new_objects, what_is_read_can_be_imported};
 use opl_file::{FileAnswer, FileFault, Objects, Reader};
 use opl_line::Mode;
+use osm_base::{Area, Tags};
 use osm_outside::Shelf;
 use std::alloc::Global;
+use tool_api::Job;
 
 /// What was found.
 #[derive(Drop)]
@@ -22,8 +34,10 @@ pub enum Found {
     Nothing,
     /// A file that isn't taken.
     Bad(FileFault),
-    /// The objects of a file.
-    Objects(Objects),
+    /// The job that the objects of a file make.
+    Job(Job),
+    /// The bytes of a file of answers.
+    Answers(Bytes),
 }
 
 /// Reads the file that an act names, piece by piece. In a group that was given up it reads none. It costs what the file
@@ -40,14 +54,20 @@ pub fn find<S: Shelf>(
 ) -> Result<Found, ReadError>
     ensures told { S.told shelf.new ≡ S.told shelf.old }
     ensures found { IfOk result (λ found. IfSome (S.told shelf.old) (λ files. found ≡ found_in limits files group act.now)) }
-    ensures may_be_told { IfOk result AreTold }
-    ensures cause { ReadCause (S.faults shelf.old) (S.faults shelf.new) result }
+    ensures may_be_found { IfOk result (MayFind act.now) }
+    ensures cause { HasCauseOf Fault (S.faults shelf.old) (S.faults shelf.new) result }
 {
     if is_given_up(group) {
         return Ok(Found::Nothing);
     }
     match act {
-        Act::Download { name } => load(alloc, shelf, name.as_bytes(), limits.file),
+        Act::Download { name, area, wanted } => {
+            let name = name.as_bytes();
+            find_map(alloc, shelf, name, limits.file, *area, wanted.as_ref())
+        }
+        Act::ImportFile { name } => find_new(alloc, shelf, name.as_bytes(), limits.file),
+        Act::Confirm { name } => find_answers(alloc, shelf, name.as_bytes(), limits.file),
+        Act::Generate { .. } => Ok(Found::Nothing),
         Act::Begin => Ok(Found::Nothing),
         Act::End => Ok(Found::Nothing),
         Act::Undo { .. } => Ok(Found::Nothing),
@@ -61,18 +81,91 @@ pub fn find<S: Shelf>(
     }
 }
 
-// Reads the objects of a file that a server gave.
-fn load<S: Shelf>(alloc: Global, shelf: &mut S, name: &[u8], limit: u64) -> Result<Found, ReadError>
+// The job that merges what is wanted of a file that a server gave.
+fn find_map<S: Shelf>(
+    alloc: Global,
+    shelf: &mut S,
+    name: &[u8],
+    limit: u64,
+    area: Option<Area>,
+    wanted: Option<&Tags>,
+) -> Result<Found, ReadError>
     ensures told { S.told shelf.new ≡ S.told shelf.old }
-    ensures found { IfOk result (λ found. IfSome (S.told shelf.old) (λ files. found ≡ file_found limit (held files name.now))) }
-    ensures may_be_told { IfOk result AreTold }
-    ensures cause { ReadCause (S.faults shelf.old) (S.faults shelf.new) result }
+    ensures found { IfOk result (λ found. IfSome (S.told shelf.old) (λ files. found ≡ job_found (λ objects. jobs.Merge (filtered objects area (option_copied wanted.entry))) (option_map (objects_of modes.Download limit) (held files name.now)))) }
+    ensures may_be_found { IfOk result (IsFor verbs.Merge) }
+    ensures cause { HasCauseOf Fault (S.faults shelf.old) (S.faults shelf.new) result }
+{
+    match load(alloc, shelf, name, Mode::Download, limit)? {
+        None => Ok(Found::Nothing),
+        Some(Err(fault)) => Ok(Found::Bad(fault)),
+        Some(Ok(objects)) => {
+            what_is_read_may_be_told();
+            let told = filter(alloc, objects, area, wanted)?;
+            Ok(Found::Job(Job::Merge { told }))
+        }
+    }
+}
+
+// The job that imports the new objects of a file.
+fn find_new<S: Shelf>(
+    alloc: Global,
+    shelf: &mut S,
+    name: &[u8],
+    limit: u64,
+) -> Result<Found, ReadError>
+    ensures told { S.told shelf.new ≡ S.told shelf.old }
+    ensures found { IfOk result (λ found. IfSome (S.told shelf.old) (λ files. found ≡ job_found (λ objects. jobs.Import (new_objects_of objects)) (option_map (objects_of modes.Import limit) (held files name.now)))) }
+    ensures may_be_found { IfOk result (IsFor verbs.Import) }
+    ensures cause { HasCauseOf Fault (S.faults shelf.old) (S.faults shelf.new) result }
+{
+    match load(alloc, shelf, name, Mode::Import, limit)? {
+        None => Ok(Found::Nothing),
+        Some(Err(fault)) => Ok(Found::Bad(fault)),
+        Some(Ok(objects)) => {
+            what_is_read_can_be_imported();
+            let objects = new_objects(alloc, objects)?;
+            Ok(Found::Job(Job::Import { objects }))
+        }
+    }
+}
+
+// The bytes of a file of answers.
+fn find_answers<S: Shelf>(
+    alloc: Global,
+    shelf: &mut S,
+    name: &[u8],
+    limit: u64,
+) -> Result<Found, ReadError>
+    ensures told { S.told shelf.new ≡ S.told shelf.old }
+    ensures found { IfOk result (λ found. IfSome (S.told shelf.old) (λ files. found ≡ answers_found (reading limit (held files name.now)))) }
+    ensures cause { HasCauseOf Fault (S.faults shelf.old) (S.faults shelf.new) result }
+{
+    match fetch(alloc, shelf, name, limit as usize)? {
+        Fetched::Missing => Ok(Found::Nothing),
+        Fetched::TooLong => Ok(Found::Bad(FileFault::FileTooLong)),
+        Fetched::Whole(bytes) => Ok(Found::Answers(bytes)),
+    }
+}
+
+// Reads the objects of a file, where the shelf has it.
+fn load<S: Shelf>(
+    alloc: Global,
+    shelf: &mut S,
+    name: &[u8],
+    mode: Mode,
+    limit: u64,
+) -> Result<Option<Result<Objects, FileFault>>, ReadError>
+    ensures told { S.told shelf.new ≡ S.told shelf.old }
+    ensures loaded { IfOk result (λ file. IfSome (S.told shelf.old) (λ files. file ≡ option_map (objects_of mode limit) (held files name.now))) }
+    ensures read { IfOk result (λ file. IfSome file (AreRead mode limit)) }
+    ensures cause { HasCauseOf Fault (S.faults shelf.old) (S.faults shelf.new) result }
 {
     if !shelf.begin(name)? {
-        return Ok(Found::Nothing);
+        return Ok(None);
     }
     let mut buffer = [0u8; 65_536];
-    read_objects(alloc, shelf, &mut buffer, limit)
+    let read = read_objects(alloc, shelf, &mut buffer, mode, limit)?;
+    Ok(Some(read))
 }
 
 // Reads what is left of the file begun, and no piece more once the limit is passed.
@@ -80,16 +173,17 @@ fn read_objects<S: Shelf>(
     alloc: Global,
     shelf: &mut S,
     buffer: &mut [u8],
+    mode: Mode,
     limit: u64,
-) -> Result<Found, ReadError>
+) -> Result<Result<Objects, FileFault>, ReadError>
     requires begun { S.begun shelf.old ≡ true }
     requires room { 0 < length buffer.old }
     ensures told { S.told shelf.new ≡ S.told shelf.old }
-    ensures found { IfOk result (λ found. IfSome (S.rest shelf.old) (λ bytes. found ≡ as_found (objects_in limit bytes))) }
-    ensures may_be_told { IfOk result AreTold }
-    ensures cause { ReadCause (S.faults shelf.old) (S.faults shelf.new) result }
+    ensures objects { IfOk result (λ read. IfSome (S.rest shelf.old) (λ bytes. read ≡ objects_of mode limit bytes)) }
+    ensures read { IfOk result (AreRead mode limit) }
+    ensures cause { HasCauseOf Fault (S.faults shelf.old) (S.faults shelf.new) result }
 {
-    let mut reader = Reader::new(alloc, Mode::Download, limit);
+    let mut reader = Reader::new(alloc, mode, limit);
     let mut left = limit;
     loop {
         let count = shelf.next(buffer)?;
@@ -97,7 +191,7 @@ fn read_objects<S: Shelf>(
             return finished(reader);
         }
         if left < count as u64 {
-            return Ok(Found::Bad(FileFault::FileTooLong));
+            return Ok(Err(FileFault::FileTooLong));
         }
         reader.feed(&buffer[..count])?;
         left -= count as u64;
@@ -105,13 +199,13 @@ fn read_objects<S: Shelf>(
 }
 
 // What the bytes that the reader was fed are.
-fn finished(reader: Reader) -> Result<Found, ReadError>
-    ensures found { IfOk result (λ found. found ≡ as_found (reads_on reader [])) }
+fn finished(reader: Reader) -> Result<Result<Objects, FileFault>, ReadError>
+    ensures objects { IfOk result (λ read. read ≡ reads_on reader []) }
     ensures cause { FinishCause result }
 {
     match reader.finish() {
-        Ok(objects) => Ok(Found::Objects(objects)),
-        Err(FileAnswer::Bad(fault)) => Ok(Found::Bad(fault)),
+        Ok(objects) => Ok(Ok(objects)),
+        Err(FileAnswer::Bad(fault)) => Ok(Err(fault)),
         Err(FileAnswer::Memory) => Err(ReadError::Memory),
     }
 }

@@ -13,6 +13,8 @@ fn needs(act: &Act) -> Option<Verb>
     match act {
         Act::Job(job) => Some(job.verb()),
         Act::Download { .. } => Some(Verb::Merge),
+        Act::Generate { .. } => Some(Verb::Merge),
+        Act::ImportFile { .. } => Some(Verb::Import),
         _ => None,
     }
 }

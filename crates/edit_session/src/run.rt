@@ -4,7 +4,7 @@ ghost use Rattle.std.specs.Io.KnownBytes.{Appends};
 ghost use Rattle.osm_outside.specs.Outside.{AppendsFront, HasCauseOf};
 ghost use Rattle.edit_script.specs.Order.{IsOrderly};
 ghost use Rattle.edit_session.specs.Asked.{MayTake, MayRunAll};
-ghost use Rattle.edit_session.specs.Load.{AreTold};
+ghost use Rattle.edit_session.specs.Load.{MayFind};
 ghost use Rattle.edit_session.specs.Planned.{IsSized};
 ghost use Rattle.edit_history.specs.Moved.{Fits};
 ghost use Rattle.edit_session.specs.Send.{Plays};
@@ -51,7 +51,7 @@ pub fn run_steps<S: Shelf, K: Sink>(
     for step in steps {
         history.ds().sound();
         let found = find(alloc, limits, shelf, history.group(), &step.act)?;
-        run_step(alloc, limits, out, history, step, found)?;
+        run_step(alloc, limits, out, history, step, &found)?;
     }
     Ok(())
 }
@@ -63,11 +63,11 @@ fn run_step<K: Sink>(
     out: &mut K,
     history: &mut History,
     step: &Step,
-    found: Found,
+    found: &Found,
 ) -> Result<(), WriteError>
     requires fits { Fits (λ b. done (b.vtable, b.value)) (λ b. undone (b.vtable, b.value)) (λ b. kind (b.vtable, b.value)) history.old (MayTake step.now.act) }
-    requires told { AreTold found }
-    ensures plays { Plays (λ b. done (b.vtable, b.value)) (λ b. undone (b.vtable, b.value)) (λ b. kind (b.vtable, b.value)) history.old history.new (K.taken out.old) (K.taken out.new) result step.now.line (turn limits found step.now.act) }
+    requires found { MayFind step.now.act found.now }
+    ensures plays { Plays (λ b. done (b.vtable, b.value)) (λ b. undone (b.vtable, b.value)) (λ b. kind (b.vtable, b.value)) history.old history.new (K.taken out.old) (K.taken out.new) result step.now.line (turn limits found.now step.now.act) }
     ensures cause { HasCauseOf Fault (K.faults out.old) (K.faults out.new) result }
 {
     let response = take_turn(alloc, limits, history, &step.act, found)?;

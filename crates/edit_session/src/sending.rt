@@ -5,10 +5,10 @@ ghost use Rattle.osm_outside.specs.Outside.{AppendsFront, HasCauseOf};
 ghost use Rattle.osm_base.specs.Extends.{Extends};
 ghost use Rattle.osm_base.specs.Meta.{empty_meta};
 ghost use Rattle.chunking.specs.Chunks.{chunks};
-ghost use Rattle.conflict.specs.Shown.{conflict_text, conflicts_text};
+ghost use Rattle.conflict.specs.Shown.{conflicts_text};
 ghost use Rattle.edit_script.specs.Reply.{reply_line};
 ghost use Rattle.edit_session.specs.Planned.{rehearsed_text};
-ghost use Rattle.edit_session.specs.Printed.{entries_text, table_text};
+ghost use Rattle.edit_session.specs.Printed.{lines_of, table_text};
 ghost use Rattle.edit_session.specs.Stop.{write_error_of};
 ghost use Rattle.edit_session.specs.Counted.{count_text};
 ghost use Rattle.edit_session.specs.declared.sending.WriteError.TheVariants.{Fault, Memory};
@@ -112,30 +112,8 @@ pub fn send_table<K: Sink>(alloc: Global, out: &mut K, ds: &DataSet) -> Result<(
     ensures err { OnErr result (AppendsFront (K.taken out.old) (K.taken out.new) (table_text ds.now)) }
     ensures cause { HasCauseOf Fault (K.faults out.old) (K.faults out.new) result }
 {
-    let unknown = Meta::empty(alloc)?;
     let keys = ds.ordered()?;
-    send_entries(alloc, out, ds, keys.as_slice(), &unknown)
-}
-
-fn send_entries<K: Sink>(
-    alloc: Global,
-    out: &mut K,
-    ds: &DataSet,
-    keys: &[Key],
-    unknown: &Meta,
-) -> Result<(), WriteError>
-    requires { unknown.now ≡ empty_meta }
-    ensures ok { OnOk result (Appends (K.taken out.old) (K.taken out.new) (entries_text ds.now keys.now)) }
-    ensures err { OnErr result (AppendsFront (K.taken out.old) (K.taken out.new) (entries_text ds.now keys.now)) }
-    ensures cause { HasCauseOf Fault (K.faults out.old) (K.faults out.new) result }
-{
-    let mut piece = Vec::new(alloc);
-    for key in keys {
-        write_entry(ds, *key, unknown, &mut piece)?;
-        pass_full(out, &mut piece)?;
-    }
-    out.put(&piece)?;
-    Ok(())
+    send_lines(alloc, out, Lines::Object, ds, keys.as_slice())
 }
 
 /// Sends the text of `conflicts`, in pieces of some tens of KiB.
@@ -148,22 +126,52 @@ pub fn send_conflicts<K: Sink>(alloc: Global, out: &mut K, ds: &DataSet) -> Resu
     ensures cause { HasCauseOf Fault (K.faults out.old) (K.faults out.new) result }
 {
     let keys = conflicts(ds)?;
-    send_each(alloc, out, ds, keys.as_slice())
+    send_lines(alloc, out, Lines::Conflict, ds, keys.as_slice())
 }
 
-fn send_each<K: Sink>(
+/// What is written of an object.
+#[derive(Clone, Copy, Debug, PartialEq, Eq)]
+enum Lines {
+    /// Its line, as `print` has it.
+    Object,
+    /// Its lines where it is in conflict.
+    Conflict,
+}
+
+// Appends what is written of the object with that key; `unknown` is the empty metadata.
+fn write_lines(
+    lines: Lines,
+    ds: &DataSet,
+    key: Key,
+    unknown: &Meta,
+    piece: &mut Vec<u8>,
+) -> Result<(), AllocError>
+    requires { unknown.now ≡ empty_meta }
+    ensures written { OnOk result (piece.new.items ≡ piece.old.items ++ lines_of lines ds.now key) }
+    ensures kept { OnErr result (Extends piece.old.items piece.new.items) }
+{
+    match lines {
+        Lines::Object => write_entry(ds, key, unknown, piece),
+        Lines::Conflict => write_conflict(ds, key, piece),
+    }
+}
+
+// Sends what is written of these objects.
+fn send_lines<K: Sink>(
     alloc: Global,
     out: &mut K,
+    lines: Lines,
     ds: &DataSet,
     keys: &[Key],
 ) -> Result<(), WriteError>
-    ensures ok { OnOk result (Appends (K.taken out.old) (K.taken out.new) (flat_map (conflict_text ds.now) keys.now)) }
-    ensures err { OnErr result (AppendsFront (K.taken out.old) (K.taken out.new) (flat_map (conflict_text ds.now) keys.now)) }
+    ensures ok { OnOk result (Appends (K.taken out.old) (K.taken out.new) (flat_map (lines_of lines ds.now) keys.now)) }
+    ensures err { OnErr result (AppendsFront (K.taken out.old) (K.taken out.new) (flat_map (lines_of lines ds.now) keys.now)) }
     ensures cause { HasCauseOf Fault (K.faults out.old) (K.faults out.new) result }
 {
+    let unknown = Meta::empty(alloc)?;
     let mut piece = Vec::new(alloc);
     for key in keys {
-        write_conflict(ds, *key, &mut piece)?;
+        write_lines(lines, ds, *key, &unknown, &mut piece)?;
         pass_full(out, &mut piece)?;
     }
     out.put(&piece)?;

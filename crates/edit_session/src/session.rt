@@ -1,22 +1,24 @@
 //! A whole session.
-ghost use Rattle.std.specs.Prelude.{◌≡◌, ◌≤◌, ◌⊎◌, ◌↔◌, true, None, Some, IfSome, IfOk, IsSome, OnErr, map, string_bytes};
+ghost use Rattle.std.specs.Prelude.{◌≡◌, ◌≤◌, ◌⊎◌, true, None, Ok, Err, IfSome, IfOk, map, string_bytes};
 ghost use Rattle.osm_outside.specs.Outside.{Rose};
+ghost use Rattle.command_line.specs.Words.{command_of};
 ghost use Rattle.tool_api.specs.declared.verb.Verb.{Verb};
 ghost use Rattle.edit_script.specs.Script.{steps_of};
 ghost use Rattle.edit_history.specs.Trail.{KeepNothing};
 ghost use Rattle.edit_history.specs.Moved.{Fits};
 ghost use Rattle.edit_history.specs.Shown.{IsThere, verbs_of};
 ghost use Rattle.edit_session.specs.Asked.{Begins};
-ghost use Rattle.edit_session.specs.Limits.{default_limits};
-ghost use Rattle.edit_session.specs.Session.{outcome, script_name, name_outcome, script_outcome, run, Agrees, Comes, IsAsked, IsEarly, IsEnd, StopCause};
-ghost use Rattle.edit_session.specs.Uploads.{AreUploads, run_of, steps_named, steps_read};
+ghost use Rattle.edit_session.specs.Session.{outcome, name_outcome, script_outcome, run, Agrees, Comes, IsAsked, IsEarly, IsEnd, StopCause};
+ghost use Rattle.edit_session.specs.Uploads.{AreUploads, AreUploadsOf, run_of, steps_read};
+ghost use Rattle.edit_session.specs.declared.stop.Stop.TheVariants.{Memory};
 
 use crate::Status;
 use crate::files::{Fetched, fetch};
-use crate::limits::{Limits, default_limits};
+use crate::limits::Limits;
 use crate::needs::missing_verb;
 use crate::run::run_steps;
 use crate::stop::Stop;
+use command_line::read_words;
 use edit_history::History;
 use edit_script::{ScriptFault, read_script};
 use osm_outside::{Shelf, Sink};
@@ -24,8 +26,8 @@ use std::alloc::Global;
 use std::mem;
 use tool_api::Tool;
 
-/// Runs the session that the words ask for: the first word is the program's name, the second that of the script on the
-/// shelf. The tools run the jobs of the steps, one tool for each verb; of two with one verb the first is used.
+/// Runs the session that the words ask for: they name the script on the shelf, and the limits. The tools run the jobs of the
+/// steps, one tool for each verb; of two with one verb the first is used.
 ///
 /// The words are tested first, then the script is read and its grammar tested, then whether each step has its tool, and
 /// then the steps run. Until they run nothing is written. A session is the last that its program does: what it holds at
@@ -41,11 +43,13 @@ pub fn run_session<S: Shelf, K: Sink>(
     requires undones { KeepNothing (map (λ b. undone b) tools.items) }
     // Where the shelf tells its files, the status is that of the outcome and the sink took its text; after a fault
     // or want of memory it took a front of the text.
-    ensures outcome { IfSome (S.told shelf.old) (λ files. Agrees (K.taken out.old) (K.taken out.new) result (outcome default_limits (map (λ b. kind b) tools.items) (map string_bytes words.now) files)) }
+    ensures outcome { IfSome (S.told shelf.old) (λ files. Agrees (K.taken out.old) (K.taken out.new) result (outcome (map (λ b. kind b) tools.items) (map string_bytes words.now) files)) }
     ensures read { result ≡ Status.ReadFault → Rose (S.faults shelf.old) (S.faults shelf.new) }
     ensures write { result ≡ Status.WriteFault → Rose (K.faults out.old) (K.faults out.new) }
-    ensures words { (result ≡ Status.BadWords) ↔ (script_name (map string_bytes words.now) ≡ None) }
-    ensures unread { result ≡ Status.BadWords → (shelf.new ≡ shelf.old) × (out.new ≡ out.old) }
+    // Words that ask for nothing are bad, unless no memory is left, and then nothing is read or written. No others are.
+    ensures words { result ≡ Status.BadWords → command_of (map string_bytes words.now) ≡ None }
+    ensures bad_words { command_of (map string_bytes words.now) ≡ None → (result ≡ Status.BadWords) ⊎ (result ≡ Status.Memory) }
+    ensures unread { command_of (map string_bytes words.now) ≡ None → (shelf.new ≡ shelf.old) × (out.new ≡ out.old) }
     // Until the steps run nothing is written, and whether there is a script is what the shelf answered.
     ensures unwritten { IsEarly result → out.new ≡ out.old }
     ensures asked { IsAsked (S.begun shelf.new) result }
@@ -54,16 +58,16 @@ pub fn run_session<S: Shelf, K: Sink>(
     // A tool is missed only where no box has its verb.
     ensures no_tool { (verb : Verb) → result ≡ Status.NoTool verb → IsThere verb (map (λ b. kind b) tools.items) → ⊥ }
     // It doesn't give up by itself, but for memory.
-    ensures complete { IfSome (S.told shelf.old) (λ files. (outcome default_limits (map (λ b. kind b) tools.items) (map string_bytes words.now) files).0 ≡ Status.Done
+    ensures complete { IfSome (S.told shelf.old) (λ files. (outcome (map (λ b. kind b) tools.items) (map string_bytes words.now) files).0 ≡ Status.Done
         → (Rose (S.faults shelf.old) (S.faults shelf.new) → ⊥) → (Rose (K.faults out.old) (K.faults out.new) → ⊥)
         → (result ≡ Status.Done) ⊎ (result ≡ Status.Memory)) }
     // Each upload of the run replies ok exactly where nothing refuses the plan of the table. Its text is then the changes in
     // chunks, and each sound server that has the bases, and nothing else that refers to what is deleted, takes each prefix of
     // them whatever fresh ids it picks, and has the edited data after the last.
-    ensures uploads { result ≡ Status.Done → IfSome (S.told shelf.old) (λ files. AreUploads default_limits files (run_of default_limits (map string_bytes words.now) files)) }
+    ensures uploads { result ≡ Status.Done → IfSome (S.told shelf.old) (λ files. AreUploadsOf (command_of (map string_bytes words.now)) files) }
 {
     let mut history = History::new(alloc, tools);
-    match run_words(alloc, default_limits(), words, &mut history, shelf, out) {
+    match run_words(alloc, words, &mut history, shelf, out) {
         Ok(status) => ended(history, status),
         Err(stop) => ended(history, Status::from(stop)),
     }
@@ -79,28 +83,30 @@ fn ended(history: History, status: Status) -> Status
 
 fn run_words<S: Shelf, K: Sink>(
     alloc: Global,
-    limits: Limits,
     words: &[String],
     history: &mut History,
     shelf: &mut S,
     out: &mut K,
 ) -> Result<Status, Stop>
     requires { Fits (λ b. done (b.vtable, b.value)) (λ b. undone (b.vtable, b.value)) (λ b. kind (b.vtable, b.value)) history.old Begins }
-    ensures comes { Comes (S.told shelf.old) (verbs_of (λ b. kind (b.vtable, b.value)) history.old) (K.taken out.old) (K.taken out.new) result (λ verbs files. outcome limits verbs (map string_bytes words.now) files) }
-    ensures uploads { IfOk result (λ status. status ≡ Status.Done → IfSome (S.told shelf.old) (λ files. AreUploads limits files (run_of limits (map string_bytes words.now) files))) }
+    ensures comes { Comes (S.told shelf.old) (verbs_of (λ b. kind (b.vtable, b.value)) history.old) (K.taken out.old) (K.taken out.new) result (λ verbs files. outcome verbs (map string_bytes words.now) files) }
+    ensures uploads { IfOk result (λ status. status ≡ Status.Done → IfSome (S.told shelf.old) (λ files. AreUploadsOf (command_of (map string_bytes words.now)) files)) }
     ensures early { IfOk result (λ status. IsEarly status → out.new ≡ out.old) }
     ensures asked { IfOk result (IsAsked (S.begun shelf.new)) }
     ensures told { S.told shelf.new ≡ S.told shelf.old }
     ensures cause { StopCause (S.faults shelf.old) (S.faults shelf.new) (K.faults out.old) (K.faults out.new) result }
-    ensures words { OnErr result (IsSome (script_name (map string_bytes words.now))) }
-    ensures status { IfOk result (λ status. (status ≡ Status.BadWords) ↔ (script_name (map string_bytes words.now) ≡ None)) }
-    ensures unread { IfOk result (λ status. status ≡ Status.BadWords → (shelf.new ≡ shelf.old) × (out.new ≡ out.old)) }
+    ensures words { IfOk result (λ status. status ≡ Status.BadWords → command_of (map string_bytes words.now) ≡ None) }
+    ensures bad_words { command_of (map string_bytes words.now) ≡ None → (result ≡ Ok Status.BadWords) ⊎ (result ≡ Err Memory) }
+    ensures unread { command_of (map string_bytes words.now) ≡ None → (shelf.new ≡ shelf.old) × (out.new ≡ out.old) }
     ensures not_stop { IfOk result IsEnd }
 {
-    let [_, name] = words else {
-        return Ok(Status::BadWords);
-    };
-    run_named(alloc, limits, name.as_bytes(), history, shelf, out)
+    match read_words(alloc, words)? {
+        None => Ok(Status::BadWords),
+        Some(line) => {
+            let limits = Limits::of(&line);
+            run_named(alloc, limits, line.script.as_bytes(), history, shelf, out)
+        }
+    }
 }
 
 fn run_named<S: Shelf, K: Sink>(
@@ -112,8 +118,8 @@ fn run_named<S: Shelf, K: Sink>(
     out: &mut K,
 ) -> Result<Status, Stop>
     requires { Fits (λ b. done (b.vtable, b.value)) (λ b. undone (b.vtable, b.value)) (λ b. kind (b.vtable, b.value)) history.old Begins }
-    ensures comes { Comes (S.told shelf.old) (verbs_of (λ b. kind (b.vtable, b.value)) history.old) (K.taken out.old) (K.taken out.new) result (λ verbs files. name_outcome limits verbs files (Some name.now)) }
-    ensures uploads { IfOk result (λ status. status ≡ Status.Done → IfSome (S.told shelf.old) (λ files. AreUploads limits files (run limits files (steps_named limits files (Some name.now))))) }
+    ensures comes { Comes (S.told shelf.old) (verbs_of (λ b. kind (b.vtable, b.value)) history.old) (K.taken out.old) (K.taken out.new) result (λ verbs files. name_outcome limits verbs files name.now) }
+    ensures uploads { IfOk result (λ status. status ≡ Status.Done → IfSome (S.told shelf.old) (λ files. AreUploads limits files (run_of limits files name.now))) }
     ensures early { IfOk result (λ status. IsEarly status → out.new ≡ out.old) }
     ensures asked { IfOk result (IsAsked (S.begun shelf.new)) }
     ensures told { S.told shelf.new ≡ S.told shelf.old }
@@ -124,7 +130,9 @@ fn run_named<S: Shelf, K: Sink>(
     match fetch(alloc, shelf, name, limits.script)? {
         Fetched::Missing => Ok(Status::NoScript),
         Fetched::TooLong => Ok(Status::ScriptTooLong),
-        Fetched::Bytes(bytes) => run_script(alloc, limits, history, shelf, out, &bytes),
+        Fetched::Whole(bytes) => {
+            run_script(alloc, limits, history, shelf, out, bytes.as_slice())
+        }
     }
 }
 

@@ -1,22 +1,26 @@
 //! What a step does to the history, and what it answers.
 ghost use Rattle.std.specs.Prelude.{◌≡◌, ◌≤◌, true, false, IfOk};
-ghost use Rattle.tool_api.specs.declared.verb.Verb.TheVariants as verbs;
+ghost use Rattle.dataset.specs.Patch.{after_of};
+ghost use Rattle.answer_file.specs.Answers.{confirm_text};
+ghost use Rattle.tool_api.specs.declared.verb.Verb.TheVariants.{Merge};
 ghost use Rattle.tool_api.specs.Plain.{IsWellFormed, verb_of};
-ghost use Rattle.edit_history.specs.declared.counts.Group.TheVariants as groups;
-ghost use Rattle.edit_session.specs.Asked.{MayTake, MayWork, IsGivenUp};
+ghost use Rattle.edit_history.specs.Machine.{settled};
+ghost use Rattle.edit_history.specs.Moved.{Alone, Fits, MaySettle, Moved};
+ghost use Rattle.edit_session.specs.Asked.{MayTake, MayWork, MayRunFound, IsGivenUp};
 ghost use Rattle.edit_session.specs.Groups.{is_given_up};
-ghost use Rattle.edit_session.specs.Load.{AreTold};
+ghost use Rattle.edit_session.specs.Load.{MayFind};
 ghost use Rattle.edit_session.specs.Planned.{IsSized};
-ghost use Rattle.edit_history.specs.Moved.{Alone, Fits, Moved};
-ghost use Rattle.edit_session.specs.Turn.{turn, job_turn, download_turn, refused_turn, undo_turn, redo_turn, skipped_turn};
+ghost use Rattle.edit_session.specs.Turn.{turn, job_turn, file_turn, city_turn, confirm_turn, done_turn, settled_turn, refused_turn, undo_turn, redo_turn, skipped_turn};
 
 use crate::limits::Limits;
 use crate::loading::Found;
 use crate::response::{Behind, Response};
-use crate::uploading::{answer_rehearsal, answer_upload};
-use download::tell;
+use crate::uploading::{answer_rehearsal, answer_upload, answers_refused};
+use answer_file::confirm_file;
+use dataset::Patch;
 use edit_history::{Group, History};
 use edit_script::{Act, StepRefusal, StepReply};
+use sample_city::sample_city;
 use std::alloc::{AllocError, Global};
 use tool_api::{Job, Reply};
 
@@ -39,11 +43,11 @@ pub fn take_turn(
     limits: Limits,
     history: &mut History,
     act: &Act,
-    found: Found,
+    found: &Found,
 ) -> Result<Response, AllocError>
     requires fits { Fits (λ b. done (b.vtable, b.value)) (λ b. undone (b.vtable, b.value)) (λ b. kind (b.vtable, b.value)) history.old (MayTake act.now) }
-    requires told { AreTold found }
-    ensures moved { Moved (λ b. done (b.vtable, b.value)) (λ b. undone (b.vtable, b.value)) (λ b. kind (b.vtable, b.value)) history.old history.new result (turn limits found act.now) }
+    requires found { MayFind act.now found.now }
+    ensures moved { Moved (λ b. done (b.vtable, b.value)) (λ b. undone (b.vtable, b.value)) (λ b. kind (b.vtable, b.value)) history.old history.new result (turn limits found.now act.now) }
     ensures sized { IfOk result (λ response. IsSized response.behind) }
 {
     if is_given_up(history.group()) {
@@ -51,7 +55,9 @@ pub fn take_turn(
     }
     match act {
         Act::Job(job) => run_job(history, job, limits.objects),
-        Act::Download { .. } => take_in(alloc, limits.objects, history, found),
+        Act::Download { .. } => take_in(history, found, limits.objects),
+        Act::Generate { streets } => generate(alloc, history, *streets, limits.objects),
+        Act::ImportFile { .. } => take_in(history, found, limits.objects),
         Act::Begin => {
             history.begin();
             Ok(Response::done(alloc))
@@ -67,6 +73,7 @@ pub fn take_turn(
         Act::Conflicts => Ok(Response::look(alloc, Behind::Conflicts)),
         Act::Rehearse => answer_rehearsal(history.ds()),
         Act::Upload { size } => answer_upload(history.ds(), *size),
+        Act::Confirm { .. } => confirm(alloc, history, found),
     }
 }
 
@@ -90,6 +97,9 @@ fn skip(history: &mut History, act: &Act) -> Result<Response, AllocError>
         Act::Upload { .. } => Ok(Response::alone(StepReply::Skipped)),
         Act::Job(_) => Ok(Response::alone(StepReply::Skipped)),
         Act::Download { .. } => Ok(Response::alone(StepReply::Skipped)),
+        Act::Generate { .. } => Ok(Response::alone(StepReply::Skipped)),
+        Act::ImportFile { .. } => Ok(Response::alone(StepReply::Skipped)),
+        Act::Confirm { .. } => Ok(Response::alone(StepReply::Skipped)),
     }
 }
 
@@ -104,25 +114,67 @@ fn run_job(history: &mut History, job: &Job, limit: u64) -> Result<Response, All
     }
 }
 
-// Takes in what the objects of a file tell.
-fn take_in(
-    alloc: Global,
-    limit: u64,
-    history: &mut History,
-    found: Found,
-) -> Result<Response, AllocError>
-    requires fits { Fits (λ b. done (b.vtable, b.value)) (λ b. undone (b.vtable, b.value)) (λ b. kind (b.vtable, b.value)) history.old (MayWork verbs.Merge) }
-    requires told { AreTold found }
-    ensures { Moved (λ b. done (b.vtable, b.value)) (λ b. undone (b.vtable, b.value)) (λ b. kind (b.vtable, b.value)) history.old history.new result (download_turn limit found) }
+// Runs the job that the objects of a file make.
+fn take_in(history: &mut History, found: &Found, limit: u64) -> Result<Response, AllocError>
+    requires { Fits (λ b. done (b.vtable, b.value)) (λ b. undone (b.vtable, b.value)) (λ b. kind (b.vtable, b.value)) history.old (MayRunFound found.now) }
+    ensures { Moved (λ b. done (b.vtable, b.value)) (λ b. undone (b.vtable, b.value)) (λ b. kind (b.vtable, b.value)) history.old history.new result (file_turn limit found.now) }
 {
     match found {
+        Found::Job(job) => run_job(history, job, limit),
+        Found::Bad(fault) => refuse(history, StepRefusal::BadFile(*fault)),
         Found::Nothing => refuse(history, StepRefusal::NoFile),
-        Found::Bad(fault) => refuse(history, StepRefusal::BadFile(fault)),
-        Found::Objects(objects) => {
-            let told = tell(alloc, objects)?;
-            run_job(history, &Job::Merge { told }, limit)
+        Found::Answers(_) => refuse(history, StepRefusal::NoFile),
+    }
+}
+
+// Takes in a city with so many streets.
+fn generate(
+    alloc: Global,
+    history: &mut History,
+    streets: u32,
+    limit: u64,
+) -> Result<Response, AllocError>
+    requires fits { Fits (λ b. done (b.vtable, b.value)) (λ b. undone (b.vtable, b.value)) (λ b. kind (b.vtable, b.value)) history.old (MayWork Merge) }
+    requires size { (1 ≤ streets) × (streets ≤ 100000) }
+    ensures { Moved (λ b. done (b.vtable, b.value)) (λ b. undone (b.vtable, b.value)) (λ b. kind (b.vtable, b.value)) history.old history.new result (city_turn limit streets) }
+{
+    let told = sample_city(alloc, streets)?;
+    run_job(history, &Job::Merge { told }, limit)
+}
+
+// Takes the answers in a file.
+fn confirm(alloc: Global, history: &mut History, found: &Found) -> Result<Response, AllocError>
+    requires { Fits (λ b. done (b.vtable, b.value)) (λ b. undone (b.vtable, b.value)) (λ b. kind (b.vtable, b.value)) history.old Alone }
+    ensures { Moved (λ b. done (b.vtable, b.value)) (λ b. undone (b.vtable, b.value)) (λ b. kind (b.vtable, b.value)) history.old history.new result (confirm_turn found.now) }
+{
+    match found {
+        Found::Answers(bytes) => settle(alloc, history, bytes.as_slice()),
+        Found::Bad(fault) => refuse(history, StepRefusal::BadFile(*fault)),
+        Found::Nothing => refuse(history, StepRefusal::NoFile),
+        Found::Job(_) => refuse(history, StepRefusal::NoFile),
+    }
+}
+
+// Makes the table that the answers confirm the table now, for good.
+fn settle(alloc: Global, history: &mut History, bytes: &[u8]) -> Result<Response, AllocError>
+    requires { Fits (λ b. done (b.vtable, b.value)) (λ b. undone (b.vtable, b.value)) (λ b. kind (b.vtable, b.value)) history.old Alone }
+    ensures { Moved (λ b. done (b.vtable, b.value)) (λ b. undone (b.vtable, b.value)) (λ b. kind (b.vtable, b.value)) history.old history.new result (λ s. settled_turn (confirm_text s.now bytes.now) s) }
+{
+    match confirm_file(history.ds(), bytes) {
+        Ok(patch) => settle_by(alloc, history, &patch),
+        Err(fault) => {
+            let why = answers_refused(fault)?;
+            Ok(Response::alone(StepReply::Refused(why)))
         }
     }
+}
+
+fn settle_by(alloc: Global, history: &mut History, patch: &Patch) -> Result<Response, AllocError>
+    requires { Fits (λ b. done (b.vtable, b.value)) (λ b. undone (b.vtable, b.value)) (λ b. kind (b.vtable, b.value)) history.old (MaySettle patch.now) }
+    ensures { Moved (λ b. done (b.vtable, b.value)) (λ b. undone (b.vtable, b.value)) (λ b. kind (b.vtable, b.value)) history.old history.new result (λ s. done_turn (settled (after_of patch.now s.now) s)) }
+{
+    history.settle(patch)?;
+    Ok(Response::done(alloc))
 }
 
 // Refuses a step that has no job; a running group is given up all the same.

@@ -1,11 +1,14 @@
-//! What `upload` and `rehearse` answer.
-ghost use Rattle.std.specs.Prelude.{◌≡◌, ◌≤◌, Ok, IfOk, [], length};
+//! What `upload` and `rehearse` answer, and why a plan or the answers to it are refused.
+ghost use Rattle.std.specs.Prelude.{◌≡◌, ◌≢◌, ◌≤◌, Ok, IfOk, [], length};
 ghost use Rattle.edit_script.specs.declared.reply.StepReply.TheVariants.{Done};
 ghost use Rattle.upload_order.specs.Refused.{upload};
+ghost use Rattle.upload_order.specs.declared.refusal.PlanRefusal.TheVariants as plan;
+ghost use Rattle.answer_file.specs.declared.fault.AnswerFault.TheVariants as answers;
 ghost use Rattle.edit_session.specs.declared.response.Behind.TheVariants as behind;
-ghost use Rattle.edit_session.specs.Planned.{planned, upload_answer, rehearse_answer, IsSized};
+ghost use Rattle.edit_session.specs.Planned.{answers_refused, plan_refused, planned, upload_answer, rehearse_answer, IsSized};
 
 use crate::response::{Behind, Response};
+use answer_file::AnswerFault;
 use dataset::DataSet;
 use edit_script::{StepRefusal, StepReply};
 use server_world::{Rehearsal, rehearse};
@@ -62,13 +65,38 @@ fn planned(ds: &DataSet) -> Result<Result<Changes, StepRefusal>, AllocError>
 {
     match plan(ds) {
         Ok(changes) => Ok(Ok(changes)),
-        Err(PlanRefusal::Conflicts { count, first }) => {
-            Ok(Err(StepRefusal::OpenConflicts { count, first }))
+        Err(why) => {
+            let why = plan_refused(why)?;
+            Ok(Err(why))
         }
-        Err(PlanRefusal::IncompleteRef { key, of }) => {
-            Ok(Err(StepRefusal::IncompleteRef { key, of }))
-        }
-        Err(PlanRefusal::Cyclic { keys }) => Ok(Err(StepRefusal::CyclicNew(keys))),
-        Err(PlanRefusal::Memory) => Err(AllocError),
+    }
+}
+
+// Why nothing is sent, as the refusal of a step. Want of memory is none.
+fn plan_refused(why: PlanRefusal) -> Result<StepRefusal, AllocError>
+    ensures refusal { IfOk result (λ refusal. refusal ≡ plan_refused why) }
+    ensures memory { IfOk result (λ _. why ≢ plan.Memory) }
+{
+    match why {
+        PlanRefusal::Conflicts { count, first } => Ok(StepRefusal::OpenConflicts { count, first }),
+        PlanRefusal::IncompleteRef { key, of } => Ok(StepRefusal::IncompleteRef { key, of }),
+        PlanRefusal::Cyclic { keys } => Ok(StepRefusal::CyclicNew(keys)),
+        PlanRefusal::Memory => Err(AllocError),
+    }
+}
+
+/// Why a file of answers isn't taken, as the refusal of a step. Want of memory is none.
+///
+/// # Errors
+/// No memory was left.
+pub fn answers_refused(why: AnswerFault) -> Result<StepRefusal, AllocError>
+    ensures refusal { IfOk result (λ refusal. refusal ≡ answers_refused why) }
+    ensures memory { IfOk result (λ _. why ≢ answers.Memory) }
+{
+    match why {
+        AnswerFault::Plan { refusal } => plan_refused(refusal),
+        AnswerFault::WrongAnswer { line } => Ok(StepRefusal::WrongAnswer(line)),
+        AnswerFault::IdTaken { key } => Ok(StepRefusal::IdTaken(key)),
+        AnswerFault::Memory => Err(AllocError),
     }
 }

@@ -4,9 +4,9 @@
 //! is proved stands, tells the status on the error stream and ends with its number.
 #![tactic(auto)]
 
-ghost use Rattle.std.specs.Prelude.{◌≡◌, ◌↔◌, None, IfOk, map, string_bytes};
+ghost use Rattle.std.specs.Prelude.{◌≡◌, ◌⊎◌, None, IfOk, map, string_bytes};
+ghost use Rattle.command_line.specs.Words.{command_of};
 ghost use Rattle.tool_api.specs.declared.verb.Verb.{Verb};
-ghost use Rattle.edit_session.specs.Session.{script_name};
 
 use all_tools::run_editor;
 use edit_session::Status;
@@ -38,7 +38,8 @@ fn words(rt: &HostRuntime) -> io::Result<Vec<String>> {
 
 // Over the files of the folder, and standard output.
 fn run_with(rt: &HostRuntime, words: &[String]) -> Result<Status, AllocError>
-    ensures words { IfOk result (λ status. (status ≡ Status.BadWords) ↔ (script_name (map string_bytes words.now) ≡ None)) }
+    ensures words { IfOk result (λ status. status ≡ Status.BadWords → command_of (map string_bytes words.now) ≡ None) }
+    ensures bad_words { IfOk result (λ status. command_of (map string_bytes words.now) ≡ None → (status ≡ Status.BadWords) ⊎ (status ≡ Status.Memory)) }
     ensures tools { (verb : Verb) → IfOk result (λ status. status ≡ Status.NoTool verb → ⊥) }
 {
     let mut shelf = HostShelf::new(rt.clone()?);

@@ -32,7 +32,7 @@ run_step-requires g c =
           there = (there_at _ c.loop-step.step-index c.args.steps.now c.step-item.result (omega arith) c.step-item.is before.there).0;
         };
       };
-      told = c.in_ok-found.ensures.may_be_told;
+      found = c.in_ok-found.ensures.may_be_found;
     }
 
 pub loop-step-preserved : goal.loop-step-preserved
@@ -47,7 +47,7 @@ loop-step-preserved g c =
       read_later = omega (arith, found.cause.later);
       write_later = omega (arith, step.cause.later);
       valid = step.plays.valid;
-      orderly = orderly_on c.args.limits c.in_ok-found.found c.step-item.result.act _ _ (drop (c.loop-step.step-index + 1) c.args.steps.now) step.plays.state here.2;
+      orderly = orderly_on c.args.limits c.in_ok-found.found c.step-item.result.act _ _ (drop (c.loop-step.step-index + 1) c.args.steps.now) here.1 step.plays.state here.2;
       there = ap (λ verbs. missing_verb verbs (drop (c.loop-step.step-index + 1) c.args.steps.now)) step.plays.verbs ∙ tools.1;
       text = goes_on c.args.limits _ _ _ _ (λ files. output c.args.limits files c.args.steps.now) c.loop-step.step-index c.args.steps.now c.step-item.result _ _ _ (omega arith) c.step-item.is
           before.text (rw (before.told, c.group.ensures) at found.found) step.plays.ok step.plays.state;
