@@ -1,5 +1,6 @@
 pub mod Examples
 pub mod Fed
+pub mod Finding
 pub mod Refusing
 pub mod Steps
 pub mod Taking
