@@ -10,13 +10,9 @@ mod coord_text;
 #[cfg(test)]
 mod escaped_text;
 #[cfg(test)]
-mod files;
-#[cfg(test)]
 mod key_text;
 #[cfg(test)]
 mod keys;
-#[cfg(test)]
-mod lines;
 #[cfg(test)]
 mod members;
 #[cfg(test)]
@@ -29,10 +25,6 @@ mod place;
 mod references;
 #[cfg(test)]
 mod refs;
-#[cfg(test)]
-mod replies;
-#[cfg(test)]
-mod scripts;
 #[cfg(test)]
 mod server;
 #[cfg(test)]
