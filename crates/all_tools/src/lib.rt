@@ -4,8 +4,7 @@
 //! commands in place of those of the boxes; so no step misses its tool. A box can't be handed out by the function that
 //! makes it, so the shelf and the sink come in from above, of whatever kind.
 //!
-//! To add a tool of a new verb: its line here, and the verb in `specs/Verbs`. The tools are made by two functions, since what
-//! is known of a dozen boxes is as much as one proof bears.
+//! To add a tool of a new verb: its line here, and the verb in `specs/Verbs`.
 #![tactic(auto)]
 
 ghost use Rattle.std.specs.Prelude.{◌≡◌, ◌≤◌, ◌⊎◌, None, IfSome, IfOk, OnErr, map, string_bytes};
@@ -14,8 +13,7 @@ ghost use Rattle.command_line.specs.Words.{command_of};
 ghost use Rattle.tool_api.specs.declared.verb.Verb.{Verb};
 ghost use Rattle.edit_session.specs.Session.{outcome, Agrees, IsAsked, IsEarly};
 ghost use Rattle.edit_session.specs.Uploads.{AreUploadsOf};
-ghost use Rattle.edit_history.specs.Trail.{KeepNothing};
-ghost use Rattle.all_tools.specs.Verbs.{all_verbs, first_verbs};
+ghost use Rattle.all_tools.specs.Verbs.{all_verbs};
 
 use conflict::ResolveTool;
 use edit_history::{no_boxes, with_box};
@@ -24,7 +22,7 @@ use import_tool::ImportTool;
 use merge_tool::MergeTool;
 use osm_outside::{Shelf, Sink};
 use std::alloc::{AllocError, Global};
-use tool_api::{Tool, Verb};
+use tool_api::Verb;
 use tools_basic::{AddTool, ChangeTool, MoveTool, TagTool};
 use tools_delete::{DeleteTool, EraseTool, PurgeTool};
 use way_combine::{CombineTool, ReverseTool};
@@ -81,37 +79,6 @@ pub fn run_editor<S: Shelf, K: Sink>(
     )?;
     let tools = with_box(tools, Verb::Erase, Box::new(alloc, EraseTool::new(alloc))?)?;
     let tools = with_box(tools, Verb::Purge, Box::new(alloc, PurgeTool::new(alloc))?)?;
-    run_with(alloc, words, tools, shelf, out)
-}
-
-// The same with the tools of the first verbs, to which those of the others come.
-fn run_with<S: Shelf, K: Sink>(
-    alloc: Global,
-    words: &[String],
-    tools: Vec<Box<dyn Tool>>,
-    shelf: &mut S,
-    out: &mut K,
-) -> Result<Status, AllocError>
-    requires dones { KeepNothing (map (λ b. done b) tools.items) }
-    requires undones { KeepNothing (map (λ b. undone b) tools.items) }
-    requires kinds { map (λ b. kind b) tools.items ≡ first_verbs }
-    ensures outcome { IfOk result (λ status. IfSome (S.told shelf.old) (λ files. Agrees (K.taken out.old) (K.taken out.new) status (outcome all_verbs (map string_bytes words.now) files))) }
-    ensures read { IfOk result (λ status. status ≡ Status.ReadFault → Rose (S.faults shelf.old) (S.faults shelf.new)) }
-    ensures write { IfOk result (λ status. status ≡ Status.WriteFault → Rose (K.faults out.old) (K.faults out.new)) }
-    ensures words { IfOk result (λ status. status ≡ Status.BadWords → command_of (map string_bytes words.now) ≡ None) }
-    ensures bad_words { IfOk result (λ status. command_of (map string_bytes words.now) ≡ None → (status ≡ Status.BadWords) ⊎ (status ≡ Status.Memory)) }
-    ensures unread { command_of (map string_bytes words.now) ≡ None → (shelf.new ≡ shelf.old) × (out.new ≡ out.old) }
-    ensures unwritten { IfOk result (λ status. IsEarly status → out.new ≡ out.old) }
-    ensures asked { IfOk result (IsAsked (S.begun shelf.new)) }
-    ensures told { IfOk result (λ _. S.told shelf.new ≡ S.told shelf.old) }
-    ensures later { IfOk result (λ _. (S.faults shelf.old ≤ S.faults shelf.new) × (K.faults out.old ≤ K.faults out.new)) }
-    ensures tools { (verb : Verb) → IfOk result (λ status. status ≡ Status.NoTool verb → ⊥) }
-    ensures complete { IfOk result (λ status. IfSome (S.told shelf.old) (λ files. (outcome all_verbs (map string_bytes words.now) files).0 ≡ Status.Done
-        → (Rose (S.faults shelf.old) (S.faults shelf.new) → ⊥) → (Rose (K.faults out.old) (K.faults out.new) → ⊥)
-        → (status ≡ Status.Done) ⊎ (status ≡ Status.Memory))) }
-    ensures uploads { IfOk result (λ status. status ≡ Status.Done → IfSome (S.told shelf.old) (λ files. AreUploadsOf (command_of (map string_bytes words.now)) files)) }
-    ensures err { OnErr result ((shelf.new ≡ shelf.old) × (out.new ≡ out.old)) }
-{
     let tools = with_box(tools, Verb::Split, Box::new(alloc, SplitTool::new(alloc))?)?;
     let tools = with_box(
         tools,
