@@ -7,7 +7,7 @@
 //! To add a tool of a new verb: its line here, and the verb in `specs/Verbs`.
 #![tactic(auto)]
 
-ghost use Rattle.std.specs.Prelude.{◌≡◌, ◌≤◌, ◌⊎◌, None, IfSome, IfOk, OnErr, map, string_bytes};
+ghost use Rattle.std.specs.Prelude.{◌≡◌, ◌≤◌, ◌⊎◌, [], None, IfSome, IfOk, OnErr, map, string_bytes};
 ghost use Rattle.osm_outside.specs.Outside.{Rose};
 ghost use Rattle.command_line.specs.Words.{command_of};
 ghost use Rattle.tool_api.specs.declared.verb.Verb.{Verb};
@@ -22,7 +22,7 @@ use import_tool::ImportTool;
 use merge_tool::MergeTool;
 use osm_outside::{Shelf, Sink};
 use std::alloc::{AllocError, Global};
-use tool_api::Verb;
+use tool_api::{Command, Tool, Undoable, Verb};
 use tools_basic::{AddTool, ChangeTool, MoveTool, TagTool};
 use tools_delete::{DeleteTool, EraseTool, PurgeTool};
 use way_combine::{CombineTool, ReverseTool};
@@ -64,42 +64,40 @@ pub fn run_editor<S: Shelf, K: Sink>(
     ensures err { OnErr result ((shelf.new ≡ shelf.old) × (out.new ≡ out.old)) }
 {
     let tools = no_boxes(alloc);
-    let tools = with_box(tools, Verb::Add, Box::new(alloc, AddTool::new(alloc))?)?;
-    let tools = with_box(tools, Verb::Tag, Box::new(alloc, TagTool::new(alloc))?)?;
-    let tools = with_box(tools, Verb::Move, Box::new(alloc, MoveTool::new(alloc))?)?;
-    let tools = with_box(
-        tools,
-        Verb::Change,
-        Box::new(alloc, ChangeTool::new(alloc))?,
-    )?;
-    let tools = with_box(
-        tools,
-        Verb::Delete,
-        Box::new(alloc, DeleteTool::new(alloc))?,
-    )?;
-    let tools = with_box(tools, Verb::Erase, Box::new(alloc, EraseTool::new(alloc))?)?;
-    let tools = with_box(tools, Verb::Purge, Box::new(alloc, PurgeTool::new(alloc))?)?;
-    let tools = with_box(tools, Verb::Split, Box::new(alloc, SplitTool::new(alloc))?)?;
-    let tools = with_box(
-        tools,
-        Verb::Combine,
-        Box::new(alloc, CombineTool::new(alloc))?,
-    )?;
-    let tools = with_box(
-        tools,
-        Verb::Reverse,
-        Box::new(alloc, ReverseTool::new(alloc))?,
-    )?;
-    let tools = with_box(tools, Verb::Merge, Box::new(alloc, MergeTool::new(alloc))?)?;
-    let tools = with_box(
-        tools,
-        Verb::Import,
-        Box::new(alloc, ImportTool::new(alloc))?,
-    )?;
-    let tools = with_box(
-        tools,
-        Verb::Resolve,
-        Box::new(alloc, ResolveTool::new(alloc))?,
-    )?;
+    let tool: Box<AddTool> = boxed(alloc)?;
+    let tools = with_box(tools, Verb::Add, tool)?;
+    let tool: Box<TagTool> = boxed(alloc)?;
+    let tools = with_box(tools, Verb::Tag, tool)?;
+    let tool: Box<MoveTool> = boxed(alloc)?;
+    let tools = with_box(tools, Verb::Move, tool)?;
+    let tool: Box<ChangeTool> = boxed(alloc)?;
+    let tools = with_box(tools, Verb::Change, tool)?;
+    let tool: Box<DeleteTool> = boxed(alloc)?;
+    let tools = with_box(tools, Verb::Delete, tool)?;
+    let tool: Box<EraseTool> = boxed(alloc)?;
+    let tools = with_box(tools, Verb::Erase, tool)?;
+    let tool: Box<PurgeTool> = boxed(alloc)?;
+    let tools = with_box(tools, Verb::Purge, tool)?;
+    let tool: Box<SplitTool> = boxed(alloc)?;
+    let tools = with_box(tools, Verb::Split, tool)?;
+    let tool: Box<CombineTool> = boxed(alloc)?;
+    let tools = with_box(tools, Verb::Combine, tool)?;
+    let tool: Box<ReverseTool> = boxed(alloc)?;
+    let tools = with_box(tools, Verb::Reverse, tool)?;
+    let tool: Box<MergeTool> = boxed(alloc)?;
+    let tools = with_box(tools, Verb::Merge, tool)?;
+    let tool: Box<ImportTool> = boxed(alloc)?;
+    let tools = with_box(tools, Verb::Import, tool)?;
+    let tool: Box<ResolveTool> = boxed(alloc)?;
+    let tools = with_box(tools, Verb::Resolve, tool)?;
     Ok(run_session(alloc, words, tools, shelf, out))
+}
+
+/// A tool that has done nothing, in a box.
+fn boxed<C: Command>(alloc: Global) -> Result<Box<Undoable<C>>, AllocError>
+    ensures done { IfOk result (λ b. ⟦<Undoable<C> as Tool>⟧.done b.value ≡ []) }
+    ensures undone { IfOk result (λ b. ⟦<Undoable<C> as Tool>⟧.undone b.value ≡ []) }
+    ensures kind { IfOk result (λ b. ⟦<Undoable<C> as Tool>⟧.kind b.value ≡ C.kind) }
+{
+    Box::new(alloc, Undoable::new(alloc))
 }

@@ -1,16 +1,9 @@
-use Rattle.std.proofs.Common.{rules, ◌≡◌, ◌⊎◌, IfSome, map, string_bytes, subst}
+use Rattle.std.proofs.Common.{◌≡◌, ◌⊎◌, IfSome, map, string_bytes, subst}
 use Rattle.osm_outside.specs.Outside.{Rose}
 use Rattle.edit_session.specs.declared.status.Status.TheVariants as status
 use Rattle.edit_session.specs.Session.{outcome, Agrees}
 use Rattle.all_tools.proofs.Each.{all_made, none_missed}
 use Rattle.all_tools.proofs.run_editor.Goals as goal
-
--- The last box keeps nothing. Of so many boxes its own facts have to be named.
-pub with_box-requires-13-clause-done : goal.with_box-requires-13-clause-done
-with_box-requires-13-clause-done g c = search (rules, c.new-25.ensures.done, c.new-26.ensures.value_returned, c.new-26.ensures.ok, c.in_ok-new-13.is, c.in_ok-new-13.was, c.in_ok-new-13.ensures.ok, c.in_ok-new-13.ensures.value_returned, c.into_dyn_box-in_ok-new-13.ensures)
-
-pub with_box-requires-13-clause-undone : goal.with_box-requires-13-clause-undone
-with_box-requires-13-clause-undone g c = search (rules, c.new-25.ensures.undone, c.new-26.ensures.value_returned, c.new-26.ensures.ok, c.in_ok-new-13.is, c.in_ok-new-13.was, c.in_ok-new-13.ensures.ok, c.in_ok-new-13.ensures.value_returned, c.into_dyn_box-in_ok-new-13.ensures)
 
 pub returns-clause-outcome : goal.returns-clause-outcome
 returns-clause-outcome g c =
