@@ -99,5 +99,5 @@ fn boxed<C: Command>(alloc: Global) -> Result<Box<Undoable<C>>, AllocError>
     ensures undone { IfOk result (λ b. ⟦<Undoable<C> as Tool>⟧.undone b.value ≡ []) }
     ensures kind { IfOk result (λ b. ⟦<Undoable<C> as Tool>⟧.kind b.value ≡ C.kind) }
 {
-    Box::new(alloc, Undoable::new(alloc))
+    Ok(Box::new(alloc, Undoable::new(alloc))?)
 }
