@@ -61,5 +61,5 @@ line_of found = record {
 }
 
 -- what the words ask for, where clap finds no fault in them
-abbrev pub command_of : List Text → Option CommandLineValue
+unfoldable pub command_of : List Text → Option CommandLineValue
 command_of words = if is_empty (fault_of editor words) then Some (line_of (matches_of editor words)) else None

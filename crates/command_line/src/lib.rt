@@ -42,6 +42,7 @@ pub struct CommandLine<'a> {
 /// # Errors
 ///
 /// Only for want of memory.
+#[tactic(auto, unfolding(crate::specs::Words::command_of))]
 pub fn read_words<'a>(
     alloc: Global,
     words: &'a [String],
