@@ -34,13 +34,13 @@ use Rattle.tool_api.specs.Gone.{mended, gone_keys, relations_left, delete_all, e
 abbrev pub n : ℕ → Key
 n i = node (pos i)
 
-abbrev w : ℕ → Key
+abbrev pub w : ℕ → Key
 w i = record { kind = kind.Way; id = pos i }
 
 abbrev new_w : Key
 new_w = record { kind = kind.Way; id = negsuc 0 }
 
-abbrev m : Key → List ℕ → Member
+abbrev pub m : Key → List ℕ → Member
 m k role = record { key = k; role = role }
 
 twice : twice_test [] (n 1 ∷ n 2 ∷ n 1 ∷ n 2 ∷ []) ≡ Some (NamedTwice (n 1))
@@ -161,7 +161,7 @@ line ids = content.Way [] (map pos ids)
 abbrev route_of : List Member → Content
 route_of members = content.Relation [] members
 
-abbrev r : ℕ → Key
+abbrev pub r : ℕ → Key
 r i = record { kind = kind.Relation; id = pos i }
 
 abbrev houses : List (Key × Entry)

@@ -4,6 +4,7 @@ pub mod Bridge
 pub mod Distincts
 pub mod Ends
 pub mod Examples
+mod FindingExamples
 mod ImportExamples
 mod MergeExamples
 mod ResolveExamples

@@ -14,5 +14,8 @@ pub mod Combine
 pub mod Staged
 pub mod Merged
 pub mod Import
+pub mod Findings
+pub mod Squeeze
+pub mod Fuse
 pub mod Plain
 pub mod Planned

@@ -20,11 +20,15 @@ use Rattle.tool_api.specs.Combine.{combine}
 use Rattle.tool_api.specs.Merged.{merge}
 use Rattle.tool_api.specs.Import.{AreNewObjects, import}
 use Rattle.tool_api.specs.Resolve.{resolve}
+use Rattle.tool_api.specs.Squeeze.{squeeze}
+use Rattle.tool_api.specs.Fuse.{fuse}
 
--- a job that names what it has to: at least two ways to combine, and for an import objects as a file has them
+-- a job that names what it has to: at least two ways to combine or nodes to fuse, and for an import objects as a file has
+-- them
 abbrev pub IsWellFormed : Job → Type 0
 IsWellFormed (job.Combine ways) = 2 ≤ length ways
 IsWellFormed (job.Import objects) = AreNewObjects objects
+IsWellFormed (job.Fuse nodes) = 2 ≤ length nodes
 IsWellFormed j = Unit {0}
 
 -- the verb of the tool that runs a job
@@ -46,6 +50,8 @@ verb_of (job.Reverse way) = verb.Reverse
 verb_of (job.Merge told) = verb.Merge
 verb_of (job.Import objects) = verb.Import
 verb_of (job.Resolve key choice) = verb.Resolve
+verb_of (job.Squeeze keys) = verb.Squeeze
+verb_of (job.Fuse nodes) = verb.Fuse
 
 -- a reply, and the table after it
 pub record Answer : Type 0 where
@@ -76,6 +82,8 @@ outcome (job.Reverse way) t limit = reversed t limit way
 outcome (job.Merge told) t limit = merge t limit told
 outcome (job.Import objects) t limit = import t limit objects
 outcome (job.Resolve key choice) t limit = resolve t limit key choice
+outcome (job.Squeeze keys) t limit = squeeze t limit keys
+outcome (job.Fuse nodes) t limit = fuse t limit nodes
 
 -- The reply and the new table of a job.
 abbrev pub plain : Job → TableValue → ℕ → Answer

@@ -3,7 +3,7 @@
 -- For example a way w5 in conflict, which is named, is refused as `refused 4 w5`.
 use Rattle.std.specs.Prelude.{ℕ}
 use Rattle.tool_api.specs.declared.refusal.Refusal.{Refusal}
-use Rattle.tool_api.specs.declared.refusal.Refusal.TheVariants.{Absent, IncompleteObject, DeletedObject, InConflict, InUse, WrongKind, Unfit, OutOfRange, NamedTwice, NotInWay, NothingToSplit, NotJoined, TagClash, MemberClash, NoConflict, NotMixed, VersionClash, TableFull, NotClashing}
+use Rattle.tool_api.specs.declared.refusal.Refusal.TheVariants.{Absent, IncompleteObject, DeletedObject, InConflict, InUse, WrongKind, Unfit, OutOfRange, NamedTwice, NotInWay, NothingToSplit, NotJoined, TagClash, MemberClash, NoConflict, NotMixed, VersionClash, TableFull, NotClashing, NoFinding, NotSamePlace}
 
 -- the number in a reply
 abbrev pub number_of : Refusal → ℕ
@@ -26,3 +26,5 @@ number_of (NotMixed key) = 16
 number_of (VersionClash key version) = 17
 number_of TableFull = 18
 number_of (NotClashing key) = 29
+number_of (NoFinding key) = 32
+number_of (NotSamePlace key) = 33

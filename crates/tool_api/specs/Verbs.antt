@@ -3,7 +3,7 @@ use Rattle.std.specs.Prelude.{ℕ, Bool, List, codes}
 use denote.Enum.Bare.{sameb}
 use Rattle.tool_api.specs.contracts.verb.Verb.{the_type}
 use Rattle.tool_api.specs.declared.verb.Verb.{Verb}
-use Rattle.tool_api.specs.declared.verb.Verb.TheVariants.{Add, Tag, Move, Change, Delete, Erase, Purge, Split, Combine, Reverse, Merge, Import, Resolve}
+use Rattle.tool_api.specs.declared.verb.Verb.TheVariants.{Add, Tag, Move, Change, Delete, Erase, Purge, Split, Combine, Reverse, Merge, Import, Resolve, Squeeze, Fuse}
 
 -- what `==` answers at verbs
 abbrev pub same_verb : Verb → Verb → Bool
@@ -24,3 +24,5 @@ verb_name Reverse = codes "Reverse"
 verb_name Merge = codes "Merge"
 verb_name Import = codes "Import"
 verb_name Resolve = codes "Resolve"
+verb_name Squeeze = codes "Squeeze"
+verb_name Fuse = codes "Fuse"

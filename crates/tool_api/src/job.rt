@@ -45,6 +45,10 @@ pub enum Job {
     Import { objects: NewObjects },
     /// An object in conflict is settled by a choice.
     Resolve { key: Key, choice: Choice },
+    /// In ways each reference that equals the one just before it is left out.
+    Squeeze { keys: Keys },
+    /// Nodes at one place become one, to which ways and relations refer in place of them all.
+    Fuse { nodes: Keys },
 }
 
 impl Job {
@@ -70,6 +74,8 @@ impl Job {
             Job::Merge { .. } => Verb::Merge,
             Job::Import { .. } => Verb::Import,
             Job::Resolve { .. } => Verb::Resolve,
+            Job::Squeeze { .. } => Verb::Squeeze,
+            Job::Fuse { .. } => Verb::Fuse,
         }
     }
 }

@@ -47,6 +47,10 @@ pub enum Refusal {
     TableFull,
     /// The two sides' values of the tag with that key don't clash.
     NotClashing(Text),
+    /// A check finds nothing there that the command would mend.
+    NoFinding(Key),
+    /// The node isn't at the place of the first one named.
+    NotSamePlace(Key),
 }
 
 impl Refusal {
@@ -74,6 +78,8 @@ impl Refusal {
             Refusal::VersionClash(_, _) => 17,
             Refusal::TableFull => 18,
             Refusal::NotClashing(_) => 29,
+            Refusal::NoFinding(_) => 32,
+            Refusal::NotSamePlace(_) => 33,
         }
     }
 }

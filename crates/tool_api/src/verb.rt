@@ -18,6 +18,8 @@ pub enum Verb {
     Merge,
     Import,
     Resolve,
+    Squeeze,
+    Fuse,
 }
 
 impl Verb {
@@ -39,6 +41,8 @@ impl Verb {
             Verb::Merge => "Merge",
             Verb::Import => "Import",
             Verb::Resolve => "Resolve",
+            Verb::Squeeze => "Squeeze",
+            Verb::Fuse => "Fuse",
         }
     }
 }
