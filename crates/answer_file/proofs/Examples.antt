@@ -1,11 +1,16 @@
 -- Worked examples.
 use Rattle.std.proofs.Common.{◌≡◌, pos, negsuc, [], ◌∷◌, None, Some, refl}
 use Rattle.std.specs.Prelude.{codes}
+use Rattle.std.specs.Fmt.{digits}
 use Rattle.osm_base.specs.Number.{number_text, id_text, kind_letter, key_text}
+use Rattle.osm_base.specs.declared.content.Content.{Content}
 use Rattle.osm_base.specs.declared.key.Kind.TheVariants as kind
+use Rattle.upload_order.specs.declared.change.Change.TheVariants as change
+use Rattle.placeholder.specs.Confirm as placeholder
 use Rattle.placeholder.specs.declared.answer.Answer.TheVariants.{Create, Modify, Delete}
 use Rattle.answer_file.specs.Answers.{answers_of}
 use Rattle.answer_file.specs.Lines.{answer_form, answer_of, created, deleted, modified, version_word}
+use Rattle.answer_file.specs.Text.{text_of}
 
 -- a node was made
 made : answer_of (codes "create n-1 n50 v1") ≡ Some (Create (record { kind = kind.Node; id = negsuc 0 }) (pos 50))
@@ -44,3 +49,10 @@ file_read : answers_of (codes "# chunk 1\nmodify w5 v4\r\nmodify w5\nmodify w5 v
     ≡ record { answers = Modify (record { kind = kind.Way; id = pos 5 }) 4 ∷ []; lines = 2 ∷ []; wrong = Some 3 }
 unfolding answer_form modified version_word key_text id_text kind_letter number_text
 file_read = refl
+
+-- a server made a node and changed a way of version 3: each answer is a line
+answers_written : (sent changed : Content)
+    → text_of (placeholder.answers_of (change.Create (record { kind = kind.Node; id = negsuc 0 }) sent ∷ change.Modify (record { kind = kind.Way; id = pos 5 }) 3 changed ∷ []) (pos 50 ∷ []))
+    ≡ codes "create n-1 n50 v1\nmodify w5 v4\n"
+unfolding digits
+answers_written sent changed = refl

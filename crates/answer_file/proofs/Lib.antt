@@ -4,3 +4,4 @@ pub mod Lines
 pub mod SoFar
 pub mod ReadBack
 pub mod Told
+pub mod Resumes

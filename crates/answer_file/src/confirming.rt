@@ -1,9 +1,13 @@
 //! What a file of answers makes of a table.
-ghost use Rattle.std.specs.Prelude.{◌≡◌, ◌≤◌, length, IfOk};
+ghost use Rattle.std.specs.Prelude.{◌≡◌, ◌≤◌, length, IfErr, IfOk, List, ℤ};
 ghost use Rattle.dataset.specs.Patch.{StandsBefore, after_of};
 ghost use Rattle.dataset.specs.Sound.{IsSound};
+ghost use Rattle.upload_order.specs.declared.change.Change.{Change};
+ghost use Rattle.upload_order.specs.World.{World};
 ghost use Rattle.placeholder.specs.Confirm.{IsNumbered};
+ghost use Rattle.answer_file.specs.declared.fault.AnswerFault.TheVariants.{Memory};
 ghost use Rattle.answer_file.specs.Answers.{Confirms, at_line, confirm_text};
+ghost use Rattle.answer_file.specs.Resumed.{GoesOn, TellsAnswers};
 
 use crate::fault::AnswerFault;
 use crate::reading::read_answers;
@@ -25,6 +29,22 @@ fn at_line(lines: &[u64], fault: ConfirmFault) -> AnswerFault
     }
 }
 
+/// What the file makes of the table, by the definition.
+fn confirmed_by(ds: &DataSet, bytes: &[u8]) -> Result<Patch, AnswerFault>
+    ensures value { Confirms result (confirm_text ds.now bytes.now) }
+    ensures stands { IfOk result (λ patch. StandsBefore patch ds.now) }
+    ensures sound { IfOk result (λ patch. IsSound (after_of patch ds.now)) }
+{
+    let file = read_answers(ds.alloc(), bytes)?;
+    match confirm(ds, file.answers.as_slice()) {
+        Err(fault) => Err(at_line(file.lines.as_slice(), fault)),
+        Ok(patch) => match file.wrong {
+            None => Ok(patch),
+            Some(line) => Err(AnswerFault::WrongAnswer { line }),
+        },
+    }
+}
+
 /// The difference to the table that the server's answers in a file confirm. Costs the bytes, a plan, and of each object that was
 /// made its users with their references.
 ///
@@ -37,13 +57,10 @@ pub fn confirm_file(ds: &DataSet, bytes: &[u8]) -> Result<Patch, AnswerFault>
     // It leads to a sound table.
     ensures stands { IfOk result (λ patch. StandsBefore patch ds.now) }
     ensures sound { IfOk result (λ patch. IsSound (after_of patch ds.now)) }
+    // The text of a server's answers to any number of first changes of the plan is taken, unless memory is wanting.
+    ensures taken { (w : World) (changes left : List Change) (ids : List ℤ) → TellsAnswers w ds.now changes left ids bytes.now → IfErr result (λ fault. fault ≡ Memory) }
+    // From the table that it leads to the upload of the changes that are left goes on.
+    ensures resumed { (w : World) (changes left : List Change) (ids : List ℤ) → TellsAnswers w ds.now changes left ids bytes.now → IfOk result (λ patch. GoesOn w changes left ids (after_of patch ds.now)) }
 {
-    let file = read_answers(ds.alloc(), bytes)?;
-    match confirm(ds, file.answers.as_slice()) {
-        Err(fault) => Err(at_line(file.lines.as_slice(), fault)),
-        Ok(patch) => match file.wrong {
-            None => Ok(patch),
-            Some(line) => Err(AnswerFault::WrongAnswer { line }),
-        },
-    }
+    confirmed_by(ds, bytes)
 }

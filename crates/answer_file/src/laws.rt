@@ -11,8 +11,8 @@ ghost use Rattle.answer_file.specs.Answers.{answers_of, confirm_text};
 ghost use Rattle.answer_file.specs.ByLine.{IsByLine};
 ghost use Rattle.answer_file.specs.Text.{text_of};
 
-/// The text of a server's answers to any number of first changes of a plan is taken, and gives the difference to the table from
-/// which the upload goes on (`placeholder::plan_is_resumed_after`).
+/// The text of a server's answers to any number of first changes of a plan is taken, and gives the difference to the table after
+/// these answers. From it the upload goes on (`resumed` of `confirm_file`).
 pub fn text_is_confirmed()
     ensures { (w : World) (t : TableValue) (cs ds : List Change) (ids : List ℤ) → AreAnswered w t cs ds ids → confirm_text t (text_of (placeholder.answers_of cs ids)) ≡ Ok (diff t (confirmed_all t cs ids)) }
 {}

@@ -2,7 +2,7 @@ use Rattle.std.proofs.Common.{length, sym, ap, subst, ◌∙◌}
 use Rattle.opl_file.specs.Cut.{lines_of}
 use Rattle.placeholder.specs.Confirm.{IsNumbered}
 use Rattle.answer_file.proofs.SoFar.{each_line}
-use Rattle.answer_file.proofs.confirming.confirm_file.Goals as goal
+use Rattle.answer_file.proofs.confirming.confirmed_by.Goals as goal
 
 pub at_line-requires : goal.at_line-requires
 at_line-requires c =
