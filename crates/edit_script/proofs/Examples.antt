@@ -17,10 +17,10 @@ use Rattle.resolution.specs.declared.choice.Side.TheVariants as side
 use Rattle.tool_api.specs.declared.job.Job.TheVariants as job
 use Rattle.tool_api.specs.declared.refusal.Refusal.TheVariants.{InUse}
 use Rattle.edit_script.specs.declared.line.ScriptLine.TheVariants.{Skipped, Asks}
-use Rattle.edit_script.specs.declared.reply.StepRefusal.TheVariants.{Tool, BadFile, OpenConflicts, IncompleteRef, CyclicNew, WrongAnswer, IdTaken}
+use Rattle.edit_script.specs.declared.reply.StepRefusal.TheVariants.{Tool, BadFile, OpenConflicts, IncompleteRef, CyclicNew, WrongAnswer, IdTaken, BadSaved, Unsound}
 use Rattle.edit_script.specs.declared.reply.StepReply.TheVariants as reply
 use Rattle.edit_script.specs.declared.step.Act.TheVariants as act
-use Rattle.edit_script.specs.Forms.{file_word, download, generate, import_file, confirm, add_node, add_way, add_relation, set_tags, shift, place, set_nodes, set_members, delete, split, combine, reverse, undo, resolve, parts, mix, choice_form, upload, way_form, delete_form, change_form, add_form, look_form, group_form, form}
+use Rattle.edit_script.specs.Forms.{file_word, download, generate, import_file, confirm, resume, add_node, add_way, add_relation, set_tags, shift, place, set_nodes, set_members, delete, split, combine, reverse, undo, resolve, parts, mix, choice_form, upload, way_form, delete_form, change_form, add_form, send_form, look_form, group_form, form}
 use Rattle.edit_script.specs.Items.{keys_word, tags_word, refs_word, members_word, place_texts, place_words, area_text, wanted_text, number_word, side_word, tag_keys_of, tag_keys_word}
 use Rattle.edit_script.specs.Reply.{reply_line}
 use Rattle.edit_script.specs.Script.{kind_of_line, line_of, steps_of}
@@ -82,110 +82,118 @@ import_read : line_of (codes "import a") ≡ Some (Asks (act.ImportFile (codes "
 unfolding kind_of_line form import_file file_word unescaped is_utf8 chars encode
 import_read = refl
 
+resume_read : line_of (codes "resume a") ≡ Some (Asks (act.Resume (codes "a")))
+unfolding kind_of_line form resume file_word unescaped is_utf8 chars encode
+resume_read = refl
+
+save_read : line_of (codes "save") ≡ Some (Asks act.Save)
+unfolding kind_of_line form group_form look_form
+save_read = refl
+
 no_file : line_of (codes "download") ≡ None
 unfolding kind_of_line form download
 no_file = refl
 
 -- A node's longitude stands before its latitude.
 node_read : line_of (codes "node x1.5 y-2 T") ≡ Some (Asks (act.Job (job.AddNode [] (record { lon = pos 15000000; lat = negsuc 19999999; on_map = refl }))))
-unfolding kind_of_line form group_form look_form add_form add_node place_words place_texts tags_word tags_text coord_text size_text whole_text pointed_text part_text number_text place_at
+unfolding kind_of_line form group_form look_form send_form add_form add_node place_words place_texts tags_word tags_text coord_text size_text whole_text pointed_text part_text number_text place_at
 node_read = refl
 
 node_swapped : line_of (codes "node y1 x2 T") ≡ None
-unfolding kind_of_line form group_form look_form add_form add_node place_words place_texts coord_text size_text whole_text pointed_text part_text number_text
+unfolding kind_of_line form group_form look_form send_form add_form add_node place_words place_texts coord_text size_text whole_text pointed_text part_text number_text
 node_swapped = refl
 
 node_off_the_map : line_of (codes "node x181 y0 T") ≡ None
-unfolding kind_of_line form group_form look_form add_form add_node place_words place_texts coord_text size_text whole_text pointed_text part_text number_text place_at
+unfolding kind_of_line form group_form look_form send_form add_form add_node place_words place_texts coord_text size_text whole_text pointed_text part_text number_text place_at
 node_off_the_map = refl
 
 way_read : line_of (codes "way T Nn1,n-2") ≡ Some (Asks (act.Job (job.AddWay [] (pos 1 ∷ negsuc 1 ∷ []))))
-unfolding kind_of_line form group_form look_form add_form add_way tags_word tags_text refs_word refs_text ref_into ref_text id_text number_text
+unfolding kind_of_line form group_form look_form send_form add_form add_way tags_word tags_text refs_word refs_text ref_into ref_text id_text number_text
 way_read = refl
 
 -- A reference has no location.
 no_location : line_of (codes "way T Nn1x1y2") ≡ None
-unfolding kind_of_line form group_form look_form add_form add_way tags_word tags_text refs_word
+unfolding kind_of_line form group_form look_form send_form add_form add_way tags_word tags_text refs_word
 no_location = refl
 
 relation_read : line_of (codes "relation T M") ≡ Some (Asks (act.Job (job.AddRelation [] [])))
-unfolding kind_of_line form group_form look_form add_form add_relation tags_word tags_text members_word members_text
+unfolding kind_of_line form group_form look_form send_form add_form add_relation tags_word tags_text members_word members_text
 relation_read = refl
 
 tags_read : line_of (codes "tag n1,w2 T") ≡ Some (Asks (act.Job (job.SetTags (node 1 ∷ way 2 ∷ []) [])))
-unfolding kind_of_line form group_form look_form add_form change_form set_tags keys_word tags_word tags_text key_text id_text kind_letter number_text
+unfolding kind_of_line form group_form look_form send_form add_form change_form set_tags keys_word tags_word tags_text key_text id_text kind_letter number_text
 tags_read = refl
 
 -- A distance may be any that a coordinate text spells.
 move_read : line_of (codes "move n1 0.0000001 -999") ≡ Some (Asks (act.Job (job.Shift (node 1 ∷ []) (pos 1) (negsuc 9989999999))))
-unfolding kind_of_line form group_form look_form add_form change_form shift keys_word key_text id_text kind_letter number_text coord_text size_text whole_text pointed_text part_text
+unfolding kind_of_line form group_form look_form send_form add_form change_form shift keys_word key_text id_text kind_letter number_text coord_text size_text whole_text pointed_text part_text
 move_read = refl
 
 place_read : line_of (codes "place n1 x2 y3") ≡ Some (Asks (act.Job (job.Place (node 1) (record { lon = pos 20000000; lat = pos 30000000; on_map = refl }))))
-unfolding kind_of_line form group_form look_form add_form change_form place place_words place_texts key_text id_text kind_letter number_text coord_text size_text whole_text pointed_text part_text place_at
+unfolding kind_of_line form group_form look_form send_form add_form change_form place place_words place_texts key_text id_text kind_letter number_text coord_text size_text whole_text pointed_text part_text place_at
 place_read = refl
 
 nodes_read : line_of (codes "nodes w1 N") ≡ Some (Asks (act.Job (job.SetNodes (way 1) [])))
-unfolding kind_of_line form group_form look_form add_form change_form set_nodes refs_word refs_text key_text id_text kind_letter number_text
+unfolding kind_of_line form group_form look_form send_form add_form change_form set_nodes refs_word refs_text key_text id_text kind_letter number_text
 nodes_read = refl
 
 members_read : line_of (codes "members r1 M") ≡ Some (Asks (act.Job (job.SetMembers (record { kind = Relation; id = pos 1 }) [])))
-unfolding kind_of_line form group_form look_form add_form change_form set_members members_word members_text key_text id_text kind_letter number_text
+unfolding kind_of_line form group_form look_form send_form add_form change_form set_members members_word members_text key_text id_text kind_letter number_text
 members_read = refl
 
 -- A conflict is settled by one side, by the tags of one and the body of one, or part by part.
 resolve_mine : line_of (codes "resolve n1 mine") ≡ Some (Asks (act.Job (job.Resolve (node 1) choice.Mine)))
-unfolding kind_of_line form group_form look_form add_form change_form resolve choice_form key_text id_text kind_letter number_text
+unfolding kind_of_line form group_form look_form send_form add_form change_form resolve choice_form key_text id_text kind_letter number_text
 resolve_mine = refl
 
 -- The side of the tags stands before that of the body.
 resolve_mixed : line_of (codes "resolve n1 mix theirs mine") ≡ Some (Asks (act.Job (job.Resolve (node 1) (choice.Mix side.Theirs side.Mine))))
-unfolding kind_of_line form group_form look_form add_form change_form resolve choice_form mix side_word key_text id_text kind_letter number_text
+unfolding kind_of_line form group_form look_form send_form add_form change_form resolve choice_form mix side_word key_text id_text kind_letter number_text
 resolve_mixed = refl
 
 resolve_parts : line_of (codes "resolve n1 parts mine Ka%20%b,c") ≡ Some (Asks (act.Job (job.Resolve (node 1) (choice.Parts side.Mine (codes "a b" ∷ codes "c" ∷ [])))))
-unfolding kind_of_line form group_form look_form add_form change_form resolve choice_form parts side_word tag_keys_word tag_keys_of unescaped is_utf8 chars encode key_text id_text kind_letter number_text
+unfolding kind_of_line form group_form look_form send_form add_form change_form resolve choice_form parts side_word tag_keys_word tag_keys_of unescaped is_utf8 chars encode key_text id_text kind_letter number_text
 resolve_parts = refl
 
 -- No key has to be listed, but none is empty, and none stands twice.
 resolve_no_key : line_of (codes "resolve n1 parts theirs K") ≡ Some (Asks (act.Job (job.Resolve (node 1) (choice.Parts side.Theirs []))))
-unfolding kind_of_line form group_form look_form add_form change_form resolve choice_form parts side_word tag_keys_word tag_keys_of key_text id_text kind_letter number_text
+unfolding kind_of_line form group_form look_form send_form add_form change_form resolve choice_form parts side_word tag_keys_word tag_keys_of key_text id_text kind_letter number_text
 resolve_no_key = refl
 
 key_twice : line_of (codes "resolve n1 parts mine Ka,b,a") ≡ None
-unfolding kind_of_line form group_form look_form add_form change_form resolve choice_form parts side_word tag_keys_word tag_keys_of unescaped is_utf8 chars encode key_text id_text kind_letter number_text
+unfolding kind_of_line form group_form look_form send_form add_form change_form resolve choice_form parts side_word tag_keys_word tag_keys_of unescaped is_utf8 chars encode key_text id_text kind_letter number_text
 key_twice = refl
 
 empty_key : line_of (codes "resolve n1 parts mine Ka,") ≡ None
-unfolding kind_of_line form group_form look_form add_form change_form resolve choice_form parts side_word tag_keys_word tag_keys_of unescaped is_utf8 chars encode key_text id_text kind_letter number_text
+unfolding kind_of_line form group_form look_form send_form add_form change_form resolve choice_form parts side_word tag_keys_word tag_keys_of unescaped is_utf8 chars encode key_text id_text kind_letter number_text
 empty_key = refl
 
 -- Leading zeros are taken.
 delete_read : line_of (codes "delete n007") ≡ Some (Asks (act.Job (job.Delete (node 7 ∷ []))))
-unfolding kind_of_line form group_form look_form add_form change_form delete_form delete keys_word key_text id_text kind_letter number_text
+unfolding kind_of_line form group_form look_form send_form add_form change_form delete_form delete keys_word key_text id_text kind_letter number_text
 delete_read = refl
 
 -- Behind a comma stands a key.
 comma_last : line_of (codes "delete n1,") ≡ None
-unfolding kind_of_line form group_form look_form add_form change_form delete_form delete keys_word key_text id_text kind_letter number_text
+unfolding kind_of_line form group_form look_form send_form add_form change_form delete_form delete keys_word key_text id_text kind_letter number_text
 comma_last = refl
 
 split_read : line_of (codes "split w1 n2") ≡ Some (Asks (act.Job (job.Split (way 1) (node 2 ∷ []))))
-unfolding kind_of_line form group_form look_form add_form change_form delete_form way_form split keys_word key_text id_text kind_letter number_text
+unfolding kind_of_line form group_form look_form send_form add_form change_form delete_form way_form split keys_word key_text id_text kind_letter number_text
 split_read = refl
 
 -- At least two ways are combined.
 combine_read : line_of (codes "combine w1,w2") ≡ Some (Asks (act.Job (job.Combine (way 1 ∷ way 2 ∷ []))))
-unfolding kind_of_line form group_form look_form add_form change_form delete_form way_form combine keys_word key_text id_text kind_letter number_text
+unfolding kind_of_line form group_form look_form send_form add_form change_form delete_form way_form combine keys_word key_text id_text kind_letter number_text
 combine_read = refl
 
 combine_one : line_of (codes "combine w1") ≡ None
-unfolding kind_of_line form group_form look_form add_form change_form delete_form way_form combine keys_word key_text id_text kind_letter number_text
+unfolding kind_of_line form group_form look_form send_form add_form change_form delete_form way_form combine keys_word key_text id_text kind_letter number_text
 combine_one = refl
 
 -- The kind of a key isn't tested.
 reverse_read : line_of (codes "reverse n1") ≡ Some (Asks (act.Job (job.Reverse (node 1))))
-unfolding kind_of_line form group_form look_form add_form change_form delete_form way_form reverse key_text id_text kind_letter number_text
+unfolding kind_of_line form group_form look_form send_form add_form change_form delete_form way_form reverse key_text id_text kind_letter number_text
 reverse_read = refl
 
 undo_read : line_of (codes "undo 007") ≡ Some (Asks (act.Undo 7))
@@ -201,20 +209,20 @@ unfolding kind_of_line form group_form undo number_word number_text
 undo_too_often = refl
 
 upload_read : line_of (codes "upload 10000") ≡ Some (Asks (act.Upload 10000))
-unfolding kind_of_line form group_form look_form upload number_word number_text
+unfolding kind_of_line form group_form look_form send_form upload number_word number_text
 upload_read = refl
 
 chunk_too_large : line_of (codes "upload 10001") ≡ None
-unfolding kind_of_line form group_form look_form upload number_word number_text
+unfolding kind_of_line form group_form look_form send_form upload number_word number_text
 chunk_too_large = refl
 
 confirm_read : line_of (codes "confirm a") ≡ Some (Asks (act.Confirm (codes "a")))
-unfolding kind_of_line form group_form look_form confirm file_word unescaped is_utf8 chars encode
+unfolding kind_of_line form group_form look_form send_form confirm file_word unescaped is_utf8 chars encode
 confirm_read = refl
 
 -- Runs of blanks separate words.
 blanks_between : line_of (codes "delete \t n1") ≡ Some (Asks (act.Job (job.Delete (node 1 ∷ []))))
-unfolding kind_of_line form group_form look_form add_form change_form delete_form delete keys_word key_text id_text kind_letter number_text
+unfolding kind_of_line form group_form look_form send_form add_form change_form delete_form delete keys_word key_text id_text kind_letter number_text
 blanks_between = refl
 
 -- No blank stands at an end of the line.
@@ -245,7 +253,7 @@ unfolding kind_of_line form group_form look_form
 one_cr = refl
 
 two_crs : line_of (codes "print\r\r") ≡ None
-unfolding kind_of_line form group_form look_form add_form change_form delete_form way_form
+unfolding kind_of_line form group_form look_form send_form add_form change_form delete_form way_form
 two_crs = refl
 
 -- Lines that are skipped are counted, and the last needs no LF.
@@ -269,15 +277,24 @@ undo_in_group = refl
 
 -- Nor is anything rehearsed, uploaded or confirmed in one; conflicts may be looked at.
 upload_in_group : steps_of (codes "begin\nupload 1\nend") ≡ Err 2
-unfolding kind_of_line form group_form look_form upload number_word number_text
+unfolding kind_of_line form group_form look_form send_form upload number_word number_text
 upload_in_group = refl
 
 confirm_in_group : steps_of (codes "begin\nconfirm a\nend") ≡ Err 2
-unfolding kind_of_line form group_form look_form confirm file_word unescaped is_utf8 chars encode
+unfolding kind_of_line form group_form look_form send_form confirm file_word unescaped is_utf8 chars encode
 confirm_in_group = refl
 
-rehearse_in_group : steps_of (codes "begin\nconflicts\nrehearse") ≡ Err 3
+-- A group may be saved, and nothing is resumed in one.
+save_in_group : steps_of (codes "begin\nsave\nend") ≡ Ok (record { line = 1; act = act.Begin } ∷ record { line = 2; act = act.Save } ∷ record { line = 3; act = act.End } ∷ [])
 unfolding kind_of_line form group_form look_form
+save_in_group = refl
+
+resume_in_group : steps_of (codes "begin\nresume a\nend") ≡ Err 2
+unfolding kind_of_line form group_form resume file_word unescaped is_utf8 chars encode
+resume_in_group = refl
+
+rehearse_in_group : steps_of (codes "begin\nconflicts\nrehearse") ≡ Err 3
+unfolding kind_of_line form group_form look_form send_form
 rehearse_in_group = refl
 
 end_outside : steps_of (codes "print\nend") ≡ Err 2
@@ -323,6 +340,15 @@ refused_answer = refl
 refused_id : reply_line 5 (reply.Refused (IdTaken (node 7))) ≡ codes "5 refused 27 n7\n"
 unfolding digits
 refused_id = refl
+
+-- The line of the saved table that can't stand there, and the key whose entry breaks a rule.
+refused_saved : reply_line 1 (reply.Refused (BadSaved 11)) ≡ codes "1 refused 30 11\n"
+unfolding digits
+refused_saved = refl
+
+refused_unsound : reply_line 1 (reply.Refused (Unsound (relation_new 1))) ≡ codes "1 refused 31 r-1\n"
+unfolding digits
+refused_unsound = refl
 
 skipped_step : reply_line 11 reply.Skipped ≡ codes "11 skipped\n"
 unfolding digits

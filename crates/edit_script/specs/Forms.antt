@@ -50,6 +50,12 @@ confirm words = do
   name ← file_word words
   Some (act.Confirm name)
 
+-- `resume FILE`
+unfoldable pub resume : List (List ℕ) → Option Act
+resume words = do
+  name ← file_word words
+  Some (act.Resume name)
+
 -- `undo N`
 unfoldable pub undo : List (List ℕ) → Option Act
 undo words = do
@@ -251,16 +257,22 @@ add_form verb words =
     else (if bytes_eq verb (codes "relation") then add_relation words
     else change_form verb words))
 
--- the table is looked at, or sent, or what the server answered is taken in
+-- the table is sent, or what the server answered is taken in
+unfoldable pub send_form : List ℕ → List (List ℕ) → Option Act
+send_form verb words =
+    if bytes_eq verb (codes "rehearse") then alone act.Rehearse words
+    else (if bytes_eq verb (codes "upload") then upload words
+    else (if bytes_eq verb (codes "confirm") then confirm words
+    else add_form verb words))
+
+-- the table is looked at
 unfoldable pub look_form : List ℕ → List (List ℕ) → Option Act
 look_form verb words =
     if bytes_eq verb (codes "print") then alone act.Print words
     else (if bytes_eq verb (codes "count") then alone act.Count words
     else (if bytes_eq verb (codes "conflicts") then alone act.Conflicts words
-    else (if bytes_eq verb (codes "rehearse") then alone act.Rehearse words
-    else (if bytes_eq verb (codes "upload") then upload words
-    else (if bytes_eq verb (codes "confirm") then confirm words
-    else add_form verb words)))))
+    else (if bytes_eq verb (codes "save") then alone act.Save words
+    else send_form verb words)))
 
 -- a group begins or ends, or steps are undone or redone
 unfoldable pub group_form : List ℕ → List (List ℕ) → Option Act
@@ -277,7 +289,8 @@ form verb words =
     if bytes_eq verb (codes "download") then download words
     else (if bytes_eq verb (codes "generate") then generate words
     else (if bytes_eq verb (codes "import") then import_file words
-    else group_form verb words))
+    else (if bytes_eq verb (codes "resume") then resume words
+    else group_form verb words)))
 
 -- What the words of a line ask for; none where they are no line of the grammar.
 abbrev pub act_of : List (List ℕ) → Option Act

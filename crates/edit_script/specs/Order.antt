@@ -1,4 +1,5 @@
--- The order of steps: groups are not nested, and nothing is undone, redone, rehearsed, uploaded or confirmed inside one.
+-- The order of steps: groups are not nested, and nothing is undone, redone, rehearsed, uploaded, confirmed or resumed
+-- inside one.
 --
 -- For example `begin`, `print`, `end`, `undo 1` are in order, and `begin`, `undo 1`, `end` are not.
 use Rattle.std.specs.Prelude.{◌≡◌, ◌≤◌, Bool, true, false, List, [], ◌∷◌}
@@ -6,7 +7,7 @@ use Rattle.tool_api.specs.Plain.{IsWellFormed}
 use Rattle.edit_script.specs.declared.line.ScriptLine.{ScriptLine}
 use Rattle.edit_script.specs.declared.line.ScriptLine.TheVariants.{Skipped, Asks}
 use Rattle.edit_script.specs.declared.step.Act.{Act}
-use Rattle.edit_script.specs.declared.step.Act.TheVariants.{Job, Generate, Begin, End, Undo, Redo, Rehearse, Upload, Confirm}
+use Rattle.edit_script.specs.declared.step.Act.TheVariants.{Job, Generate, Begin, End, Undo, Redo, Rehearse, Upload, Confirm, Resume}
 use Rattle.edit_script.specs.declared.step.Step.{Step}
 
 -- whether an act may stand where it does, inside a group or outside
@@ -17,6 +18,7 @@ may_stand true (Redo n) = false
 may_stand true Rehearse = false
 may_stand true (Upload size) = false
 may_stand true (Confirm name) = false
+may_stand true (Resume name) = false
 may_stand true act = true
 may_stand false End = false
 may_stand false act = true

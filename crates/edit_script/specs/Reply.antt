@@ -13,7 +13,7 @@ use Rattle.tool_api.specs.Refusals as refusals
 use Rattle.tool_api.specs.declared.refusal.Refusal.{Refusal}
 use Rattle.tool_api.specs.declared.refusal.Refusal.TheVariants.{Absent, IncompleteObject, DeletedObject, InConflict, InUse, WrongKind, Unfit, OutOfRange, NamedTwice, NotInWay, NothingToSplit, NotJoined, TagClash, MemberClash, NoConflict, NotMixed, VersionClash, TableFull, NotClashing}
 use Rattle.edit_script.specs.declared.reply.StepRefusal.{StepRefusal}
-use Rattle.edit_script.specs.declared.reply.StepRefusal.TheVariants.{Tool, NoFile, BadFile, NothingToUndo, NothingToRedo, OpenConflicts, IncompleteRef, CyclicNew, WrongAnswer, IdTaken}
+use Rattle.edit_script.specs.declared.reply.StepRefusal.TheVariants.{Tool, NoFile, BadFile, NothingToUndo, NothingToRedo, OpenConflicts, IncompleteRef, CyclicNew, WrongAnswer, IdTaken, BadSaved, Unsound}
 use Rattle.edit_script.specs.declared.reply.StepReply.{StepReply}
 use Rattle.edit_script.specs.declared.reply.StepReply.TheVariants.{Done, Refused, Skipped}
 
@@ -29,6 +29,8 @@ number_of (IncompleteRef key of) = 24
 number_of (CyclicNew keys) = 25
 number_of (WrongAnswer line) = 26
 number_of (IdTaken key) = 27
+number_of (BadSaved line) = 30
+number_of (Unsound key) = 31
 
 -- a number, a key or a text behind a space
 abbrev pub number_behind : ℕ → List ℕ
@@ -85,6 +87,8 @@ carried (IncompleteRef key of) = key_behind key ++ key_behind of
 carried (CyclicNew keys) = keys_behind keys
 carried (WrongAnswer line) = number_behind line
 carried (IdTaken key) = key_behind key
+carried (BadSaved line) = number_behind line
+carried (Unsound key) = key_behind key
 
 abbrev pub refusal_text : StepRefusal → List ℕ
 refusal_text why = codes " refused " ++ (decimal (number_of why) ++ carried why)

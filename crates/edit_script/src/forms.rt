@@ -1,7 +1,7 @@
 //! The lines of a script: one function for each form, found by the first word of the line.
 ghost use Rattle.std.specs.Prelude.{IfOk};
 ghost use Rattle.edit_script.specs.Answers.{Gives};
-ghost use Rattle.edit_script.specs.Forms.{file_word, download, generate, import_file, confirm, add_node, add_way, add_relation, set_tags, shift, place, set_nodes, set_members, delete, erase, purge, split, combine, reverse, undo, redo, upload, mix, parts, choice_form, choice_of, resolve, way_form, delete_form, change_form, add_form, look_form, group_form, form, act_of};
+ghost use Rattle.edit_script.specs.Forms.{file_word, download, generate, import_file, confirm, resume, add_node, add_way, add_relation, set_tags, shift, place, set_nodes, set_members, delete, erase, purge, split, combine, reverse, undo, redo, upload, mix, parts, choice_form, choice_of, resolve, way_form, delete_form, change_form, add_form, send_form, look_form, group_form, form, act_of};
 ghost use Rattle.edit_script.specs.Items.{words_of};
 ghost use Rattle.edit_script.specs.Order.{IsMeant};
 
@@ -40,6 +40,8 @@ fn form(pool: &mut Pool, verb: &[u8], words: &[u8]) -> Result<Act, Unread>
         generate(words)
     } else if verb == b"import".as_slice() {
         import_file(pool, words)
+    } else if verb == b"resume".as_slice() {
+        resume(pool, words)
     } else {
         group_form(pool, verb, words)
     }
@@ -64,7 +66,7 @@ fn group_form(pool: &mut Pool, verb: &[u8], words: &[u8]) -> Result<Act, Unread>
     }
 }
 
-/// The table is looked at, or sent, or what the server answered is taken in.
+/// The table is looked at.
 #[tactic(auto, unfolding(crate::specs::Forms::look_form))]
 fn look_form(pool: &mut Pool, verb: &[u8], words: &[u8]) -> Result<Act, Unread>
     ensures value { Gives result (look_form verb.now (words_of words.now)) }
@@ -76,7 +78,20 @@ fn look_form(pool: &mut Pool, verb: &[u8], words: &[u8]) -> Result<Act, Unread>
         alone(Act::Count, words)
     } else if verb == b"conflicts".as_slice() {
         alone(Act::Conflicts, words)
-    } else if verb == b"rehearse".as_slice() {
+    } else if verb == b"save".as_slice() {
+        alone(Act::Save, words)
+    } else {
+        send_form(pool, verb, words)
+    }
+}
+
+/// The table is sent, or what the server answered is taken in.
+#[tactic(auto, unfolding(crate::specs::Forms::send_form))]
+fn send_form(pool: &mut Pool, verb: &[u8], words: &[u8]) -> Result<Act, Unread>
+    ensures value { Gives result (send_form verb.now (words_of words.now)) }
+    ensures meant { IfOk result IsMeant }
+{
+    if verb == b"rehearse".as_slice() {
         alone(Act::Rehearse, words)
     } else if verb == b"upload".as_slice() {
         upload(words)
@@ -205,6 +220,16 @@ fn confirm(pool: &mut Pool, words: &[u8]) -> Result<Act, Unread>
 {
     let name = file_word(pool, words)?;
     Ok(Act::Confirm { name })
+}
+
+/// `resume FILE`.
+#[tactic(auto, unfolding(crate::specs::Forms::resume))]
+fn resume(pool: &mut Pool, words: &[u8]) -> Result<Act, Unread>
+    ensures value { Gives result (resume (words_of words.now)) }
+    ensures meant { IfOk result IsMeant }
+{
+    let name = file_word(pool, words)?;
+    Ok(Act::Resume { name })
 }
 
 /// The name of a file, alone.

@@ -34,6 +34,10 @@ pub enum StepRefusal {
     WrongAnswer(u64),
     /// A file of answers gives a new object this key, which stands in the table.
     IdTaken(Key),
+    /// This line of a saved table can't stand where it does, or is missing at the end.
+    BadSaved(u64),
+    /// A saved table isn't sound: of the entries that break a rule of tables, this key has the least.
+    Unsound(Key),
 }
 
 /// What a step replies.
@@ -63,6 +67,8 @@ impl StepRefusal {
             StepRefusal::CyclicNew(_) => 25,
             StepRefusal::WrongAnswer(_) => 26,
             StepRefusal::IdTaken(_) => 27,
+            StepRefusal::BadSaved(_) => 30,
+            StepRefusal::Unsound(_) => 31,
         }
     }
 }
@@ -185,8 +191,10 @@ fn write_carried(why: &StepRefusal, out: &mut Vec<u8>) -> Result<(), AllocError>
         }
         StepRefusal::IncompleteRef { key, of } => write_two_keys(*key, *of, out),
         StepRefusal::CyclicNew(keys) => write_keys_behind(keys.as_slice(), out),
-        StepRefusal::WrongAnswer(line) => write_number_behind(*line, out),
-        StepRefusal::IdTaken(key) => write_key_behind(*key, out),
+        StepRefusal::WrongAnswer(line) | StepRefusal::BadSaved(line) => {
+            write_number_behind(*line, out)
+        }
+        StepRefusal::IdTaken(key) | StepRefusal::Unsound(key) => write_key_behind(*key, out),
         StepRefusal::NoFile | StepRefusal::NothingToUndo | StepRefusal::NothingToRedo => Ok(()),
     }
 }

@@ -50,6 +50,8 @@ pub enum Act {
     Count,
     /// Writes the objects in conflict, each with its base, mine and theirs.
     Conflicts,
+    /// Writes the whole table, so that a later session can go on from it.
+    Save,
     /// Runs the changes of an upload against a server in memory.
     Rehearse,
     /// Writes the changes of an upload, in chunks.
@@ -60,6 +62,11 @@ pub enum Act {
     /// Takes in what the server answered to the changes of an upload.
     Confirm {
         /// The name of the file of answers.
+        name: Text,
+    },
+    /// Takes in a table that was saved, in place of the one that is there.
+    Resume {
+        /// The name of the file in which it was saved.
         name: Text,
     },
 }
@@ -81,6 +88,7 @@ impl Act {
         match self {
             Act::Begin | Act::Undo { .. } | Act::Redo { .. } => !is_inside,
             Act::Rehearse | Act::Upload { .. } | Act::Confirm { .. } => !is_inside,
+            Act::Resume { .. } => !is_inside,
             Act::End => is_inside,
             _ => true,
         }
