@@ -15,12 +15,12 @@ use Rattle.opl_file.specs.declared.fault.FileFault.TheVariants.{Twice}
 use Rattle.resolution.specs.declared.choice.Choice.TheVariants as choice
 use Rattle.resolution.specs.declared.choice.Side.TheVariants as side
 use Rattle.tool_api.specs.declared.job.Job.TheVariants as job
-use Rattle.tool_api.specs.declared.refusal.Refusal.TheVariants.{InUse}
+use Rattle.tool_api.specs.declared.refusal.Refusal.TheVariants.{InUse, NoFinding, NotSamePlace}
 use Rattle.edit_script.specs.declared.line.ScriptLine.TheVariants.{Skipped, Asks}
 use Rattle.edit_script.specs.declared.reply.StepRefusal.TheVariants.{Tool, BadFile, OpenConflicts, IncompleteRef, CyclicNew, WrongAnswer, IdTaken, BadSaved, Unsound}
 use Rattle.edit_script.specs.declared.reply.StepReply.TheVariants as reply
 use Rattle.edit_script.specs.declared.step.Act.TheVariants as act
-use Rattle.edit_script.specs.Forms.{file_word, download, generate, import_file, confirm, resume, add_node, add_way, add_relation, set_tags, shift, place, set_nodes, set_members, delete, split, combine, reverse, undo, resolve, parts, mix, choice_form, upload, way_form, delete_form, change_form, add_form, send_form, look_form, group_form, form}
+use Rattle.edit_script.specs.Forms.{file_word, download, generate, import_file, confirm, resume, add_node, add_way, add_relation, set_tags, shift, place, set_nodes, set_members, delete, split, combine, reverse, squeeze, fuse, undo, resolve, parts, mix, choice_form, upload, mend_form, way_form, delete_form, change_form, add_form, send_form, look_form, group_form, form}
 use Rattle.edit_script.specs.Items.{keys_word, tags_word, refs_word, members_word, place_texts, place_words, area_text, wanted_text, number_word, side_word, tag_keys_of, tag_keys_word}
 use Rattle.edit_script.specs.Reply.{reply_line}
 use Rattle.edit_script.specs.Script.{kind_of_line, line_of, steps_of}
@@ -196,6 +196,20 @@ reverse_read : line_of (codes "reverse n1") ≡ Some (Asks (act.Job (job.Reverse
 unfolding kind_of_line form group_form look_form send_form add_form change_form delete_form way_form reverse key_text id_text kind_letter number_text
 reverse_read = refl
 
+-- Ways are squeezed, one or more.
+squeeze_read : line_of (codes "squeeze w5") ≡ Some (Asks (act.Job (job.Squeeze (way 5 ∷ []))))
+unfolding kind_of_line form group_form look_form send_form add_form change_form delete_form way_form mend_form squeeze keys_word key_text id_text kind_letter number_text
+squeeze_read = refl
+
+-- At least two nodes are fused.
+fuse_read : line_of (codes "fuse n3,n1") ≡ Some (Asks (act.Job (job.Fuse (node 3 ∷ node 1 ∷ []))))
+unfolding kind_of_line form group_form look_form send_form add_form change_form delete_form way_form mend_form fuse keys_word key_text id_text kind_letter number_text
+fuse_read = refl
+
+fuse_one : line_of (codes "fuse n1") ≡ None
+unfolding kind_of_line form group_form look_form send_form add_form change_form delete_form way_form mend_form fuse keys_word key_text id_text kind_letter number_text
+fuse_one = refl
+
 undo_read : line_of (codes "undo 007") ≡ Some (Asks (act.Undo 7))
 unfolding kind_of_line form group_form undo number_word number_text
 undo_read = refl
@@ -253,7 +267,7 @@ unfolding kind_of_line form group_form look_form
 one_cr = refl
 
 two_crs : line_of (codes "print\r\r") ≡ None
-unfolding kind_of_line form group_form look_form send_form add_form change_form delete_form way_form
+unfolding kind_of_line form group_form look_form send_form add_form change_form delete_form way_form mend_form
 two_crs = refl
 
 -- Lines that are skipped are counted, and the last needs no LF.
@@ -314,6 +328,15 @@ done_without_keys = refl
 refused_in_use : reply_line 8 (reply.Refused (Tool (InUse (node 1) (way 5)))) ≡ codes "8 refused 5 n1 w5\n"
 unfolding digits
 refused_in_use = refl
+
+-- The way in which nothing is found, and the node that isn't at the place of the first.
+refused_no_finding : reply_line 5 (reply.Refused (Tool (NoFinding (way 5)))) ≡ codes "5 refused 32 w5\n"
+unfolding digits
+refused_no_finding = refl
+
+refused_not_same_place : reply_line 6 (reply.Refused (Tool (NotSamePlace (node 2)))) ≡ codes "6 refused 33 n2\n"
+unfolding digits
+refused_not_same_place = refl
 
 refused_file : reply_line 10 (reply.Refused (BadFile (Twice 3))) ≡ codes "10 refused 20 twice 3\n"
 unfolding digits

@@ -185,6 +185,20 @@ reverse words = do
   way ← key_text named
   Some (act.Job (job.Reverse way))
 
+-- `squeeze KEYS`
+unfoldable pub squeeze : List (List ℕ) → Option Act
+squeeze words = do
+  named ← one_word words
+  keys ← keys_word named
+  Some (act.Job (job.Squeeze keys))
+
+-- `fuse KEYS`, at least two
+unfoldable pub fuse : List (List ℕ) → Option Act
+fuse words = do
+  named ← one_word words
+  nodes ← keys_word named
+  if nat_le 2 (length nodes) then Some (act.Job (job.Fuse nodes)) else None
+
 -- `mix S S`: whose tags, then whose body
 unfoldable pub mix : List (List ℕ) → Option Choice
 mix words = do
@@ -222,13 +236,20 @@ resolve (named ∷ words) = do
   choice ← choice_of words
   Some (act.Job (job.Resolve key choice))
 
+-- what a check finds is mended
+unfoldable pub mend_form : List ℕ → List (List ℕ) → Option Act
+mend_form verb words =
+    if bytes_eq verb (codes "squeeze") then squeeze words
+    else (if bytes_eq verb (codes "fuse") then fuse words
+    else None)
+
 -- a way is cut, joined or reversed
 unfoldable pub way_form : List ℕ → List (List ℕ) → Option Act
 way_form verb words =
     if bytes_eq verb (codes "split") then split words
     else (if bytes_eq verb (codes "combine") then combine words
     else (if bytes_eq verb (codes "reverse") then reverse words
-    else None))
+    else mend_form verb words))
 
 -- objects go
 unfoldable pub delete_form : List ℕ → List (List ℕ) → Option Act

@@ -11,7 +11,7 @@ use Rattle.opl_file.specs.declared.fault.FileFault.{FileFault}
 use Rattle.opl_file.specs.declared.fault.FileFault.TheVariants.{Line, Twice, LineTooLong, FileTooLong}
 use Rattle.tool_api.specs.Refusals as refusals
 use Rattle.tool_api.specs.declared.refusal.Refusal.{Refusal}
-use Rattle.tool_api.specs.declared.refusal.Refusal.TheVariants.{Absent, IncompleteObject, DeletedObject, InConflict, InUse, WrongKind, Unfit, OutOfRange, NamedTwice, NotInWay, NothingToSplit, NotJoined, TagClash, MemberClash, NoConflict, NotMixed, VersionClash, TableFull, NotClashing}
+use Rattle.tool_api.specs.declared.refusal.Refusal.TheVariants.{Absent, IncompleteObject, DeletedObject, InConflict, InUse, WrongKind, Unfit, OutOfRange, NamedTwice, NotInWay, NothingToSplit, NotJoined, TagClash, MemberClash, NoConflict, NotMixed, VersionClash, TableFull, NotClashing, NoFinding, NotSamePlace}
 use Rattle.edit_script.specs.declared.reply.StepRefusal.{StepRefusal}
 use Rattle.edit_script.specs.declared.reply.StepRefusal.TheVariants.{Tool, NoFile, BadFile, NothingToUndo, NothingToRedo, OpenConflicts, IncompleteRef, CyclicNew, WrongAnswer, IdTaken, BadSaved, Unsound}
 use Rattle.edit_script.specs.declared.reply.StepReply.{StepReply}
@@ -68,6 +68,8 @@ job_carried (NotMixed key) = key_behind key
 job_carried (VersionClash key version) = key_behind key ++ number_behind version
 job_carried TableFull = []
 job_carried (NotClashing text) = text_behind text
+job_carried (NoFinding key) = key_behind key
+job_carried (NotSamePlace key) = key_behind key
 
 abbrev pub fault_text : FileFault → List ℕ
 fault_text (Line line fault) = codes " line " ++ (decimal line ++ (codes " fault " ++ decimal (line_fault.number_of fault)))

@@ -1,7 +1,7 @@
 //! The lines of a script: one function for each form, found by the first word of the line.
 ghost use Rattle.std.specs.Prelude.{IfOk};
 ghost use Rattle.edit_script.specs.Answers.{Gives};
-ghost use Rattle.edit_script.specs.Forms.{file_word, download, generate, import_file, confirm, resume, add_node, add_way, add_relation, set_tags, shift, place, set_nodes, set_members, delete, erase, purge, split, combine, reverse, undo, redo, upload, mix, parts, choice_form, choice_of, resolve, way_form, delete_form, change_form, add_form, send_form, look_form, group_form, form, act_of};
+ghost use Rattle.edit_script.specs.Forms.{file_word, download, generate, import_file, confirm, resume, add_node, add_way, add_relation, set_tags, shift, place, set_nodes, set_members, delete, erase, purge, split, combine, reverse, squeeze, fuse, undo, redo, upload, mix, parts, choice_form, choice_of, resolve, mend_form, way_form, delete_form, change_form, add_form, send_form, look_form, group_form, form, act_of};
 ghost use Rattle.edit_script.specs.Items.{words_of};
 ghost use Rattle.edit_script.specs.Order.{IsMeant};
 
@@ -171,6 +171,21 @@ fn way_form(pool: &Pool, verb: &[u8], words: &[u8]) -> Result<Act, Unread>
         combine(pool, words)
     } else if verb == b"reverse".as_slice() {
         reverse(words)
+    } else {
+        mend_form(pool, verb, words)
+    }
+}
+
+/// What a check finds is mended.
+#[tactic(auto, unfolding(crate::specs::Forms::mend_form))]
+fn mend_form(pool: &Pool, verb: &[u8], words: &[u8]) -> Result<Act, Unread>
+    ensures value { Gives result (mend_form verb.now (words_of words.now)) }
+    ensures meant { IfOk result IsMeant }
+{
+    if verb == b"squeeze".as_slice() {
+        squeeze(pool, words)
+    } else if verb == b"fuse".as_slice() {
+        fuse(pool, words)
     } else {
         Err(Unread::Outside)
     }
@@ -470,6 +485,31 @@ fn reverse(words: &[u8]) -> Result<Act, Unread>
     let first = one_word(words)?;
     let way = key_word(first)?;
     Ok(Act::Job(Job::Reverse { way }))
+}
+
+/// `squeeze KEYS`.
+#[tactic(auto, unfolding(crate::specs::Forms::squeeze))]
+fn squeeze(pool: &Pool, words: &[u8]) -> Result<Act, Unread>
+    ensures value { Gives result (squeeze (words_of words.now)) }
+    ensures meant { IfOk result IsMeant }
+{
+    let first = one_word(words)?;
+    let keys = keys_word(pool, first)?;
+    Ok(Act::Job(Job::Squeeze { keys }))
+}
+
+/// `fuse KEYS`, at least two.
+#[tactic(auto, unfolding(crate::specs::Forms::fuse))]
+fn fuse(pool: &Pool, words: &[u8]) -> Result<Act, Unread>
+    ensures value { Gives result (fuse (words_of words.now)) }
+    ensures meant { IfOk result IsMeant }
+{
+    let first = one_word(words)?;
+    let nodes = keys_word(pool, first)?;
+    if nodes.len() < 2 {
+        return Err(Unread::Outside);
+    }
+    Ok(Act::Job(Job::Fuse { nodes }))
 }
 
 /// `undo N`.

@@ -219,7 +219,9 @@ fn write_job_refusal(refusal: &Refusal, out: &mut Vec<u8>) -> Result<(), AllocEr
         | Refusal::NotJoined(key)
         | Refusal::MemberClash(key)
         | Refusal::NoConflict(key)
-        | Refusal::NotMixed(key) => write_key_behind(*key, out),
+        | Refusal::NotMixed(key)
+        | Refusal::NoFinding(key)
+        | Refusal::NotSamePlace(key) => write_key_behind(*key, out),
         Refusal::InUse(key, user) => write_two_keys(*key, *user, out),
         Refusal::TagClash(text) | Refusal::NotClashing(text) => write_text_behind(text, out),
         Refusal::VersionClash(key, version) => {
