@@ -1,0 +1,79 @@
+//! Why no session was read.
+
+ghost use Rattle.std.specs.Prelude.{◌≡◌};
+ghost use Rattle.saved_session.specs.Answers.{unread_line};
+
+use opl_line::LineAnswer;
+use osm_base::Key;
+use std::alloc::{AllocError, AllocFailed};
+use thiserror::Error;
+
+/// Why a text gives no table. The first that holds is given.
+#[derive(Error, Debug, Drop)]
+pub enum SavedFault {
+    /// The first line, counted from 1, that can't stand in its place, or the number after the last where the text ends too early.
+    #[error("line {line} is no line of a saved session")]
+    BadSaved { line: u64 },
+
+    /// The least key whose entry breaks a condition of a sound table.
+    #[error("an object of the saved session doesn't fit the others")]
+    Unsound { key: Key },
+
+    /// There are more entries than the limit.
+    #[error("the saved session has too many objects")]
+    TableFull,
+
+    /// No memory was left.
+    #[error("out of memory")]
+    Memory,
+}
+
+impl From<AllocError> for SavedFault {
+    ghost use Rattle.saved_session.specs.declared.fault.SavedFault.TheVariants.{Memory};
+
+    ghost from_gives = { λ _ e. e ≡ Memory };
+
+    fn from(_: AllocError) -> SavedFault {
+        SavedFault::Memory
+    }
+}
+
+impl<T: Drop> From<AllocFailed<T>> for SavedFault {
+    ghost use Rattle.saved_session.specs.declared.fault.SavedFault.TheVariants.{Memory};
+
+    ghost from_gives = { λ _ e. e ≡ Memory };
+
+    fn from(_: AllocFailed<T>) -> SavedFault {
+        SavedFault::Memory
+    }
+}
+
+/// Why a line gives nothing.
+#[derive(Clone, Copy, Debug, PartialEq, Eq)]
+pub enum Unread {
+    /// It can't stand there.
+    Outside,
+    /// No memory was left.
+    Memory,
+}
+
+impl From<AllocError> for Unread {
+    ghost use Rattle.saved_session.specs.declared.fault.Unread.TheVariants.{Memory};
+
+    ghost from_gives = { λ _ e. e ≡ Memory };
+
+    fn from(_: AllocError) -> Unread {
+        Unread::Memory
+    }
+}
+
+impl From<LineAnswer> for Unread {
+    ghost from_gives = { λ answer e. e ≡ unread_line answer };
+
+    fn from(answer: LineAnswer) -> Unread {
+        match answer {
+            LineAnswer::Bad(_) => Unread::Outside,
+            LineAnswer::Memory => Unread::Memory,
+        }
+    }
+}
