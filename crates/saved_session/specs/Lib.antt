@@ -5,3 +5,5 @@ pub mod Pieces
 pub mod Reading
 pub mod SoundTest
 pub mod Resumed
+pub mod Savable
+pub mod Drafting

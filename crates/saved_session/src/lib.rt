@@ -7,12 +7,19 @@
 //! editor may be read. It stands on `opl_line` for objects, on `opl_file` for lines and on `dataset` for the difference.
 #![tactic(auto)]
 
+mod drafting;
 mod fault;
+mod heads;
+mod law;
+mod lines;
 mod place;
 mod reading;
+mod soundness;
+mod steps;
 mod words;
 mod writing;
 
 pub use fault::SavedFault;
+pub use law::{read_is_saved, saved_is_read, test_is_exact};
 pub use reading::read_saved;
 pub use writing::{write_saved, write_saved_end, write_saved_entry, write_saved_head};

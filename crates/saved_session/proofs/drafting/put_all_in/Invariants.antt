@@ -1,0 +1,7 @@
+use Rattle.std.proofs.Common.{◌≡◌, drop}
+use Rattle.dataset.specs.Draft.{drafted}
+use Rattle.saved_session.specs.Drafting.{with_all}
+use Rattle.saved_session.proofs.drafting.put_all_in.Given as goal
+
+abbrev pub invariant-loop-entry : goal.invariant-loop-entry
+invariant-loop-entry l = with_all (drop l.entry-index l.entries) (drafted l.draft l.ds) ≡ with_all l.entries (drafted l.fn.draft l.ds)

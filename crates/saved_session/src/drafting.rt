@@ -1,0 +1,63 @@
+//! The draft that makes a read table out of the one that is there.
+
+ghost use Rattle.std.specs.Prelude.{◌≡◌, OnOk, IfOk, T};
+ghost use Rattle.std.specs.FinMap.Entries.{is_sorted};
+ghost use Rattle.osm_base.specs.Rank.{rank_cmp};
+ghost use Rattle.osm_table.specs.Table.{with_entry, without_entry};
+ghost use Rattle.dataset.specs.Draft.{drafted};
+ghost use Rattle.saved_session.specs.Drafting.{with_all, without_all};
+ghost use Rattle.saved_session.specs.Reading.{table_of};
+
+use crate::lines::{SavedTable, SharedSaved};
+use dataset::{DataSet, Draft};
+use osm_base::Key;
+use osm_table::SharedEntry;
+use std::alloc::AllocError;
+
+#[tactic(auto, using(dataset::proofs::Changes::drafted_put))]
+fn take_out(ds: &DataSet, draft: &mut Draft, key: Key) -> Result<(), AllocError>
+    ensures { OnOk result (drafted draft.new ds.now ≡ without_entry (drafted draft.old ds.now) key) }
+{
+    draft.put(key, None)
+}
+
+#[tactic(auto, using(dataset::proofs::Changes::drafted_put))]
+fn put_in(ds: &DataSet, draft: &mut Draft, key: Key, entry: &SharedEntry) -> Result<(), AllocError>
+    ensures { OnOk result (drafted draft.new ds.now ≡ with_entry (drafted draft.old ds.now) key entry.now) }
+{
+    draft.put_shared(key, Some(entry.copy()?))
+}
+
+fn take_all_out(ds: &DataSet, draft: &mut Draft, keys: &[Key]) -> Result<(), AllocError>
+    ensures { OnOk result (drafted draft.new ds.now ≡ without_all keys.now (drafted draft.old ds.now)) }
+{
+    for key in keys {
+        take_out(ds, draft, *key)?;
+    }
+    Ok(())
+}
+
+fn put_all_in(ds: &DataSet, draft: &mut Draft, entries: &[SharedSaved]) -> Result<(), AllocError>
+    ensures { OnOk result (drafted draft.new ds.now ≡ with_all entries.now (drafted draft.old ds.now)) }
+{
+    for entry in entries {
+        put_in(ds, draft, entry.0, &entry.1)?;
+    }
+    Ok(())
+}
+
+/// The draft whose table is the one that was read: all keys go, and those that were read come. The entries are shared with it.
+///
+/// # Errors
+/// No memory was left.
+pub fn draft_of(ds: &DataSet, saved: &SavedTable) -> Result<Draft, AllocError>
+    requires { T (is_sorted rank_cmp saved.now.entries.items) }
+    ensures { IfOk result (λ draft. drafted draft ds.now ≡ table_of (record { next = saved.now.next; entries = saved.now.entries.items })) }
+{
+    let mut draft = Draft::with_capacity(ds, saved.entries.len())?;
+    let keys = ds.ordered()?;
+    take_all_out(ds, &mut draft, keys.as_slice())?;
+    put_all_in(ds, &mut draft, saved.entries.as_slice())?;
+    draft.set_next(saved.next);
+    Ok(draft)
+}

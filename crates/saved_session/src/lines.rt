@@ -1,0 +1,133 @@
+//! The lines of a saved session, read one after the other.
+
+ghost use Rattle.std.specs.Prelude.{◌≡◌, ◌∷◌, ◌++◌, ◌+◌, ◌<◌, ◌^◌, Some, None, Ok, length, MatchResult, OnOk};
+ghost use Rattle.std.specs.Option.{option_to_list};
+ghost use Rattle.opl_file.specs.Cut.{lines_of};
+ghost use Rattle.saved_session.specs.declared.place.Place.TheVariants.{Head};
+ghost use Rattle.saved_session.specs.Reading.{has_ended, entries_from, session_from, behind_header};
+ghost use Rattle.saved_session.specs.Words.{header_of};
+ghost use Rattle.saved_session.specs.Drafting.{Refuses};
+
+use crate::fault::{SavedFault, Unread};
+use crate::heads::{is_header, read_header};
+use crate::place::{Place, SavedEntry, Step};
+use crate::steps::{Desk, step};
+use opl_file::first_line;
+use opl_line::freed;
+use osm_base::Key;
+use osm_table::SharedEntry;
+use std::alloc::{AllocError, Global};
+
+/// A saved table, as it was read: its number, and its entries in the order of their lines.
+#[derive(Drop)]
+pub struct SavedTable {
+    pub next: u64,
+    pub entries: Vec<SharedSaved>,
+}
+
+/// A key with its entry, as tables keep it.
+pub type SharedSaved = (Key, SharedEntry);
+
+/// The first line, and the bytes behind its LF.
+fn next_line(bytes: &[u8]) -> (&[u8], &[u8])
+    requires { 0 < length bytes.now }
+    ensures lines { lines_of bytes.now ≡ result.0.now ∷ lines_of result.1.now }
+    ensures shorter { length result.1.now < length bytes.now }
+{
+    let (line, after) = first_line(bytes);
+    match after {
+        None => (line, &[]),
+        Some(rest) => (line, rest),
+    }
+}
+
+/// Adds what a line made, as tables keep it.
+fn push_made(entries: &mut Vec<SharedSaved>, made: Option<SavedEntry>) -> Result<(), AllocError>
+    ensures { OnOk result (entries.new.items ≡ entries.old.items ++ option_to_list made) }
+{
+    if let Some((key, entry)) = made {
+        let shared = SharedEntry::new(*entries.allocator(), entry)?;
+        entries.push((key, shared))?;
+    }
+    Ok(())
+}
+
+fn has_ended(place: Place) -> bool
+    ensures { result ≡ has_ended place }
+{
+    match place {
+        Place::Behind => true,
+        _ => false,
+    }
+}
+
+/// The entries of the lines behind a header, which has that number.
+fn read_entries(desk: &mut Desk, number: u64, bytes: &[u8]) -> Result<Vec<SharedSaved>, SavedFault>
+    requires { number + 1 + length bytes.now < 2 ^ 64 }
+    ensures { MatchResult result (λ es. entries_from (number + 1) (Head None) (lines_of bytes.now) ≡ Ok es.items) (Refuses (entries_from (number + 1) (Head None) (lines_of bytes.now))) }
+{
+    let mut entries = Vec::new(desk.pool.allocator());
+    let mut place = Place::Head { last: None };
+    let mut count = number;
+    let mut rest = bytes;
+    while !rest.is_empty() {
+        let (line, after) = next_line(rest);
+        count += 1;
+        match step(desk, place, freed(line)) {
+            Err(Unread::Memory) => return Err(SavedFault::Memory),
+            Err(Unread::Outside) => return Err(SavedFault::BadSaved { line: count }),
+            Ok(made) => {
+                let Step { place: next, entry } = made;
+                push_made(&mut entries, entry)?;
+                place = next;
+            }
+        }
+        rest = after;
+    }
+    if has_ended(place) {
+        Ok(entries)
+    } else {
+        Err(SavedFault::BadSaved { line: count + 1 })
+    }
+}
+
+/// The table of a text. All before the first line that begins with `session ` is skipped.
+///
+/// # Errors
+/// `BadSaved` with the first line that can't stand in its place; `Memory` where no memory was left.
+pub fn read_table(alloc: Global, bytes: &[u8]) -> Result<SavedTable, SavedFault>
+    ensures { MatchResult result (λ s. session_from 1 (lines_of bytes.now) ≡ Ok (record { next = s.next; entries = s.entries.items })) (Refuses (session_from 1 (lines_of bytes.now))) }
+{
+    let mut desk = Desk::new(alloc);
+    let mut count = 0u64;
+    let mut rest = bytes;
+    while !rest.is_empty() {
+        let (line, after) = next_line(rest);
+        count += 1;
+        if is_header(freed(line)) {
+            return read_behind(&mut desk, count, freed(line), after);
+        }
+        rest = after;
+    }
+    Err(SavedFault::BadSaved { line: count + 1 })
+}
+
+/// The table of a header, which has that number, and of the lines behind it.
+fn read_behind(
+    desk: &mut Desk,
+    number: u64,
+    header: &[u8],
+    bytes: &[u8],
+) -> Result<SavedTable, SavedFault>
+    requires { number + 1 + length bytes.now < 2 ^ 64 }
+    ensures { MatchResult result (λ s. behind_header number (header_of header.now) (lines_of bytes.now) ≡ Ok (record { next = s.next; entries = s.entries.items })) (Refuses (behind_header number (header_of header.now) (lines_of bytes.now))) }
+{
+    match read_header(&mut desk.written, header) {
+        Err(Unread::Memory) => Err(SavedFault::Memory),
+        Err(Unread::Outside) => Err(SavedFault::BadSaved { line: number }),
+        Ok(next) => {
+            let entries = read_entries(desk, number, bytes)?;
+            Ok(SavedTable { next, entries })
+        }
+    }
+}

@@ -1,0 +1,289 @@
+//! What a line makes in its place.
+
+ghost use Rattle.std.specs.Prelude.{◌≡◌, IfOk, codes};
+ghost use Rattle.std.specs.Str.{bytes_eq};
+ghost use Rattle.osm_base.specs.Meta.{empty_meta};
+ghost use Rattle.osm_table.specs.Table.{held_by};
+ghost use Rattle.saved_session.specs.Answers.{Gives};
+ghost use Rattle.saved_session.specs.Reading.{object_written, object_text, object_behind, server_base, base_as, base_at, mine_at, theirs_at, may_stand, is_behind, awaiting, ending, with_mine, with_base, with_words, with_head, step};
+
+use crate::fault::Unread;
+use crate::heads::{cut_word, read_head};
+use crate::place::{Place, Step};
+use crate::words::{BaseWord, Head, MineWord, Words};
+use crate::writing::{mine_version, same_mine};
+use opl_line::{LineKind, Mode, OplObject, Pool, read_line, write_line};
+use osm_base::{Content, Key, Meta, rank, same_key};
+use osm_table::{Base, Conflict, Entry, Shared, Why};
+use std::alloc::{AllocError, Global};
+
+/// What the reader of lines has at hand: its texts, and room for what it writes to compare.
+#[derive(Drop)]
+pub struct Desk {
+    pub pool: Pool,
+    pub written: Vec<u8>,
+}
+
+impl Desk {
+    /// A desk with nothing on it. It takes no memory.
+    pub fn new(alloc: Global) -> Desk {
+        Desk {
+            pool: Pool::new(alloc),
+            written: Vec::new(alloc),
+        }
+    }
+}
+
+/// Whether the text is the written form of the object, which is written for that.
+fn is_written(written: &mut Vec<u8>, object: &OplObject, text: &[u8]) -> Result<bool, AllocError>
+    ensures { IfOk result (λ same. same ≡ bytes_eq (object_written object.now) text.now) }
+{
+    written.clear();
+    write_line(
+        object.key,
+        object.version,
+        object.side.as_ref(),
+        &object.meta,
+        written,
+    )?;
+    Ok(written.as_slice() == text)
+}
+
+#[tactic(auto, unfolding(crate::specs::Reading::object_text))]
+fn read_object(desk: &mut Desk, key: Key, text: &[u8]) -> Result<OplObject, Unread>
+    ensures { Gives result (object_text key text.now) }
+{
+    match read_line(&mut desk.pool, text, Mode::Import)? {
+        LineKind::Skipped => Err(Unread::Outside),
+        LineKind::Object(object) => {
+            if same_key(key, object.key) && is_written(&mut desk.written, &object, text)? {
+                Ok(object)
+            } else {
+                Err(Unread::Outside)
+            }
+        }
+    }
+}
+
+/// The object behind a line's first word.
+#[tactic(auto, unfolding(crate::specs::Reading::object_behind))]
+fn object_behind(desk: &mut Desk, word: &[u8], key: Key, line: &[u8]) -> Result<OplObject, Unread>
+    ensures { Gives result (object_behind word.now key line.now) }
+{
+    let (first, behind) = cut_word(line);
+    let Some(text) = behind else {
+        return Err(Unread::Outside);
+    };
+    if first == word {
+        read_object(desk, key, text)
+    } else {
+        Err(Unread::Outside)
+    }
+}
+
+fn server_base(version: u32, side: Option<Content>, meta: Meta) -> Base
+    ensures { result ≡ server_base version side meta }
+{
+    match side {
+        Some(content) => Base::Live {
+            version,
+            content,
+            meta,
+        },
+        None => Base::Gone { version, meta },
+    }
+}
+
+fn base_as(word: BaseWord, version: u32, side: Option<Content>, meta: Meta) -> Option<Base>
+    ensures { result ≡ base_as word version side meta }
+{
+    match (word, side) {
+        (BaseWord::Live, Some(content)) => Some(Base::Live {
+            version,
+            content,
+            meta,
+        }),
+        (BaseWord::Gone, None) => Some(Base::Gone { version, meta }),
+        _ => None,
+    }
+}
+
+#[tactic(auto, unfolding(crate::specs::Reading::base_at))]
+fn base_at(desk: &mut Desk, key: Key, word: BaseWord, line: &[u8]) -> Result<Base, Unread>
+    ensures { Gives result (base_at key word line.now) }
+{
+    let object = object_behind(desk, b"base", key, line)?;
+    base_as(word, object.version, object.side, object.meta).ok_or(Unread::Outside)
+}
+
+#[tactic(auto, unfolding(crate::specs::Reading::mine_at))]
+fn mine_at(desk: &mut Desk, key: Key, base: &Base, line: &[u8]) -> Result<Option<Content>, Unread>
+    ensures { Gives result (mine_at key base.now line.now) }
+{
+    let unknown = Meta::empty(desk.pool.allocator())?;
+    let object = object_behind(desk, b"mine", key, line)?;
+    if object.side.is_some()
+        && !same_mine(object.side.as_ref(), base.content())
+        && object.version == mine_version(key.id)
+        && object.meta.same(&unknown)
+    {
+        Ok(object.side)
+    } else {
+        Err(Unread::Outside)
+    }
+}
+
+#[tactic(auto, unfolding(crate::specs::Reading::theirs_at))]
+fn theirs_at(desk: &mut Desk, key: Key, line: &[u8]) -> Result<Base, Unread>
+    ensures { Gives result (theirs_at key line.now) }
+{
+    let object = object_behind(desk, b"theirs", key, line)?;
+    Ok(server_base(object.version, object.side, object.meta))
+}
+
+fn may_stand(mine: MineWord, base: BaseWord) -> bool
+    ensures { result ≡ may_stand mine base }
+{
+    match (mine, base) {
+        (MineWord::Absent, BaseWord::Live) => true,
+        (MineWord::Absent, _) => false,
+        _ => true,
+    }
+}
+
+fn is_behind(last: Option<Key>, key: Key) -> bool
+    ensures { result ≡ is_behind last key }
+{
+    match last {
+        None => true,
+        Some(last) => rank(last, key).is_lt(),
+    }
+}
+
+fn awaiting(place: Place) -> Step
+    ensures { result ≡ awaiting place }
+{
+    Step { place, entry: None }
+}
+
+fn ending(key: Key, entry: Entry) -> Step
+    ensures { result ≡ ending key entry }
+{
+    Step {
+        place: Place::Head { last: Some(key) },
+        entry: Some((key, entry)),
+    }
+}
+
+fn with_mine(key: Key, base: Base, mine: Option<Content>, why: Option<Why>) -> Step
+    ensures { result ≡ with_mine key base mine why }
+{
+    match why {
+        None => ending(
+            key,
+            Entry::Known {
+                base,
+                mine,
+                conflict: None,
+            },
+        ),
+        Some(why) => awaiting(Place::Theirs {
+            key,
+            base,
+            mine,
+            why,
+        }),
+    }
+}
+
+fn held_copy(base: &Base) -> Result<Option<Content>, AllocError>
+    ensures { IfOk result (λ held. held ≡ held_by base.now) }
+{
+    match base {
+        Base::Live { content, .. } => Ok(Some(content.copy()?)),
+        _ => Ok(None),
+    }
+}
+
+fn with_base(key: Key, base: Base, mine: MineWord, why: Option<Why>) -> Result<Step, AllocError>
+    ensures { IfOk result (λ s. s ≡ with_base key base mine why) }
+{
+    match mine {
+        MineWord::Same => {
+            let held = held_copy(&base)?;
+            Ok(with_mine(key, base, held, why))
+        }
+        MineWord::Absent => Ok(with_mine(key, base, None, why)),
+        MineWord::Own => Ok(awaiting(Place::Mine { key, base, why })),
+    }
+}
+
+fn with_words(key: Key, words: Words) -> Result<Step, AllocError>
+    ensures { IfOk result (λ s. s ≡ with_words key words.base words) }
+{
+    match words.base {
+        BaseWord::New => with_base(key, Base::New, words.mine, words.why),
+        BaseWord::Live | BaseWord::Gone => Ok(awaiting(Place::Base { key, words })),
+    }
+}
+
+fn with_head(last: Option<Key>, head: Head) -> Result<Step, Unread>
+    ensures { Gives result (with_head last head) }
+{
+    match head {
+        Head::End => Ok(awaiting(Place::Behind)),
+        Head::Incomplete(key) => {
+            if is_behind(last, key) {
+                Ok(ending(key, Entry::Incomplete))
+            } else {
+                Err(Unread::Outside)
+            }
+        }
+        Head::Known { key, words } => {
+            if is_behind(last, key) && may_stand(words.mine, words.base) {
+                Ok(with_words(key, words)?)
+            } else {
+                Err(Unread::Outside)
+            }
+        }
+    }
+}
+
+/// What a line makes in its place.
+#[tactic(auto, unfolding(crate::specs::Reading::step))]
+pub fn step(desk: &mut Desk, here: Place, line: &[u8]) -> Result<Step, Unread>
+    ensures { Gives result (step here line.now) }
+{
+    match here {
+        Place::Head { last } => {
+            let head = read_head(&mut desk.written, line)?;
+            with_head(last, head)
+        }
+        Place::Base { key, words } => {
+            let base = base_at(desk, key, words.base, line)?;
+            Ok(with_base(key, base, words.mine, words.why)?)
+        }
+        Place::Mine { key, base, why } => {
+            let mine = mine_at(desk, key, &base, line)?;
+            Ok(with_mine(key, base, mine, why))
+        }
+        Place::Theirs {
+            key,
+            base,
+            mine,
+            why,
+        } => {
+            let theirs = theirs_at(desk, key, line)?;
+            let conflict = Shared::new(desk.pool.allocator(), Conflict { why, theirs })?;
+            Ok(ending(
+                key,
+                Entry::Known {
+                    base,
+                    mine,
+                    conflict: Some(conflict),
+                },
+            ))
+        }
+        Place::Behind => Ok(awaiting(Place::Behind)),
+    }
+}
