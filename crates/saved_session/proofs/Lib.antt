@@ -13,3 +13,4 @@ pub mod Writable
 pub mod ObjectAgain
 pub mod EntryAgain
 pub mod TableAgain
+mod Examples
