@@ -31,7 +31,7 @@ use running::run_case;
 use std::fs;
 
 /// The bundles of cases, in the order in which they run.
-const BUNDLES: [&str; 35] = [
+const BUNDLES: [&str; 39] = [
     "reading.txt",
     "jobs.txt",
     "groups.txt",
@@ -63,6 +63,10 @@ const BUNDLES: [&str; 35] = [
     "lines.txt",
     "limits.txt",
     "words.txt",
+    "put_away.txt",
+    "taken_up.txt",
+    "bad_saved.txt",
+    "unsound_saved.txt",
     "whole_upload.txt",
     "hostile_files.txt",
     "cut_files.txt",
