@@ -31,7 +31,7 @@ use running::run_case;
 use std::fs;
 
 /// The bundles of cases, in the order in which they run.
-const BUNDLES: [&str; 39] = [
+const BUNDLES: [&str; 44] = [
     "reading.txt",
     "jobs.txt",
     "groups.txt",
@@ -63,6 +63,11 @@ const BUNDLES: [&str; 39] = [
     "lines.txt",
     "limits.txt",
     "words.txt",
+    "finding.txt",
+    "queries.txt",
+    "checking.txt",
+    "squeezing.txt",
+    "fusing.txt",
     "put_away.txt",
     "taken_up.txt",
     "bad_saved.txt",
