@@ -195,6 +195,13 @@ class Script:
     def rehearse(self):
         self._step('rehearse')
 
+    def save(self):
+        self._step('save')
+
+    def resume(self, name):
+        """A saved session. No id is foretold behind it, since they count on from those of that session."""
+        self.step('resume', quote(str(name)))
+
     def begin(self):
         self._step('begin')
 
@@ -281,6 +288,10 @@ class Answer:
         lines = self._written('conflicts')
         return [Conflict(*lines[at].split(' ')[1:], *(parse_object(line.split(' ', 1)[1]) for line in lines[at + 1:at + 4]))
                 for at in range(0, len(lines), 4)]
+
+    def saved(self):
+        """The text of the last `save`, which a file for `resume` has; empty where nothing was saved."""
+        return ''.join(line + '\n' for line in self._written('save'))
 
     def chunks(self):
         """The chunks of the last `upload`: lists of pairs, the verb and the Object, which for `delete` has key and version alone."""

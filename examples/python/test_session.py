@@ -1,5 +1,6 @@
 #!/usr/bin/env python3
 """test_session.py [PROGRAM]: tries the driver on the example town. Run it in the folder examples/; bench/pages does."""
+import pathlib
 import sys
 import tempfile
 import unittest
@@ -97,12 +98,29 @@ class Sessions(unittest.TestCase):
         script.upload(10000)
         script.confirm('a name, with = and %')
         script.rehearse()
+        script.save()
+        script.resume('a name, with = and %')
         script.download('a name', (-180, -90, 180, 90.0), {'highway': '*', 'name': 'a b,=%'})
         script.download('a name', box=(13, 52, 13.0000001, 52.5))
         script.download('a name', wanted={'name': ''})
         script.generate(1)
         script.import_file('a name')
         self.run_script(script, allow_refused=True)
+
+    def test_a_session_is_taken_up(self):
+        script = self.script()
+        bench = script.node(13.65, 0.05, {'amenity': 'bench'})
+        script.save()
+        with tempfile.TemporaryDirectory() as place:
+            pathlib.Path(place, 'day.saved').write_text(self.run_script(script).saved(), encoding='utf-8', newline='\n')
+            again = Script()
+            again.resume(place + '/day.saved')
+            self.assertIsNone(again.node(13.6, 1, {}))
+            again.tag([bench], {'backrest': 'yes'})
+            again.save()
+            answer = self.run_script(again)
+        self.assertEqual([reply.rest for reply in answer.replies], ['', 'n-2', '', ''])
+        self.assertEqual(answer.saved().split('\n')[0], 'session 1 3')
 
     def test_a_part_of_a_file(self):
         script = Script()
