@@ -195,6 +195,20 @@ class Script:
     def rehearse(self):
         self._step('rehearse')
 
+    def find(self, query):
+        """Words such as `way and not Tname=*`; a tag is `T` and `tags` of it."""
+        self._step('find', query)
+
+    def check(self):
+        self._step('check')
+
+    def squeeze(self, keys):
+        self._step('squeeze', ','.join(keys))
+
+    def fuse(self, keys):
+        """Two nodes or more at one place."""
+        self._step('fuse', ','.join(keys))
+
     def save(self):
         self._step('save')
 
@@ -288,6 +302,14 @@ class Answer:
         lines = self._written('conflicts')
         return [Conflict(*lines[at].split(' ')[1:], *(parse_object(line.split(' ', 1)[1]) for line in lines[at + 1:at + 4]))
                 for at in range(0, len(lines), 4)]
+
+    def found(self):
+        """The keys of the last `find`, by rank."""
+        return self._written('find')[1:]
+
+    def findings(self):
+        """What the last `check` found: lists of words, of which the first is `doubled`, `repeated` or `openring`."""
+        return [line.split(' ') for line in self._written('check')[1:]]
 
     def saved(self):
         """The text of the last `save`, which a file for `resume` has; empty where nothing was saved."""

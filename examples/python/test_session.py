@@ -9,7 +9,7 @@ from decimal import Decimal
 import answers
 import changes
 import osmchange
-from session import Answer, Drawing, Refused, Script, Stopped, degrees, parse_object, quote, read_objects, run, unquote, upload_lines
+from session import Answer, Drawing, Refused, Script, Stopped, degrees, parse_object, quote, read_objects, run, tags, unquote, upload_lines
 
 PROGRAM = sys.argv.pop() if len(sys.argv) > 1 else 'yokeorange'
 
@@ -98,6 +98,10 @@ class Sessions(unittest.TestCase):
         script.upload(10000)
         script.confirm('a name, with = and %')
         script.rehearse()
+        script.find('( node or T' + tags({'a name': '*'}) + ' ) and not child way')
+        script.check()
+        script.squeeze(['w5', 'w6'])
+        script.fuse(['n1', 'n2'])
         script.save()
         script.resume('a name, with = and %')
         script.download('a name', (-180, -90, 180, 90.0), {'highway': '*', 'name': 'a b,=%'})
@@ -106,6 +110,20 @@ class Sessions(unittest.TestCase):
         script.generate(1)
         script.import_file('a name')
         self.run_script(script, allow_refused=True)
+
+    def test_what_is_found_is_mended(self):
+        script = self.script()
+        gate = script.node(13.6, 0, {'barrier': 'gate', 'name': 'a, b'})
+        script.nodes('w5', ['n1', gate, 'n2', 'n2', 'n3'])
+        script.check()
+        script.find('T' + tags({'name': 'a, b'}) + ' or parent new')
+        script.squeeze(['w5'])
+        script.fuse(['n2', gate])
+        script.print()
+        answer = self.run_script(script)
+        self.assertEqual(answer.findings(), [['doubled', 'n-1', 'n2'], ['repeated', 'w5']])
+        self.assertEqual(answer.found(), ['n-1', 'w5'])
+        self.assertEqual([thing.nodes for thing in answer.objects() if thing.key == 'w5'], [['n1', 'n2', 'n3']])
 
     def test_a_session_is_taken_up(self):
         script = self.script()
