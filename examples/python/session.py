@@ -364,7 +364,7 @@ def read_objects(path):
     things, replied = {}, False
     with open(path, encoding='utf-8', newline='\n') as lines:
         for line in lines:
-            if not re.match('[nwr]-?[0-9]', line):
+            if not re.match('[nwr]-?[0-9]+[ \t]', line):      # a key alone was found
                 replied = True
                 continue
             if replied:
