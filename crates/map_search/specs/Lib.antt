@@ -1,0 +1,7 @@
+pub mod Answers
+pub mod Meets
+pub mod Query
+pub mod QueryCode
+pub mod Reading
+pub mod Seen
+pub mod Words

@@ -1,0 +1,22 @@
+//! Questions to the map: which objects meet a query, and how a query is written.
+//!
+//! A query asks for kinds, tags and states of objects, for what found objects refer to (`child`) and for what refers to
+//! them (`parent`), joined by `not`, `and` and `or`. `read_query` reads one from words, exactly as `specs/Reading` says,
+//! and its law says that this is the grammar of `specs/Grammar`. `find` lists the keys of a data set that meet one, exactly
+//! as `specs/Meets` says.
+//!
+//! The reader goes through the words once with a stack of what waits for a factor: words that open one (`not`, `child`,
+//! `parent`, a bracket), and the left sides of `and` and `or`. A new word that tells objects apart wants a variant of
+//! `Form` and of `QueryValue`, its word in `specs/Words`, and its meaning in `specs/Meets`.
+#![tactic(auto)]
+
+mod fault;
+mod finding;
+mod pending;
+mod query;
+mod reading;
+
+pub use fault::QueryFault;
+pub use finding::find;
+pub use query::{Form, Query};
+pub use reading::read_query;
