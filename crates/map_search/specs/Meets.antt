@@ -20,15 +20,14 @@ use Rattle.map_search.specs.Query.{QueryValue, OfKind, Tag, IsNew, IsChanged, Is
 abbrev pub same_kind : Kind → Kind → Bool
 same_kind a b = kind_place a == kind_place b
 
--- a value that is there, and the one that is wanted if not any will do
-abbrev pub is_wanted : (wanted there : Option (List ℕ)) → Bool
-is_wanted wanted None = false
-is_wanted None (Some value) = true
-is_wanted (Some wanted) (Some value) = same_text wanted value
+-- whether it is the wanted value, if not any will do
+abbrev pub is_value : (wanted : Option (List ℕ)) → List ℕ → Bool
+is_value None value = true
+is_value (Some wanted) value = same_text wanted value
 
 -- the content has the key, with the value or any
 abbrev pub has_tag : (key : List ℕ) → (wanted : Option (List ℕ)) → Content → Bool
-has_tag key wanted content = is_wanted wanted (value_of (tags_of content) key)
+has_tag key wanted content = option_map_or (is_value wanted) (value_of (tags_of content) key) false
 
 -- a living entry whose mine has the tag
 abbrev pub is_tagged : (key : List ℕ) → (wanted : Option (List ℕ)) → Entry → Bool
@@ -54,7 +53,7 @@ abbrev pub refers_to : TableValue → (user of : Key) → Bool
 refers_to t user of = entry_is t user (λ e. uses e of)
 
 -- whether a key of the table meets a query
-unfoldable pub meets : TableValue → Key → QueryValue → Bool
+abbrev pub meets : TableValue → Key → QueryValue → Bool
 meets t k (OfKind kind) = same_kind kind k.kind
 meets t k (Tag key value) = entry_is t k (is_tagged key value)
 meets t k IsNew = entry_is t k begins_new

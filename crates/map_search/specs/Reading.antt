@@ -5,9 +5,11 @@
 --
 -- For example behind `not ( node and` waits `And node`, then the bracket, then `not`. With the words `way )` more the query
 -- is `Not (And node way)`.
-use Rattle.std.specs.Prelude.{ℕ, suc, nat_lt, nat_le, if◌then◌else◌, List, [], ◌∷◌, length, Option, Some, None}
+use Rattle.std.specs.Prelude.{ℕ, suc, nat_lt, nat_le, Bool, true, false, if◌then◌else◌, List, [], ◌∷◌, length, Option, Some, None}
 use Rattle.std.specs.Option.{option_and_then}
 use Rattle.map_search.specs.declared.pending.Opening.TheVariants as opening
+use Rattle.map_search.specs.declared.pending.Part.{Part}
+use Rattle.map_search.specs.declared.pending.Part.TheVariants as part
 use Rattle.map_search.specs.declared.pending.Pending.{Pending}
 use Rattle.map_search.specs.declared.pending.Pending.TheVariants as pending
 use Rattle.map_search.specs.declared.pending.Word.{Word}
@@ -20,40 +22,58 @@ pub record State : Type 0 where
   pub query : Option QueryValue
   pub waiting : List Pending
 
-abbrev wanting : List Pending → State
+abbrev pub wanting : List Pending → State
 wanting waiting = record { query = None; waiting = waiting }
 
-abbrev having : QueryValue → List Pending → State
+abbrev pub having : QueryValue → List Pending → State
 having q waiting = record { query = Some q; waiting = waiting }
+
+abbrev pub is_opening : Pending → Bool
+is_opening (pending.Opened o) = true
+is_opening (pending.And left) = false
+is_opening (pending.Or left) = false
 
 -- how many openings stand round what comes next
 abbrev pub nesting : List Pending → ℕ
 nesting [] = 0
-nesting (pending.Opened o ∷ waiting) = suc (nesting waiting)
-nesting (pending.And left ∷ waiting) = nesting waiting
-nesting (pending.Or left ∷ waiting) = nesting waiting
+nesting (p ∷ waiting) = if is_opening p then suc (nesting waiting) else nesting waiting
 
--- A factor is taken by each `not`, `child`, `parent` and `and` that waits for it, up to a bracket or an `or`.
+-- what takes a part of a query: `not`, `child`, `parent` and `and` take a factor, `or` a term, a bracket a whole query
+abbrev pub takes : Part → Pending → Bool
+takes part.Whole (pending.Opened opening.Bracket) = true
+takes part.Factor (pending.Opened opening.Bracket) = false
+takes part.Factor (pending.Opened o) = true
+takes part.Factor (pending.And left) = true
+takes part.Term (pending.Or left) = true
+takes part p = false
+
+-- what comes of what waits and the part that it takes
+abbrev pub completed : Pending → QueryValue → QueryValue
+completed (pending.Opened opening.Not) q = Not q
+completed (pending.Opened opening.Child) q = Child q
+completed (pending.Opened opening.Parent) q = Parent q
+completed (pending.Opened opening.Bracket) q = q
+completed (pending.And left) q = And left q
+completed (pending.Or left) q = Or left q
+
+-- A factor is taken by all that waits for it, up to a bracket or an `or`.
 abbrev pub taken : QueryValue → List Pending → State
-taken q (pending.Opened opening.Not ∷ waiting) = taken (Not q) waiting
-taken q (pending.Opened opening.Child ∷ waiting) = taken (Child q) waiting
-taken q (pending.Opened opening.Parent ∷ waiting) = taken (Parent q) waiting
-taken q (pending.And left ∷ waiting) = taken (And left q) waiting
-taken q waiting = having q waiting
+taken q [] = having q []
+taken q (p ∷ waiting) = if takes part.Factor p then taken (completed p q) waiting else having q (p ∷ waiting)
 
 -- A term is taken by the `or` that waits for it.
 abbrev pub joined : QueryValue → List Pending → State
-joined q (pending.Or left ∷ waiting) = having (Or left q) waiting
-joined q waiting = having q waiting
+joined q [] = having q []
+joined q (p ∷ waiting) = if takes part.Term p then having (completed p q) waiting else having q (p ∷ waiting)
 
--- `or` behind a term
-abbrev pub behind_term : State → Option State
-behind_term s = option_and_then (λ q. Some (wanting (pending.Or q ∷ s.waiting))) s.query
+-- the query and what waits, where there is a query
+abbrev pub with_query : State → (QueryValue → List Pending → Option State) → Option State
+with_query s go = option_and_then (λ q. go q s.waiting) s.query
 
--- the bracket that a `)` ends
-abbrev pub closed : Option QueryValue → List Pending → Option State
-closed (Some q) (pending.Opened opening.Bracket ∷ waiting) = Some (taken q waiting)
-closed q waiting = None
+-- A query is taken by the bracket that waits for it.
+abbrev pub closed : QueryValue → List Pending → Option State
+closed q [] = None
+closed q (p ∷ waiting) = if takes part.Whole p then Some (taken (completed p q) waiting) else None
 
 -- a word where a factor is wanted
 abbrev pub opened : Word → List Pending → Option State
@@ -64,8 +84,8 @@ opened w waiting = None
 -- a word behind a factor
 abbrev pub followed : QueryValue → Word → List Pending → Option State
 followed q word.And waiting = Some (wanting (pending.And q ∷ waiting))
-followed q word.Or waiting = behind_term (joined q waiting)
-followed q word.Closes waiting = closed (joined q waiting).query (joined q waiting).waiting
+followed q word.Or waiting = with_query (joined q waiting) (λ term rest. Some (wanting (pending.Or term ∷ rest)))
+followed q word.Closes waiting = with_query (joined q waiting) closed
 followed q w waiting = None
 
 -- one word more
@@ -74,13 +94,14 @@ with_word None w waiting = opened w waiting
 with_word (Some q) w waiting = followed q w waiting
 
 -- the query, where nothing waits any more
-abbrev pub whole : Option QueryValue → List Pending → Option QueryValue
-whole q [] = q
+abbrev pub whole : QueryValue → List Pending → Option QueryValue
+whole q [] = Some q
 whole q (p ∷ waiting) = None
 
+-- the query at the end of the words
 abbrev pub ended : Option QueryValue → List Pending → Option QueryValue
 ended None waiting = None
-ended (Some q) waiting = whole (joined q waiting).query (joined q waiting).waiting
+ended (Some q) waiting = option_and_then (λ term. whole term (joined q waiting).waiting) (joined q waiting).query
 
 -- the query that is read with these words more
 abbrev pub read_on : List (List ℕ) → Option QueryValue → List Pending → Option QueryValue

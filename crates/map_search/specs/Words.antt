@@ -23,6 +23,11 @@ has_byte piece = nat_lt 0 (length piece)
 abbrev pub words_of : List ℕ → List (List ℕ)
 words_of line = filter has_byte (split is_blank line)
 
+-- what stands behind the blanks at the front
+abbrev pub without_blanks : List ℕ → List ℕ
+without_blanks [] = []
+without_blanks (byte ∷ bytes) = if is_blank byte then without_blanks bytes else byte ∷ bytes
+
 -- a blank before the first word or behind the last
 abbrev pub has_outer_blank : List ℕ → Bool
 has_outer_blank line = is_blank (slice_index line 0) || is_blank (slice_index line (length line - 1))

@@ -1,18 +1,24 @@
 //! The keys that meet a query.
 ghost use Rattle.std.specs.Prelude.{◌≡◌, ◌≤◌, IfOk};
-ghost use Rattle.map_search.specs.Meets.{found};
+ghost use Rattle.std.specs.List.{filter};
+ghost use Rattle.osm_table.specs.Table.{keys_by_rank};
+ghost use Rattle.map_search.specs.Meets.{meets, found};
 ghost use Rattle.map_search.specs.Query.{depth};
 
-use crate::query::Query;
+use crate::query::{Form, Query};
+use crate::relatives::{children, parents};
+use crate::sets::{others, those_of};
+use crate::states::{begins_new, has_conflict, is_changed, is_deleted, is_incomplete, is_tagged};
 use dataset::DataSet;
-use osm_base::Keys;
+use osm_base::{Key, Keys};
 use std::alloc::AllocError;
 
 /// The keys of the table that meet the query, by rank, each once.
 ///
 /// It sorts the keys of the table once, and each word of the query costs at most one pass over them: `and` asks its right
 /// side only of what met the left one, and what `child` and `parent` stand before is asked of all. A pass of `child` looks
-/// at the users of each key, one of `parent` at its references. It calls itself once for each level of the query.
+/// at the users of each key, one of `parent` at its references, and they, `not` and `or` make a hashed set of what was
+/// found first. It calls itself once for each level of the query, which bounds the stack that it takes.
 ///
 /// # Errors
 /// No memory was left.
@@ -20,7 +26,46 @@ pub fn find(ds: &DataSet, query: &Query) -> Result<Keys, AllocError>
     requires shallow { depth query.now ≤ 1100 }
     ensures { IfOk result (λ keys. keys ≡ found ds.now query.now) }
 {
-    let _ = ds;
-    let _ = query;
-    Err(AllocError)
+    let keys = ds.ordered()?;
+    Ok(Keys::from_vec(meeting(ds, keys.as_slice(), keys.as_slice(), query)?))
+}
+
+/// Those of the keys that meet the query. It calls itself once for each level of the query.
+fn meeting(ds: &DataSet, all: &[Key], keys: &[Key], query: &Query) -> Result<Vec<Key>, AllocError>
+    requires shallow { depth query.now ≤ 1100 }
+    requires all { all.now ≡ keys_by_rank ds.now }
+    ensures { IfOk result (λ met. met.items ≡ filter (λ k. meets ds.now k query.now) keys.now) }
+{
+    let alloc = ds.alloc();
+    let keys_of = keys.iter().copied();
+    match &query.form {
+        Form::OfKind(kind) => keys_of.filter(|key| key.kind == *kind).collect(alloc),
+        Form::Tag { key: tag, value } => keys_of
+            .filter(|key| is_tagged(ds.entry(*key), tag, value))
+            .collect(alloc),
+        Form::IsNew => keys_of
+            .filter(|key| begins_new(ds.entry(*key)))
+            .collect(alloc),
+        Form::IsChanged => keys_of
+            .filter(|key| is_changed(ds.entry(*key)))
+            .collect(alloc),
+        Form::IsDeleted => keys_of
+            .filter(|key| is_deleted(ds.entry(*key)))
+            .collect(alloc),
+        Form::IsIncomplete => keys_of
+            .filter(|key| is_incomplete(ds.entry(*key)))
+            .collect(alloc),
+        Form::HasConflict => keys_of
+            .filter(|key| has_conflict(ds.entry(*key)))
+            .collect(alloc),
+        Form::Child(of) => children(ds, keys, &meeting(ds, all, all, of)?),
+        Form::Parent(of) => parents(ds, keys, &meeting(ds, all, all, of)?),
+        Form::Not(of) => others(alloc, keys, &meeting(ds, all, keys, of)?),
+        Form::And(left, right) => meeting(ds, all, &meeting(ds, all, keys, left)?, right),
+        Form::Or(left, right) => {
+            let left = meeting(ds, all, keys, left)?;
+            let right = meeting(ds, all, keys, right)?;
+            those_of(alloc, keys, &left, &right)
+        }
+    }
 }

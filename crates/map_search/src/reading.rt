@@ -1,12 +1,16 @@
 //! Queries, read from words.
-ghost use Rattle.std.specs.Prelude.{◌≡◌, ◌≤◌, IfOk};
-ghost use Rattle.map_search.specs.Answers.{Gives};
+ghost use Rattle.std.specs.Prelude.{◌≡◌, ◌≤◌, IfOk, reverse};
+ghost use Rattle.map_search.specs.Answers.{Gives, Reads};
 ghost use Rattle.map_search.specs.Query.{depth};
-ghost use Rattle.map_search.specs.Reading.{query_of};
+ghost use Rattle.map_search.specs.Reading.{query_of, query_of_words, with_word, opened, followed, closed, ended};
+ghost use Rattle.map_search.specs.Words.{words_of};
 
 use crate::fault::QueryFault;
+use crate::pending::{Part, Pending, Word, completed, joined, nesting, pop_taker, taken};
 use crate::query::Query;
+use crate::words::{has_outer_blank, next_word, word_of};
 use opl_text::Pool;
+use std::alloc::Global;
 
 /// The query that the words of a line are.
 ///
@@ -18,11 +22,123 @@ use opl_text::Pool;
 ///
 /// # Errors
 /// `BadQuery` exactly where the words aren't a query, `Memory` where no memory was left.
+#[tactic(auto, unfolding(crate::specs::Reading::query_of))]
 pub fn read_query(pool: &mut Pool, line: &[u8]) -> Result<Query, QueryFault>
     ensures value { Gives result (query_of line.now) }
     ensures shallow { IfOk result (λ query. depth query ≤ 1100) }
 {
-    let _ = pool;
-    let _ = line;
-    Err(QueryFault::Memory)
+    if has_outer_blank(line) {
+        return Err(QueryFault::BadQuery);
+    }
+    read_words(pool, line)
+}
+
+fn read_words(pool: &mut Pool, words: &[u8]) -> Result<Query, QueryFault>
+    ensures { Gives result (query_of_words (words_of words.now)) }
+{
+    let mut stack = Vec::new(pool.allocator());
+    let mut query = None;
+    let mut count = 0u64;
+    let mut rest = words;
+    while let Some((word, behind)) = next_word(rest) {
+        if count == 1000 {
+            return Err(QueryFault::BadQuery);
+        }
+        count += 1;
+        let word = word_of(pool, word)?;
+        query = with_word(pool.allocator(), query, word, &mut stack)?;
+        rest = behind;
+    }
+    ended(pool.allocator(), query, &mut stack)
+}
+
+/// One word more.
+fn with_word(
+    alloc: Global,
+    query: Option<Query>,
+    word: Word,
+    stack: &mut Vec<Pending>,
+) -> Result<Option<Query>, QueryFault>
+    ensures { Reads result (reverse stack.new.items) (with_word query word (reverse stack.old.items)) }
+{
+    match query {
+        None => opened(alloc, word, stack),
+        Some(query) => followed(alloc, query, word, stack),
+    }
+}
+
+/// A word where a factor is wanted.
+fn opened(alloc: Global, word: Word, stack: &mut Vec<Pending>) -> Result<Option<Query>, QueryFault>
+    ensures { Reads result (reverse stack.new.items) (opened word (reverse stack.old.items)) }
+{
+    match word {
+        Word::Opens(opening) => {
+            if nesting(stack) >= 64 {
+                return Err(QueryFault::BadQuery);
+            }
+            stack.push(Pending::Opened(opening))?;
+            Ok(None)
+        }
+        Word::Asks(query) => Ok(Some(taken(alloc, query, stack)?)),
+        Word::And | Word::Or | Word::Closes => Err(QueryFault::BadQuery),
+    }
+}
+
+/// A word behind a factor.
+fn followed(
+    alloc: Global,
+    query: Query,
+    word: Word,
+    stack: &mut Vec<Pending>,
+) -> Result<Option<Query>, QueryFault>
+    ensures { Reads result (reverse stack.new.items) (followed query word (reverse stack.old.items)) }
+{
+    match word {
+        Word::And => {
+            stack.push(Pending::And(query))?;
+            Ok(None)
+        }
+        Word::Or => {
+            let term = joined(alloc, query, stack)?;
+            stack.push(Pending::Or(term))?;
+            Ok(None)
+        }
+        Word::Closes => {
+            let whole = joined(alloc, query, stack)?;
+            closed(alloc, whole, stack)
+        }
+        Word::Opens(_) | Word::Asks(_) => Err(QueryFault::BadQuery),
+    }
+}
+
+/// The query, taken by the bracket that waits for it.
+fn closed(
+    alloc: Global,
+    query: Query,
+    stack: &mut Vec<Pending>,
+) -> Result<Option<Query>, QueryFault>
+    ensures { Reads result (reverse stack.new.items) (closed query (reverse stack.old.items)) }
+{
+    match pop_taker(Part::Whole, stack) {
+        None => Err(QueryFault::BadQuery),
+        Some(bracket) => {
+            let factor = completed(alloc, bracket, query)?;
+            Ok(Some(taken(alloc, factor, stack)?))
+        }
+    }
+}
+
+/// The query at the end of the words.
+fn ended(alloc: Global, query: Option<Query>, stack: &mut Vec<Pending>) -> Result<Query, QueryFault>
+    ensures { Gives result (ended query (reverse stack.old.items)) }
+{
+    let Some(query) = query else {
+        return Err(QueryFault::BadQuery);
+    };
+    let query = joined(alloc, query, stack)?;
+    if stack.is_empty() {
+        Ok(query)
+    } else {
+        Err(QueryFault::BadQuery)
+    }
 }
