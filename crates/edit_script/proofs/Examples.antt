@@ -9,6 +9,8 @@ use Rattle.osm_base.specs.Number.{number_text, id_text, kind_letter, key_text, m
 use Rattle.osm_base.specs.Place.{place_at}
 use Rattle.osm_base.specs.declared.key.Key.{Key}
 use Rattle.osm_base.specs.declared.key.Kind.TheVariants.{Node, Way, Relation}
+use Rattle.map_search.specs.Query as query
+use Rattle.map_search.specs.Words.{tag_word, state_word, kind_word, joining_word, word_of}
 use Rattle.opl_text.specs.Text.{unescaped}
 use Rattle.opl_line.specs.Field.{tags_text, tag_into, refs_text, ref_into, ref_text, members_text}
 use Rattle.opl_file.specs.declared.fault.FileFault.TheVariants.{Twice}
@@ -20,7 +22,7 @@ use Rattle.edit_script.specs.declared.line.ScriptLine.TheVariants.{Skipped, Asks
 use Rattle.edit_script.specs.declared.reply.StepRefusal.TheVariants.{Tool, BadFile, OpenConflicts, IncompleteRef, CyclicNew, WrongAnswer, IdTaken, BadSaved, Unsound}
 use Rattle.edit_script.specs.declared.reply.StepReply.TheVariants as reply
 use Rattle.edit_script.specs.declared.step.Act.TheVariants as act
-use Rattle.edit_script.specs.Forms.{file_word, download, generate, import_file, confirm, resume, add_node, add_way, add_relation, set_tags, shift, place, set_nodes, set_members, delete, split, combine, reverse, squeeze, fuse, undo, resolve, parts, mix, choice_form, upload, mend_form, way_form, delete_form, change_form, add_form, send_form, look_form, group_form, form}
+use Rattle.edit_script.specs.Forms.{file_word, download, generate, import_file, confirm, resume, add_node, add_way, add_relation, set_tags, shift, place, set_nodes, set_members, delete, split, combine, reverse, squeeze, fuse, undo, find, resolve, parts, mix, choice_form, upload, mend_form, way_form, delete_form, change_form, add_form, send_form, look_form, group_form, form}
 use Rattle.edit_script.specs.Items.{keys_word, tags_word, refs_word, members_word, place_texts, place_words, area_text, wanted_text, number_word, side_word, tag_keys_of, tag_keys_word}
 use Rattle.edit_script.specs.Reply.{reply_line}
 use Rattle.edit_script.specs.Script.{kind_of_line, line_of, steps_of}
@@ -89,6 +91,28 @@ resume_read = refl
 save_read : line_of (codes "save") ≡ Some (Asks act.Save)
 unfolding kind_of_line form group_form look_form
 save_read = refl
+
+check_read : line_of (codes "check") ≡ Some (Asks act.Check)
+unfolding kind_of_line form group_form look_form
+check_read = refl
+
+-- All words behind the first are the query.
+find_read : line_of (codes "find child way and not Tk=*") ≡ Some (Asks (act.Find (query.And (query.Child (query.OfKind Way)) (query.Not (query.Tag (codes "k") None)))))
+unfolding kind_of_line form group_form look_form find word_of joining_word kind_word state_word tag_word tags_text tag_into unescaped is_utf8 chars encode
+find_read = refl
+
+find_blanks : line_of (codes "find\t new \t or incomplete") ≡ Some (Asks (act.Find (query.Or query.IsNew query.IsIncomplete)))
+unfolding kind_of_line form group_form look_form find word_of joining_word kind_word state_word
+find_blanks = refl
+
+-- A bracket is closed, and a query has a word.
+find_open : line_of (codes "find ( way") ≡ None
+unfolding kind_of_line form group_form look_form find word_of joining_word kind_word
+find_open = refl
+
+find_nothing : line_of (codes "find") ≡ None
+unfolding kind_of_line form group_form look_form find
+find_nothing = refl
 
 no_file : line_of (codes "download") ≡ None
 unfolding kind_of_line form download

@@ -1,5 +1,7 @@
 -- What is answered of what was read.
 use Rattle.std.specs.Prelude.{◌≡◌, ℕ, List, Result, Ok, Err, Option, Some, None}
+use Rattle.map_search.specs.declared.fault.QueryFault.{QueryFault}
+use Rattle.map_search.specs.declared.fault.QueryFault.TheVariants as queries
 use Rattle.opl_line.specs.declared.fault.LineAnswer.{LineAnswer}
 use Rattle.opl_line.specs.declared.fault.LineAnswer.TheVariants as answers
 use Rattle.osm_base.specs.declared.text.TextFault.{TextFault}
@@ -30,6 +32,11 @@ unread_field answers.Memory = unread.Memory
 abbrev pub unread_text : TextFault → Unread
 unread_text texts.BadText = unread.Outside
 unread_text texts.Memory = unread.Memory
+
+-- words that are no query are outside the grammar
+abbrev pub unread_query : QueryFault → Unread
+unread_query queries.BadQuery = unread.Outside
+unread_query queries.Memory = unread.Memory
 
 -- the fault names the first bad line, or memory ran out
 abbrev pub RefusesScript : Result (List Step) ℕ → ScriptFault → Type 0

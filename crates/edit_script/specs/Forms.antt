@@ -7,6 +7,7 @@ use Rattle.std.specs.Prelude.{ℕ, nat_le, if◌then◌else◌, codes, List, [],
 use Rattle.std.specs.Str.{bytes_eq}
 use Rattle.osm_base.specs.Coord.{coord_text}
 use Rattle.osm_base.specs.Number.{key_text}
+use Rattle.map_search.specs.Reading.{query_of_words}
 use Rattle.opl_text.specs.Text.{unescaped}
 use Rattle.opl_text.specs.Time.{◌>>=◌}
 use Rattle.resolution.specs.declared.choice.Choice.{Choice}
@@ -69,6 +70,12 @@ redo words = do
   count ← one_word words
   n ← count_word count
   Some (act.Redo n)
+
+-- `find QUERY`: all words behind the first are the query
+unfoldable pub find : List (List ℕ) → Option Act
+find words = do
+  query ← query_of_words words
+  Some (act.Find query)
 
 -- `upload SIZE`
 unfoldable pub upload : List (List ℕ) → Option Act
@@ -293,7 +300,9 @@ look_form verb words =
     else (if bytes_eq verb (codes "count") then alone act.Count words
     else (if bytes_eq verb (codes "conflicts") then alone act.Conflicts words
     else (if bytes_eq verb (codes "save") then alone act.Save words
-    else send_form verb words)))
+    else (if bytes_eq verb (codes "find") then find words
+    else (if bytes_eq verb (codes "check") then alone act.Check words
+    else send_form verb words)))))
 
 -- a group begins or ends, or steps are undone or redone
 unfoldable pub group_form : List ℕ → List (List ℕ) → Option Act

@@ -3,11 +3,12 @@
 --
 -- For example `begin`, `print`, `end`, `undo 1` are in order, and `begin`, `undo 1`, `end` are not.
 use Rattle.std.specs.Prelude.{◌≡◌, ◌≤◌, Bool, true, false, List, [], ◌∷◌}
+use Rattle.map_search.specs.Query.{depth}
 use Rattle.tool_api.specs.Plain.{IsWellFormed}
 use Rattle.edit_script.specs.declared.line.ScriptLine.{ScriptLine}
 use Rattle.edit_script.specs.declared.line.ScriptLine.TheVariants.{Skipped, Asks}
 use Rattle.edit_script.specs.declared.step.Act.{Act}
-use Rattle.edit_script.specs.declared.step.Act.TheVariants.{Job, Generate, Begin, End, Undo, Redo, Rehearse, Upload, Confirm, Resume}
+use Rattle.edit_script.specs.declared.step.Act.TheVariants.{Job, Generate, Begin, End, Undo, Redo, Find, Rehearse, Upload, Confirm, Resume}
 use Rattle.edit_script.specs.declared.step.Step.{Step}
 
 -- whether an act may stand where it does, inside a group or outside
@@ -29,13 +30,14 @@ inside_after is_inside Begin = true
 inside_after is_inside End = false
 inside_after is_inside act = is_inside
 
--- A job names what it has to, a city has 1 to 100,000 streets, there is something to undo or redo, and a chunk has 1 to
--- 10,000 changes.
+-- A job names what it has to, a city has 1 to 100,000 streets, there is something to undo or redo, a query has at most
+-- 1,100 levels, and a chunk has 1 to 10,000 changes.
 abbrev pub IsMeant : Act → Type 0
 IsMeant (Job job) = IsWellFormed job
 IsMeant (Generate streets) = (1 ≤ streets) × (streets ≤ 100000)
 IsMeant (Undo n) = 1 ≤ n
 IsMeant (Redo n) = 1 ≤ n
+IsMeant (Find query) = depth query ≤ 1100
 IsMeant (Upload size) = (1 ≤ size) × (size ≤ 10000)
 IsMeant act = Unit {0}
 

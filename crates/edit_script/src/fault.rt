@@ -1,7 +1,8 @@
 //! Why no steps are read.
 ghost use Rattle.std.specs.Prelude.{◌≡◌};
-ghost use Rattle.edit_script.specs.Answers.{unread_field, unread_text};
+ghost use Rattle.edit_script.specs.Answers.{unread_field, unread_query, unread_text};
 
+use map_search::QueryFault;
 use opl_line::LineAnswer;
 use osm_base::TextFault;
 use std::alloc::{AllocError, AllocFailed};
@@ -65,6 +66,17 @@ impl From<LineAnswer> for Unread {
         match answer {
             LineAnswer::Bad(_) => Unread::Outside,
             LineAnswer::Memory => Unread::Memory,
+        }
+    }
+}
+
+impl From<QueryFault> for Unread {
+    ghost from_gives = { λ fault e. e ≡ unread_query fault };
+
+    fn from(fault: QueryFault) -> Unread {
+        match fault {
+            QueryFault::BadQuery => Unread::Outside,
+            QueryFault::Memory => Unread::Memory,
         }
     }
 }

@@ -1,15 +1,15 @@
 //! The lines of a script: one function for each form, found by the first word of the line.
 ghost use Rattle.std.specs.Prelude.{IfOk};
 ghost use Rattle.edit_script.specs.Answers.{Gives};
-ghost use Rattle.edit_script.specs.Forms.{file_word, download, generate, import_file, confirm, resume, add_node, add_way, add_relation, set_tags, shift, place, set_nodes, set_members, delete, erase, purge, split, combine, reverse, squeeze, fuse, undo, redo, upload, mix, parts, choice_form, choice_of, resolve, mend_form, way_form, delete_form, change_form, add_form, send_form, look_form, group_form, form, act_of};
+ghost use Rattle.edit_script.specs.Forms.{file_word, download, generate, import_file, confirm, resume, add_node, add_way, add_relation, set_tags, shift, place, set_nodes, set_members, delete, erase, purge, split, combine, reverse, squeeze, fuse, undo, redo, find, upload, mix, parts, choice_form, choice_of, resolve, mend_form, way_form, delete_form, change_form, add_form, send_form, look_form, group_form, form, act_of};
 ghost use Rattle.edit_script.specs.Items.{words_of};
 ghost use Rattle.edit_script.specs.Order.{IsMeant};
 
 use crate::fault::Unread;
 use crate::items::{
     alone, area_part, coord_word, count_word, key_word, keys_word, members_word, next_word,
-    one_word, place_words, refs_word, side_word, size_word, streets_word, tag_keys_word, tags_word,
-    three_words, two_words, wanted_part,
+    one_word, place_words, query_words, refs_word, side_word, size_word, streets_word,
+    tag_keys_word, tags_word, three_words, two_words, wanted_part,
 };
 use crate::step::Act;
 use opl_text::{Pool, read_escaped};
@@ -80,6 +80,10 @@ fn look_form(pool: &mut Pool, verb: &[u8], words: &[u8]) -> Result<Act, Unread>
         alone(Act::Conflicts, words)
     } else if verb == b"save".as_slice() {
         alone(Act::Save, words)
+    } else if verb == b"find".as_slice() {
+        find(pool, words)
+    } else if verb == b"check".as_slice() {
+        alone(Act::Check, words)
     } else {
         send_form(pool, verb, words)
     }
@@ -532,6 +536,16 @@ fn redo(words: &[u8]) -> Result<Act, Unread>
     let first = one_word(words)?;
     let n = count_word(first)?;
     Ok(Act::Redo { n })
+}
+
+/// `find QUERY`.
+#[tactic(auto, unfolding(crate::specs::Forms::find))]
+fn find(pool: &mut Pool, words: &[u8]) -> Result<Act, Unread>
+    ensures value { Gives result (find (words_of words.now)) }
+    ensures meant { IfOk result IsMeant }
+{
+    let query = query_words(pool, words)?;
+    Ok(Act::Find(query))
 }
 
 /// `upload SIZE`.

@@ -1,5 +1,7 @@
 //! The words of a line, and what each of them spells.
-ghost use Rattle.std.specs.Prelude.{◌≡◌, ◌∷◌, ◌<◌, ◌≤◌, ◌==◌, ◌||◌, [], length, Some, MatchOption, MatchResult, IfOk};
+ghost use Rattle.std.specs.Prelude.{◌≡◌, ◌∷◌, ◌<◌, ◌≤◌, ◌==◌, ◌||◌, [], length, Some, MatchOption, MatchResult, IfOk, false};
+ghost use Rattle.map_search.specs.Query.{depth};
+ghost use Rattle.map_search.specs.Reading.{query_of_words};
 ghost use Rattle.opl_line.specs.Cut.{split};
 ghost use Rattle.opl_line.specs.Field.{is};
 ghost use Rattle.opl_line.specs.Line.{is_blank};
@@ -8,8 +10,10 @@ ghost use Rattle.osm_base.specs.Coord.{coord_text};
 ghost use Rattle.resolution.specs.Keys.{is_listed};
 ghost use Rattle.edit_script.specs.Answers.{Gives, IsRefused};
 ghost use Rattle.edit_script.specs.Items.{words_of, alone, one_word, two_words, three_words, four_texts, without_blanks, optional, has_location, keys_word, tags_word, refs_word, members_word, place_texts, place_words, box_between, area_text, wanted_text, number_word, count_word, streets_word, size_word, side_word, texts_of, tag_keys_of, tag_keys_word};
+ghost use Rattle.edit_script.specs.Script.{has_outer_blank};
 
 use crate::fault::Unread;
+use map_search::{Query, read_query};
 use opl_line::{cut, is_blank, read_members, read_refs, read_tags};
 use opl_text::{Pool, read_escaped};
 use osm_base::{
@@ -120,6 +124,19 @@ fn without_blanks(bytes: &[u8]) -> &[u8]
     let mut rest = bytes;
     while !rest.is_empty() && is_blank(rest[0]) {
         rest = rest.split_at(1).1;
+    }
+    rest
+}
+
+/// The bytes without the blanks at both of their ends, which are in no word.
+#[tactic(auto, using(crate::proofs::Words::words_before_blank, crate::proofs::Words::bare_front))]
+fn without_outer_blanks(bytes: &[u8]) -> &[u8]
+    ensures words { words_of result.now ≡ words_of bytes.now }
+    ensures bare { has_outer_blank result.now ≡ false }
+{
+    let mut rest = without_blanks(bytes);
+    while !rest.is_empty() && is_blank(rest[rest.len() - 1]) {
+        rest = rest.split_at(rest.len() - 1).0;
     }
     rest
 }
@@ -337,6 +354,15 @@ pub fn side_word(word: &[u8]) -> Result<Side, Unread>
     } else {
         Err(Unread::Outside)
     }
+}
+
+/// The query that all of the words are.
+#[tactic(auto, unfolding(map_search::specs::Reading::query_of))]
+pub fn query_words(pool: &mut Pool, words: &[u8]) -> Result<Query, Unread>
+    ensures value { Gives result (query_of_words (words_of words.now)) }
+    ensures shallow { IfOk result (λ query. depth query ≤ 1100) }
+{
+    Ok(read_query(pool, without_outer_blanks(words))?)
 }
 
 /// Whether the text may not stand behind these keys: it is empty, or one of them.

@@ -4,8 +4,8 @@
 //! `specs/Script` says, and promises that the steps are in order: no group in a group, nothing
 //! undone inside one, each job well formed. `write_reply` appends the one text of a reply
 //! (`specs/Reply`). It stands on `opl_line` for tags, references and members, on `opl_file` for
-//! the cut into lines, on `resolution` for the ways out of a conflict, and on `tool_api` for jobs and
-//! their refusals.
+//! the cut into lines, on `map_search` for queries, on `resolution` for the ways out of a conflict, and
+//! on `tool_api` for jobs and their refusals.
 //!
 //! The first word of a line finds its form. A new line wants a definition in `specs/Forms` and a
 //! function of that name in `forms.rt`, which read the words behind the first one; its word in one of

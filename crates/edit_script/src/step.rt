@@ -2,6 +2,7 @@
 ghost use Rattle.std.specs.Prelude.{◌≡◌};
 ghost use Rattle.edit_script.specs.Order.{may_stand, inside_after};
 
+use map_search::Query;
 use osm_base::{Area, Tags, Text};
 use tool_api::Job;
 
@@ -52,6 +53,11 @@ pub enum Act {
     Conflicts,
     /// Writes the whole table, so that a later session can go on from it.
     Save,
+    /// Writes the keys of the objects that meet a query: one of at most 1,100 levels.
+    Find(Query),
+    /// Writes what a check finds: nodes at the place of others, ways that name a node twice side by side, and rings
+    /// whose ends are two nodes at one place.
+    Check,
     /// Runs the changes of an upload against a server in memory.
     Rehearse,
     /// Writes the changes of an upload, in chunks.
