@@ -1,0 +1,12 @@
+mod Dedups
+mod Drafts
+mod Ends
+mod Examples
+mod Firsts
+mod Fuses
+mod Plans
+mod Renames
+mod SideBySide
+mod Squeezes
+mod Users
+mod Walks

@@ -1,20 +1,59 @@
 //! Fuses nodes.
-ghost use Rattle.std.specs.Prelude.{◌≡◌, ◌≤◌, length, IfOk};
+ghost use Rattle.std.specs.Prelude.{◌≡◌, ◌≤◌, length, not, IfOk};
 ghost use Rattle.dataset.specs.Sound.{IsSound};
+ghost use Rattle.tool_api.specs.Checks.{first_of, when};
+ghost use Rattle.tool_api.specs.Findings.{are_together};
+ghost use Rattle.tool_api.specs.Fuse.{fuse, place_test};
 ghost use Rattle.tool_api.specs.Planned.{Plans};
-ghost use Rattle.tool_api.specs.Fuse.{fuse};
+ghost use Rattle.tool_api.specs.declared.refusal.Refusal.TheVariants.{NotSamePlace};
 
+use crate::change::{fused, kept_node};
+use crate::places::are_together;
+use crate::union::{all_tags, clash_test, united};
 use dataset::DataSet;
-use osm_base::Key;
+use osm_base::{Key, Keys};
 use std::alloc::AllocError;
-use tool_api::{Command, Job, Plan, Undoable, Verb};
+use tool_api::{Command, Job, Kinds, Plan, Refusal, Undoable, Verb, closed, list_tests};
 
-fn fuse_plan(_ds: &DataSet, _nodes: &[Key], _limit: u64) -> Result<Plan, AllocError>
-    requires sound { IsSound _ds.now }
-    requires some { 2 ≤ length _nodes.now }
-    ensures { IfOk result (Plans _ds.now (fuse _ds.now _limit _nodes.now)) }
+fn first_apart(ds: &DataSet, first: Key, nodes: &[Key]) -> Option<Refusal>
+    ensures { result ≡ first_of (λ k. when (not (are_together ds.now first k)) (NotSamePlace k)) nodes.now }
 {
-    Err(AllocError)
+    for node in nodes {
+        if !are_together(ds, first, *node) {
+            return Some(Refusal::NotSamePlace(*node));
+        }
+    }
+    None
+}
+
+/// NotSamePlace with the first of the nodes that isn't at the place of the first. Two look-ups each.
+fn place_test(ds: &DataSet, nodes: &[Key]) -> Option<Refusal>
+    ensures { result ≡ place_test ds.now nodes.now }
+{
+    match nodes.split_first() {
+        None => None,
+        Some((first, rest)) => first_apart(ds, *first, rest),
+    }
+}
+
+fn fuse_plan(ds: &DataSet, nodes: &[Key], limit: u64) -> Result<Plan, AllocError>
+    requires sound { IsSound ds.now }
+    requires some { 2 ≤ length nodes.now }
+    ensures { IfOk result (Plans ds.now (fuse ds.now limit nodes.now)) }
+{
+    if let Some(refusal) = list_tests(ds, Kinds::Nodes, nodes)? {
+        return Ok(Plan::Refused(refusal));
+    }
+    if let Some(refusal) = place_test(ds, nodes) {
+        return Ok(Plan::Refused(refusal));
+    }
+    let all = all_tags(ds, nodes)?;
+    let tags = united(ds.alloc(), &all)?;
+    if let Some(refusal) = clash_test(&all, &tags)? {
+        return Ok(Plan::Refused(refusal));
+    }
+    let draft = fused(ds, nodes, kept_node(nodes), tags)?;
+    closed(ds, draft, nodes, limit, Keys::new(ds.alloc()))
 }
 
 /// Fuses nodes at one place to one node, which takes all tags; ways and relations refer to it in place of the nodes.

@@ -13,12 +13,18 @@
 //! `Finding`, a line at the end of `findings`, and its pass into `listing`.
 #![tactic(auto)]
 
+mod change;
 mod finding;
 mod fuse;
+mod law;
 mod listing;
+mod places;
+mod repeats;
 mod squeeze;
+mod union;
 
 pub use finding::{Finding, Findings};
 pub use fuse::FuseTool;
+pub use law::{a_fuse_leaves_the_kept_node, a_squeeze_leaves_no_repeat};
 pub use listing::list_findings;
 pub use squeeze::SqueezeTool;

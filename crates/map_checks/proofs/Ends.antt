@@ -1,0 +1,23 @@
+-- The first of a list, and what is left where no test refuses.
+use Rattle.std.proofs.Common.{◌≡◌, ◌<◌, List, [], ◌∷◌, length, get_or, Option, Some, None, Ok, Result, refl, arith}
+use Rattle.tool_api.specs.declared.refusal.Refusal.{Refusal}
+use Rattle.tool_api.specs.Changes.{Outcome}
+use Rattle.tool_api.specs.Checks.{◌>>◌}
+use Rattle.tool_api.specs.Upkeep.{first_in}
+
+pub first_got : {X : Type 0} (xs : List X) (d : X) → 0 < length xs → first_in xs ≡ Some (get_or xs 0 d)
+first_got [] d h = absurd (omega (arith, h))
+first_got (x ∷ xs) d h = refl
+
+-- where a test lets through, what is behind it decides
+pub through : (test : Option Refusal) (next : Result Outcome Refusal) (new : Outcome) → (test >> next) ≡ Ok new → next ≡ Ok new
+through None next new e = e
+through (Some r) next new e = cc
+
+pub last_through : (test : Option Refusal) (made new : Outcome) → (test >> Ok made) ≡ Ok new → made ≡ new
+last_through None made new e = cc
+last_through (Some r) made new e = cc
+
+pub first_none : (test : Option Refusal) (next : Result Outcome Refusal) (new : Outcome) → (test >> next) ≡ Ok new → test ≡ None
+first_none None next new e = refl
+first_none (Some r) next new e = cc

@@ -1,0 +1,162 @@
+//! The change that fuses nodes, as a draft.
+ghost use Rattle.std.specs.Prelude.{◌≡◌, ◌<◌, ◌&&◌, not, length, None, Some, IfOk};
+ghost use Rattle.std.specs.List.{filter, find};
+ghost use Rattle.std.specs.Ordering.{int_eq};
+ghost use Rattle.osm_base.specs.Rank.{is_key};
+ghost use Rattle.dataset.specs.Draft.{drafted};
+ghost use Rattle.tool_api.specs.Combine.{all_tags, is_positive, united};
+ghost use Rattle.tool_api.specs.Fuse.{fused, kept_node, without_runs, users_among};
+
+use dataset::{DataSet, Draft};
+use osm_base::{Content, Key, Refs, Tags, ranked, same_key};
+use renamed_content::{Renaming, renamed};
+use std::alloc::{AllocError, Global};
+use tool_api::{EditContent, KeySet, all_users, delete_all, edit_all};
+
+/// What keys are called when nodes become one: each of the nodes as the kept one.
+#[derive(Drop)]
+struct FusedKeys<'a> {
+    nodes: &'a KeySet,
+    kept: Key,
+}
+
+impl<'a> Renaming for FusedKeys<'a> {
+    ghost use Rattle.tool_api.specs.Fuse.{fused_key};
+
+    ghost key_named = { λ names. fused_key names.nodes.now names.kept };
+
+    fn key(&self, key: Key) -> Key {
+        if self.nodes.contains(key) {
+            self.kept
+        } else {
+            key
+        }
+    }
+}
+
+fn are_both(a: i64, b: i64, id: i64) -> bool
+    ensures { result ≡ (int_eq a id && int_eq b id) }
+{
+    a == id && b == id
+}
+
+/// The references with a single one of each run of the node side by side.
+fn without_runs(alloc: Global, id: i64, refs: &[i64]) -> Result<Vec<i64>, AllocError>
+    ensures { IfOk result (λ left. left.items ≡ without_runs id refs.now) }
+{
+    let mut left = Vec::from_slice(alloc, refs)?;
+    left.dedup_by(|a, b| are_both(*a, *b, id));
+    Ok(left)
+}
+
+/// What becomes of those that refer to the nodes: they refer to the kept one, a way once for each run of it.
+#[derive(Drop)]
+struct ReferToKept<'a> {
+    alloc: Global,
+    names: FusedKeys<'a>,
+}
+
+impl<'a> EditContent for ReferToKept<'a> {
+    ghost use Rattle.tool_api.specs.Fuse.{fused_content};
+
+    ghost edited = { λ rule. fused_content rule.names.nodes.now rule.names.kept };
+
+    fn edit(&self, content: Content) -> Result<Content, AllocError> {
+        match renamed(self.alloc, &content, &self.names)? {
+            Content::Way { tags, refs } => Ok(Content::Way {
+                tags,
+                refs: Refs::from_vec(without_runs(
+                    self.alloc,
+                    self.names.kept.id,
+                    refs.as_slice(),
+                )?)?,
+            }),
+            other => Ok(other),
+        }
+    }
+}
+
+/// What becomes of the kept node: it has all tags.
+#[derive(Drop)]
+struct HaveTags {
+    tags: Tags,
+}
+
+impl EditContent for HaveTags {
+    ghost use Rattle.tool_api.specs.Basic.{with_tags};
+
+    ghost edited = { λ rule. with_tags (λ _. rule.tags) };
+
+    fn edit(&self, content: Content) -> Result<Content, AllocError> {
+        let tags = self.tags.copy()?;
+        match content {
+            Content::Node { at, .. } => Ok(Content::Node { tags, at }),
+            Content::Way { refs, .. } => Ok(Content::Way { tags, refs }),
+            Content::Relation { members, .. } => Ok(Content::Relation { tags, members }),
+        }
+    }
+}
+
+/// The living ways and relations that refer to one of the nodes, by rank. It sorts the users of the nodes once.
+fn users_among(ds: &DataSet, nodes: &[Key]) -> Result<Vec<Key>, AllocError>
+    ensures { IfOk result (λ keys. keys.items ≡ users_among ds.now nodes.now) }
+{
+    ranked(all_users(ds, nodes)?)
+}
+
+fn other_nodes(alloc: Global, nodes: &[Key], kept: Key) -> Result<Vec<Key>, AllocError>
+    ensures { IfOk result (λ others. others.items ≡ filter (λ k. not (is_key kept k)) nodes.now) }
+{
+    nodes
+        .iter()
+        .copied()
+        .filter(|node| !same_key(kept, *node))
+        .collect(alloc)
+}
+
+/// The draft in which the users of the nodes refer to the kept one, the others are deleted, and the kept one has the tags. It
+/// costs the nodes and their users, with the references of each.
+///
+/// # Errors
+/// No memory was left.
+pub fn fused(ds: &DataSet, nodes: &[Key], kept: Key, tags: Tags) -> Result<Draft, AllocError>
+    requires tags { tags ≡ united (all_tags ds.now nodes.now) }
+    ensures { IfOk result (λ draft. drafted draft ds.now ≡ fused ds.now nodes.now kept) }
+{
+    let alloc = ds.alloc();
+    let users = users_among(ds, nodes)?;
+    let others = other_nodes(alloc, nodes, kept)?;
+    let named = KeySet::from_slice(alloc, nodes)?;
+    let names = FusedKeys {
+        nodes: &named,
+        kept,
+    };
+    let mut draft = Draft::new(ds);
+    edit_all(ds, &users, &ReferToKept { alloc, names }, &mut draft)?;
+    delete_all(ds, &others, &mut draft)?;
+    edit_all(ds, &[kept], &HaveTags { tags }, &mut draft)?;
+    Ok(draft)
+}
+
+fn is_positive(id: i64) -> bool
+    ensures { result ≡ is_positive id }
+{
+    0 <= id
+}
+
+fn first_positive(nodes: &[Key]) -> Option<Key>
+    ensures { result ≡ find (λ k. is_positive k.id) nodes.now }
+{
+    nodes.iter().copied().find(|node| is_positive(node.id))
+}
+
+/// The node that is kept: the first with a positive id, else the first.
+pub fn kept_node(nodes: &[Key]) -> Key
+    requires { 0 < length nodes.now }
+    ensures { kept_node nodes.now ≡ Some result }
+{
+    match first_positive(nodes) {
+        Some(node) => node,
+        None => nodes[0],
+    }
+}

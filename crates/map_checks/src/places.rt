@@ -1,0 +1,124 @@
+//! Places of nodes, and the first node at each.
+ghost use Rattle.std.specs.Prelude.{◌≡◌, ◌++◌, ◌∷◌, [], if◌then◌else◌, Some, IfOk, OnOk, List};
+ghost use Rattle.std.specs.Option.{option_copied, option_and_then};
+ghost use Rattle.osm_base.specs.Same.{same_coord};
+ghost use Rattle.osm_base.specs.declared.coord.Coord.{Coord};
+ghost use Rattle.osm_base.specs.declared.key.Key.{Key};
+ghost use Rattle.tool_api.specs.Findings.{place_of, place_at, same_place, are_together};
+ghost use Rattle.map_checks.specs.Places.{hashed, noted_at, first_at, HasFirst};
+
+use dataset::DataSet;
+use indexmap::IndexMap;
+use osm_base::{Content, Coord, Key};
+use std::alloc::{AllocError, Global};
+use tool_api::content_of;
+
+fn place_of(content: Option<&Content>) -> Option<Coord>
+    ensures { result ≡ place_of (option_copied content.entry) }
+{
+    match content {
+        Some(Content::Node { at, .. }) => Some(*at),
+        _ => None,
+    }
+}
+
+/// The place of a living node. One look-up.
+pub fn place_at(ds: &DataSet, key: Key) -> Option<Coord>
+    ensures { result ≡ place_at ds.now key }
+{
+    place_of(content_of(ds, key))
+}
+
+fn same_coord(a: Coord, b: Coord) -> bool
+    ensures { result ≡ same_coord a b }
+{
+    a.lon == b.lon && a.lat == b.lat
+}
+
+fn same_place(a: Option<Coord>, b: Option<Coord>) -> bool
+    ensures { result ≡ same_place a b }
+{
+    match (a, b) {
+        (Some(a), Some(b)) => same_coord(a, b),
+        _ => false,
+    }
+}
+
+/// Whether both are living nodes, at one place. Two look-ups.
+pub fn are_together(ds: &DataSet, a: Key, b: Key) -> bool
+    ensures { result ≡ are_together ds.now a b }
+{
+    same_place(place_at(ds, a), place_at(ds, b))
+}
+
+/// A place as it is hashed.
+#[derive(Clone, Copy, Debug, PartialEq, Eq, Hash)]
+pub struct Place {
+    lon: i32,
+    lat: i32,
+}
+
+fn hashed(at: Coord) -> Place
+    ensures { result ≡ hashed at }
+{
+    Place {
+        lon: at.lon,
+        lat: at.lat,
+    }
+}
+
+/// The first node at each place, of those that were noted.
+#[derive(Drop)]
+pub struct Places {
+    first: IndexMap<Place, Key>,
+}
+
+impl Places {
+    /// No nodes. It takes no memory.
+    pub fn new(alloc: Global) -> Places
+        ensures { result.first.entries ≡ [] }
+    {
+        Places {
+            first: IndexMap::new(alloc),
+        }
+    }
+
+    /// The node that was noted at a place. One look-up.
+    fn noted_at(&self, at: Coord) -> Option<Key>
+        ensures { result ≡ noted_at self.now.first.entries at }
+    {
+        self.first.get(&hashed(at)).copied()
+    }
+
+    /// Notes a node at a place, instead of the one that was noted there, if any.
+    ///
+    /// # Errors
+    /// No memory was left.
+    fn note(&mut self, at: Coord, key: Key) -> Result<(), AllocError>
+        ensures { OnOk result ((there : Coord) → noted_at self.new.first.entries there ≡ (if same_coord at there then Some key else noted_at self.old.first.entries there)) }
+    {
+        self.first.insert(hashed(at), key)?;
+        Ok(())
+    }
+
+    /// The first node at the key's place, of the keys that were looked at before, where the key's object is a living node.
+    /// Of these keys the map has the first at each place, and then of this key too. Two look-ups, and one more to note it.
+    ///
+    /// # Errors
+    /// No memory was left.
+    pub fn look_at(&mut self, ds: &DataSet, key: Key) -> Result<Option<Key>, AllocError>
+        ensures first { IfOk result (λ first. (keys : List Key) → HasFirst ds.now keys self.old.first.entries → first ≡ option_and_then (first_at ds.now keys) (place_at ds.now key)) }
+        ensures noted { OnOk result ((keys : List Key) → HasFirst ds.now keys self.old.first.entries → HasFirst ds.now (keys ++ key ∷ []) self.new.first.entries) }
+    {
+        let Some(at) = place_at(ds, key) else {
+            return Ok(None);
+        };
+        match self.noted_at(at) {
+            Some(first) => Ok(Some(first)),
+            None => {
+                self.note(at, key)?;
+                Ok(None)
+            }
+        }
+    }
+}
