@@ -19,6 +19,7 @@ use conflict::ResolveTool;
 use edit_history::{no_boxes, with_box};
 use edit_session::{Status, run_session};
 use import_tool::ImportTool;
+use map_checks::{FuseTool, SqueezeTool};
 use merge_tool::MergeTool;
 use osm_outside::{Shelf, Sink};
 use std::alloc::{AllocError, Global};
@@ -90,6 +91,10 @@ pub fn run_editor<S: Shelf, K: Sink>(
     let tools = with_box(tools, Verb::Import, tool)?;
     let tool: Box<ResolveTool> = boxed(alloc)?;
     let tools = with_box(tools, Verb::Resolve, tool)?;
+    let tool: Box<SqueezeTool> = boxed(alloc)?;
+    let tools = with_box(tools, Verb::Squeeze, tool)?;
+    let tool: Box<FuseTool> = boxed(alloc)?;
+    let tools = with_box(tools, Verb::Fuse, tool)?;
     Ok(run_session(alloc, words, tools, shelf, out))
 }
 

@@ -2,6 +2,7 @@ pub mod Examples
 pub mod Fed
 pub mod Finding
 pub mod Refusing
+pub mod Settles
 pub mod Steps
 pub mod Taking
 pub mod Opens

@@ -2,12 +2,11 @@
 use Rattle.std.proofs.Common.{◌≡◌, ℕ, List, Bool, true, false, Result, Ok, Err, refl, sym, ap, if◌then◌else◌}
 use Rattle.osm_table.specs.Table.{TableValue}
 use Rattle.dataset.specs.Patch.{PatchValue}
-use Rattle.answer_file.specs.declared.fault.AnswerFault.{AnswerFault}
-use Rattle.answer_file.specs.Answers.{confirm_text}
 use Rattle.tool_api.specs.declared.reply.Reply.{Reply}
 use Rattle.tool_api.specs.declared.reply.Reply.TheVariants as reply
 use Rattle.edit_script.specs.declared.step.Act.{Act}
-use Rattle.edit_script.specs.declared.step.Act.TheVariants.{Job, Download, Generate, ImportFile, Begin, End, Undo, Redo, Print, Count, Conflicts, Rehearse, Upload, Confirm}
+use Rattle.edit_script.specs.declared.step.Act.TheVariants.{Job, Download, Generate, ImportFile, Begin, End, Undo, Redo, Print, Count, Conflicts, Rehearse, Upload, Confirm, Save, Resume, Find, Check}
+use Rattle.edit_script.specs.declared.reply.StepRefusal.{StepRefusal}
 use Rattle.edit_script.specs.Order.{inside_after, may_stand}
 use Rattle.edit_history.specs.declared.counts.Group.{Group}
 use Rattle.edit_history.specs.declared.counts.Group.TheVariants.{Outside, Running, Refused}
@@ -16,7 +15,8 @@ use Rattle.edit_session.specs.declared.limits.Limits.{Limits}
 use Rattle.edit_session.specs.declared.loading.Found.{Found}
 use Rattle.edit_session.specs.declared.loading.Found.TheVariants as found
 use Rattle.edit_session.specs.Groups.{is_open, is_given_up}
-use Rattle.edit_session.specs.Turn.{Turn, turn, act_turn, file_turn, settled_turn, confirm_turn, skipped_turn}
+use Rattle.edit_session.specs.Turn.{Turn, turn, act_turn, file_turn, settled_turn, confirm_turn, resume_turn, skipped_turn}
+use Rattle.edit_session.specs.Settled.{confirmed, resumed}
 
 done_open : (g : Group) (u : TableValue) (s : State) → s.group ≡ g → is_given_up g ≡ false → is_open (done_in g u s).group ≡ is_open g
 done_open Outside u s e going = refl
@@ -36,22 +36,33 @@ file_open : (limit : ℕ) (found : Found) (s : State) → is_given_up s.group �
 file_open limit (found.Job job) s going = ran_open _ _ s going
 file_open limit (found.Bad fault) s going = refused_open s.group s refl going
 file_open limit found.Nothing s going = refused_open s.group s refl going
-file_open limit (found.Answers bytes) s going = refused_open s.group s refl going
+file_open limit (found.Bytes bytes) s going = refused_open s.group s refl going
 
-settled_open : (answer : Result PatchValue AnswerFault) (s : State) → is_open s.group ≡ false → is_open (settled_turn answer s).state.group ≡ is_open s.group
+settled_open : (answer : Result PatchValue StepRefusal) (s : State) → is_open s.group ≡ false → is_open (settled_turn answer s).state.group ≡ is_open s.group
 settled_open (Ok patch) s outside = sym outside
-settled_open (Err fault) s outside = refl
+settled_open (Err why) s outside = refl
 
 confirm_open : (found : Found) (s : State) → is_given_up s.group ≡ false → is_open s.group ≡ false → is_open (confirm_turn found s).state.group ≡ is_open s.group
-confirm_open (found.Answers bytes) s going outside = settled_open (confirm_text s.now bytes) s outside
+confirm_open (found.Bytes bytes) s going outside = settled_open (confirmed s.now bytes) s outside
 confirm_open (found.Bad fault) s going outside = refused_open s.group s refl going
 confirm_open found.Nothing s going outside = refused_open s.group s refl going
 confirm_open (found.Job job) s going outside = refused_open s.group s refl going
+
+resume_open : (limit : ℕ) (found : Found) (s : State) → is_given_up s.group ≡ false → is_open s.group ≡ false → is_open (resume_turn limit found s).state.group ≡ is_open s.group
+resume_open limit (found.Bytes bytes) s going outside = settled_open (resumed limit s.now bytes) s outside
+resume_open limit (found.Bad fault) s going outside = refused_open s.group s refl going
+resume_open limit found.Nothing s going outside = refused_open s.group s refl going
+resume_open limit (found.Job job) s going outside = refused_open s.group s refl going
 
 -- answers are taken outside groups alone
 answers_outside : (is_inside : Bool) (name : List ℕ) → may_stand is_inside (Confirm name) ≡ true → is_inside ≡ false
 answers_outside true name e = absurd cc
 answers_outside false name e = refl
+
+-- and so is a saved session
+saved_outside : (is_inside : Bool) (name : List ℕ) → may_stand is_inside (Resume name) ≡ true → is_inside ≡ false
+saved_outside true name e = absurd cc
+saved_outside false name e = refl
 
 either_open : (test : Bool) (a b : Turn) (open_before : Bool) → is_open a.state.group ≡ open_before → is_open b.state.group ≡ open_before → is_open (if test then a else b).state.group ≡ open_before
 either_open true a b open_before e f = e
@@ -72,6 +83,10 @@ act_open limits found Conflicts s stands going = refl
 act_open limits found Rehearse s stands going = refl
 act_open limits found (Upload size) s stands going = refl
 act_open limits found (Confirm name) s stands going = confirm_open found s going (answers_outside (is_open s.group) name stands)
+act_open limits found Save s stands going = refl
+act_open limits found (Resume name) s stands going = resume_open limits.objects found s going (saved_outside (is_open s.group) name stands)
+act_open limits found (Find query) s stands going = refl
+act_open limits found Check s stands going = refl
 
 given_up_open : (g : Group) → is_given_up g ≡ true → is_open g ≡ true
 given_up_open Outside e = absurd cc
@@ -93,6 +108,10 @@ skipped_open Conflicts s given_up = refl
 skipped_open Rehearse s given_up = refl
 skipped_open (Upload size) s given_up = refl
 skipped_open (Confirm name) s given_up = refl
+skipped_open Save s given_up = refl
+skipped_open (Resume name) s given_up = refl
+skipped_open (Find query) s given_up = refl
+skipped_open Check s given_up = refl
 
 turn_open_by : (limits : Limits) (found : Found) (act : Act) (s : State) (given_up : Bool) → may_stand (is_open s.group) act ≡ true → is_given_up s.group ≡ given_up → is_open (if given_up then skipped_turn act s else act_turn limits found act s).state.group ≡ inside_after (is_open s.group) act
 turn_open_by limits found act s true stands e = skipped_open act s e

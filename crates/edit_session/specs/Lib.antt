@@ -7,8 +7,10 @@ pub mod Load
 pub mod Needs
 pub mod Planned
 pub mod Printed
+pub mod Searched
 pub mod Send
 pub mod Session
+pub mod Settled
 pub mod Stop
 pub mod StatusText
 pub mod StopStatus

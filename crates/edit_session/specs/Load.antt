@@ -1,7 +1,7 @@
 -- What a step finds on the shelf.
 --
 -- For example `download f` finds a job that merges what f tells, or which of its lines is bad, or nothing where the shelf has
--- no f. And `confirm f` finds the bytes of f, or that they are too many.
+-- no f. And `confirm f` and `resume f` find the bytes of f, or that they are too many.
 use Rattle.std.specs.Prelude.{◌≡◌, ℕ, List, Option, None, Some, Result, Ok, Err, IfErr, if◌then◌else◌}
 use Rattle.std.specs.Option.{option_map}
 use Rattle.osm_outside.specs.Outside.{Shelved, held}
@@ -19,13 +19,13 @@ use Rattle.tool_api.specs.declared.verb.Verb.{Verb}
 use Rattle.tool_api.specs.declared.verb.Verb.TheVariants as verb
 use Rattle.tool_api.specs.Plain.{IsWellFormed, verb_of}
 use Rattle.edit_script.specs.declared.step.Act.{Act}
-use Rattle.edit_script.specs.declared.step.Act.TheVariants.{Download, ImportFile, Confirm}
+use Rattle.edit_script.specs.declared.step.Act.TheVariants.{Download, ImportFile, Confirm, Resume}
 use Rattle.edit_history.specs.declared.counts.Group.{Group}
 use Rattle.edit_session.specs.declared.files.ReadError.{ReadError}
 use Rattle.edit_session.specs.declared.files.ReadError.TheVariants.{Memory}
 use Rattle.edit_session.specs.declared.limits.Limits.{Limits}
 use Rattle.edit_session.specs.declared.loading.Found.{Found}
-use Rattle.edit_session.specs.declared.loading.Found.TheVariants.{Nothing, Bad, Job, Answers}
+use Rattle.edit_session.specs.declared.loading.Found.TheVariants.{Nothing, Bad, Job, Bytes}
 use Rattle.edit_session.specs.declared.files.Fetched.{Fetched}
 use Rattle.edit_session.specs.declared.files.Fetched.TheVariants.{Missing, TooLong, Whole}
 use Rattle.edit_session.specs.Fetch.{reading}
@@ -37,17 +37,18 @@ job_found job None = Nothing
 job_found job (Some (Err fault)) = Bad fault
 job_found job (Some (Ok objects)) = Job (job objects)
 
--- a file of answers, whose lines are not read yet
-abbrev pub answers_found : Fetched → Found
-answers_found Missing = Nothing
-answers_found TooLong = Bad FileTooLong
-answers_found (Whole bytes) = Answers bytes
+-- a file whose lines are not read yet
+abbrev pub bytes_found : Fetched → Found
+bytes_found Missing = Nothing
+bytes_found TooLong = Bad FileTooLong
+bytes_found (Whole bytes) = Bytes bytes
 
 -- what an act finds in the file that it names
 abbrev pub act_found : Limits → Shelved → Act → Found
 act_found limits files (Download name area wanted) = job_found (λ objects. Merge (filtered objects area wanted)) (option_map (objects_of mode.Download limits.file) (held files name))
 act_found limits files (ImportFile name) = job_found (λ objects. Import (new_objects_of objects)) (option_map (objects_of mode.Import limits.file) (held files name))
-act_found limits files (Confirm name) = answers_found (reading limits.file (held files name))
+act_found limits files (Confirm name) = bytes_found (reading limits.file (held files name))
+act_found limits files (Resume name) = bytes_found (reading limits.file (held files name))
 act_found limits files act = Nothing
 
 -- What an act finds there in this group. One that was given up reads no file.

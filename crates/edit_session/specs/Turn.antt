@@ -9,15 +9,16 @@ use Rattle.chunking.specs.Chunks.{chunks}
 use Rattle.conflict.specs.Shown.{conflicts_text}
 use Rattle.dataset.specs.Patch.{PatchValue, after_of}
 use Rattle.sample_city.specs.City.{city}
-use Rattle.answer_file.specs.declared.fault.AnswerFault.{AnswerFault}
-use Rattle.answer_file.specs.Answers.{confirm_text}
+use Rattle.saved_session.specs.Saved.{saved}
+use Rattle.map_search.specs.Meets as queries
+use Rattle.map_checks.specs.Findings.{findings}
 use Rattle.tool_api.specs.declared.job.Job as jobs
 use Rattle.tool_api.specs.declared.job.Job.TheVariants.{Merge}
 use Rattle.tool_api.specs.declared.reply.Reply.{Reply}
 use Rattle.tool_api.specs.declared.reply.Reply.TheVariants as reply
 use Rattle.tool_api.specs.Plain.{plain}
 use Rattle.edit_script.specs.declared.step.Act.{Act}
-use Rattle.edit_script.specs.declared.step.Act.TheVariants.{Job, Download, Generate, ImportFile, Begin, End, Undo, Redo, Print, Count, Conflicts, Rehearse, Upload, Confirm}
+use Rattle.edit_script.specs.declared.step.Act.TheVariants.{Job, Download, Generate, ImportFile, Begin, End, Undo, Redo, Print, Count, Conflicts, Rehearse, Upload, Confirm, Save, Resume, Find, Check}
 use Rattle.edit_script.specs.declared.step.Step.{Step}
 use Rattle.edit_script.specs.declared.reply.StepReply.{StepReply}
 use Rattle.edit_script.specs.declared.reply.StepReply.TheVariants.{Done, Refused, Skipped}
@@ -35,8 +36,10 @@ use Rattle.edit_session.specs.declared.response.Response.{Response}
 use Rattle.edit_session.specs.Counted.{count_text}
 use Rattle.edit_session.specs.Groups.{is_given_up}
 use Rattle.edit_session.specs.Load.{found_in}
-use Rattle.edit_session.specs.Planned.{answers_refused, upload_answer, rehearse_answer, rehearsed_text}
+use Rattle.edit_session.specs.Planned.{upload_answer, rehearse_answer, rehearsed_text}
 use Rattle.edit_session.specs.Printed.{table_text}
+use Rattle.edit_session.specs.Searched.{findings_text, found_text}
+use Rattle.edit_session.specs.Settled.{confirmed, resumed}
 
 -- What a step answers, and the state after it.
 abbrev pub Turn : Type 0
@@ -81,16 +84,22 @@ file_turn limit (found.Job job) s = job_turn limit job s
 file_turn limit (found.Bad fault) s = refused_turn (BadFile fault) s
 file_turn limit other s = refused_turn NoFile s
 
--- the table that the answers confirm is the table now for good
-abbrev pub settled_turn : Result PatchValue AnswerFault → State → Turn
+-- the table to which a difference leads is the table now for good, where there is one
+abbrev pub settled_turn : Result PatchValue StepRefusal → State → Turn
 settled_turn (Ok patch) s = done_turn (settled (after_of patch s.now) s)
-settled_turn (Err fault) s = still_turn (reply_alone (Refused (answers_refused fault))) s
+settled_turn (Err why) s = still_turn (reply_alone (Refused why)) s
 
 -- the answers in a file are taken, where the file is there and not too long
 abbrev pub confirm_turn : Found → State → Turn
-confirm_turn (found.Answers bytes) s = settled_turn (confirm_text s.now bytes) s
+confirm_turn (found.Bytes bytes) s = settled_turn (confirmed s.now bytes) s
 confirm_turn (found.Bad fault) s = refused_turn (BadFile fault) s
 confirm_turn other s = refused_turn NoFile s
+
+-- the session that a file holds is taken up, where the file is there and not too long
+abbrev pub resume_turn : ℕ → Found → State → Turn
+resume_turn limit (found.Bytes bytes) s = settled_turn (resumed limit s.now bytes) s
+resume_turn limit (found.Bad fault) s = refused_turn (BadFile fault) s
+resume_turn limit other s = refused_turn NoFile s
 
 -- n steps back, where there are so many
 abbrev pub undo_turn : ℕ → State → Turn
@@ -116,6 +125,10 @@ act_turn limits found Conflicts s = look_turn behind.Conflicts s
 act_turn limits found Rehearse s = still_turn (rehearse_answer s.now) s
 act_turn limits found (Upload size) s = still_turn (upload_answer size s.now) s
 act_turn limits found (Confirm name) s = confirm_turn found s
+act_turn limits found Save s = look_turn behind.Saved s
+act_turn limits found (Resume name) s = resume_turn limits.objects found s
+act_turn limits found (Find query) s = look_turn (behind.Found (queries.found s.now query)) s
+act_turn limits found Check s = look_turn (behind.Findings (findings s.now)) s
 
 -- in a group that was given up each act is skipped; its end ends the group
 abbrev pub skipped_turn : Act → State → Turn
@@ -136,8 +149,11 @@ behind_text behind.Nothing t = []
 behind_text behind.Table t = table_text t
 behind_text behind.Counts t = count_text t
 behind_text behind.Conflicts t = conflicts_text t
+behind_text behind.Saved t = saved t
 behind_text (behind.Changes changes size) t = chunks changes size
 behind_text (behind.Rehearsed count) t = rehearsed_text count
+behind_text (behind.Found keys) t = found_text keys
+behind_text (behind.Findings findings) t = findings_text findings
 
 -- the reply line, and the text behind it
 abbrev pub response_text : ℕ → Response → TableValue → List ℕ

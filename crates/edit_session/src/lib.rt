@@ -3,7 +3,7 @@
 //! `run_session` is the top call. Where the shelf tells its files, the session's text and its
 //! status are those of `outcome` in `specs/Session.antt`, byte for byte; a fault or want of memory
 //! leaves a front of that text. The words name the script and the limits, as `command_line` reads them. A step is read
-//! first: what it finds on the shelf is a value (`find`), the job that a file's objects make or the bytes of its answers.
+//! first: what it finds on the shelf is a value (`find`), the job that a file's objects make, or its bytes where they are read with the table at hand.
 //! Then it moves the history: `turn` in `specs/Turn.antt` says of that value and of the state of the
 //! machine of whole tables what it answers and which state follows, and knows no shelf and no sink.
 //! Then its answer is written: the reply line and the text behind it. The tools come in boxes from
@@ -25,8 +25,10 @@ mod needs;
 mod printing;
 mod response;
 mod run;
+mod searching;
 mod sending;
 mod session;
+mod settling;
 mod status;
 mod stop;
 mod turns;

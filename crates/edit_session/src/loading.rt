@@ -1,4 +1,4 @@
-//! What a step finds on the shelf: the job that the objects of its file make, or its answers.
+//! What a step finds on the shelf: the job that the objects of its file make, or the bytes of its file.
 ghost use Rattle.std.specs.Prelude.{◌≡◌, ◌<◌, [], true, length, Result, Ok, IfOk, IfSome};
 ghost use Rattle.std.specs.Option.{option_copied, option_map};
 ghost use Rattle.osm_outside.specs.Outside.{held, HasCauseOf};
@@ -10,7 +10,7 @@ ghost use Rattle.import_tool.specs.Counted.{new_objects_of};
 ghost use Rattle.tool_api.specs.declared.job.Job.TheVariants as jobs;
 ghost use Rattle.tool_api.specs.declared.verb.Verb.TheVariants as verbs;
 ghost use Rattle.edit_session.specs.Fetch.{reading};
-ghost use Rattle.edit_session.specs.Load.{job_found, answers_found, found_in, AreRead, IsFor, MayFind, FinishCause};
+ghost use Rattle.edit_session.specs.Load.{job_found, bytes_found, found_in, AreRead, IsFor, MayFind, FinishCause};
 ghost use Rattle.edit_session.specs.declared.files.ReadError.TheVariants.{Fault};
 
 use crate::files::{Bytes, Fetched, ReadError, fetch};
@@ -36,8 +36,8 @@ pub enum Found {
     Bad(FileFault),
     /// The job that the objects of a file make.
     Job(Job),
-    /// The bytes of a file of answers.
-    Answers(Bytes),
+    /// The bytes of a file that is read with the table at hand: answers, or a saved session.
+    Bytes(Bytes),
 }
 
 /// Reads the file that an act names, piece by piece. In a group that was given up it reads none. It costs what the file
@@ -66,13 +66,17 @@ pub fn find<S: Shelf>(
             find_map(alloc, shelf, name, limits.file, *area, wanted.as_ref())
         }
         Act::ImportFile { name } => find_new(alloc, shelf, name.as_bytes(), limits.file),
-        Act::Confirm { name } => find_answers(alloc, shelf, name.as_bytes(), limits.file),
+        Act::Confirm { name } => find_bytes(alloc, shelf, name.as_bytes(), limits.file),
+        Act::Resume { name } => find_bytes(alloc, shelf, name.as_bytes(), limits.file),
         Act::Generate { .. } => Ok(Found::Nothing),
         Act::Begin => Ok(Found::Nothing),
         Act::End => Ok(Found::Nothing),
         Act::Undo { .. } => Ok(Found::Nothing),
         Act::Redo { .. } => Ok(Found::Nothing),
         Act::Print => Ok(Found::Nothing),
+        Act::Save => Ok(Found::Nothing),
+        Act::Find(_) => Ok(Found::Nothing),
+        Act::Check => Ok(Found::Nothing),
         Act::Count => Ok(Found::Nothing),
         Act::Conflicts => Ok(Found::Nothing),
         Act::Rehearse => Ok(Found::Nothing),
@@ -129,21 +133,21 @@ fn find_new<S: Shelf>(
     }
 }
 
-// The bytes of a file of answers.
-fn find_answers<S: Shelf>(
+// The bytes of a file.
+fn find_bytes<S: Shelf>(
     alloc: Global,
     shelf: &mut S,
     name: &[u8],
     limit: u64,
 ) -> Result<Found, ReadError>
     ensures told { S.told shelf.new ≡ S.told shelf.old }
-    ensures found { IfOk result (λ found. IfSome (S.told shelf.old) (λ files. found ≡ answers_found (reading limit (held files name.now)))) }
+    ensures found { IfOk result (λ found. IfSome (S.told shelf.old) (λ files. found ≡ bytes_found (reading limit (held files name.now)))) }
     ensures cause { HasCauseOf Fault (S.faults shelf.old) (S.faults shelf.new) result }
 {
     match fetch(alloc, shelf, name, limit as usize)? {
         Fetched::Missing => Ok(Found::Nothing),
         Fetched::TooLong => Ok(Found::Bad(FileFault::FileTooLong)),
-        Fetched::Whole(bytes) => Ok(Found::Answers(bytes)),
+        Fetched::Whole(bytes) => Ok(Found::Bytes(bytes)),
     }
 }
 

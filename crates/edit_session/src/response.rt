@@ -4,6 +4,7 @@ ghost use Rattle.edit_script.specs.declared.reply.StepReply.TheVariants.{Done};
 ghost use Rattle.edit_session.specs.Turn.{reply_alone};
 
 use edit_script::StepReply;
+use map_checks::Findings;
 use osm_base::Keys;
 use std::alloc::Global;
 use upload_order::Changes;
@@ -19,10 +20,16 @@ pub enum Behind {
     Counts,
     /// The objects in conflict.
     Conflicts,
+    /// The whole table, as a session that is taken up later.
+    Saved,
     /// The changes of an upload, in chunks of so many.
     Changes { changes: Changes, size: u32 },
     /// How many changes a rehearsal accepted.
     Rehearsed(u64),
+    /// The keys that were found.
+    Found(Keys),
+    /// What is broken.
+    Findings(Findings),
 }
 
 /// The reply of a step, and what stands behind it.

@@ -17,7 +17,8 @@ use crate::limits::Limits;
 use crate::loading::{Found, find};
 use crate::response::{Behind, Response};
 use crate::sending::{
-    WriteError, send_changes, send_conflicts, send_count, send_rehearsed, send_reply, send_table,
+    WriteError, send_changes, send_conflicts, send_count, send_findings, send_found,
+    send_rehearsed, send_reply, send_saved, send_table,
 };
 use crate::stop::Stop;
 use crate::turns::take_turn;
@@ -109,7 +110,10 @@ fn send_behind<K: Sink>(
         Behind::Table => send_table(alloc, out, ds),
         Behind::Counts => send_count(alloc, out, ds),
         Behind::Conflicts => send_conflicts(alloc, out, ds),
+        Behind::Saved => send_saved(alloc, out, ds),
         Behind::Changes { changes, size } => send_changes(out, changes, *size),
         Behind::Rehearsed(count) => send_rehearsed(alloc, out, *count),
+        Behind::Found(keys) => send_found(alloc, out, ds, keys.as_slice()),
+        Behind::Findings(findings) => send_findings(alloc, out, findings),
     }
 }

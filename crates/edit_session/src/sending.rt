@@ -6,21 +6,26 @@ ghost use Rattle.osm_base.specs.Extends.{Extends};
 ghost use Rattle.osm_base.specs.Meta.{empty_meta};
 ghost use Rattle.chunking.specs.Chunks.{chunks};
 ghost use Rattle.conflict.specs.Shown.{conflicts_text};
+ghost use Rattle.saved_session.specs.Saved.{saved, saved_end, saved_head};
 ghost use Rattle.edit_script.specs.Reply.{reply_line};
 ghost use Rattle.edit_session.specs.Planned.{rehearsed_text};
-ghost use Rattle.edit_session.specs.Printed.{lines_of, table_text};
+ghost use Rattle.edit_session.specs.Printed.{lines_of, saved_rest, table_text};
 ghost use Rattle.edit_session.specs.Stop.{write_error_of};
-ghost use Rattle.edit_session.specs.Counted.{count_text};
+ghost use Rattle.edit_session.specs.Counted.{count_line, count_text};
+ghost use Rattle.edit_session.specs.Searched.{findings_lines, findings_text, found_text};
 ghost use Rattle.edit_session.specs.declared.sending.WriteError.TheVariants.{Fault, Memory};
 
-use crate::counting::{write_count, write_part};
+use crate::counting::{write_count, write_count_line};
 use crate::printing::write_entry;
+use crate::searching::{write_findings, write_key_line};
 use chunking::{ChunkFault, write_chunks};
 use conflict::{conflicts, write_conflict};
 use dataset::DataSet;
 use edit_script::{StepReply, write_reply};
+use map_checks::Findings;
 use osm_base::{Key, Meta};
 use osm_outside::{Failed, Sink, pass_full};
+use saved_session::{write_saved_end, write_saved_entry, write_saved_head};
 use std::alloc::{AllocError, AllocFailed, Global};
 use upload_order::Changes;
 
@@ -129,6 +134,53 @@ pub fn send_conflicts<K: Sink>(alloc: Global, out: &mut K, ds: &DataSet) -> Resu
     send_lines(alloc, out, Lines::Conflict, ds, keys.as_slice())
 }
 
+/// Sends the text of `save`, in pieces of some tens of KiB.
+///
+/// # Errors
+/// The sink failed, or no memory was left. A front of the text may have been written.
+#[tactic(auto, unfolding(saved_session::specs::Saved::saved), using(osm_outside::proofs::Along::front_of_first, osm_outside::proofs::Along::front_of_second))]
+pub fn send_saved<K: Sink>(alloc: Global, out: &mut K, ds: &DataSet) -> Result<(), WriteError>
+    ensures ok { OnOk result (Appends (K.taken out.old) (K.taken out.new) (saved ds.now)) }
+    ensures err { OnErr result (AppendsFront (K.taken out.old) (K.taken out.new) (saved ds.now)) }
+    ensures cause { HasCauseOf Fault (K.faults out.old) (K.faults out.new) result }
+{
+    send_saved_head(alloc, out, ds)?;
+    send_saved_rest(alloc, out, ds)
+}
+
+fn send_saved_head<K: Sink>(alloc: Global, out: &mut K, ds: &DataSet) -> Result<(), WriteError>
+    ensures ok { OnOk result (Appends (K.taken out.old) (K.taken out.new) (saved_head ds.now.next)) }
+    ensures err { OnErr result (AppendsFront (K.taken out.old) (K.taken out.new) (saved_head ds.now.next)) }
+    ensures cause { HasCauseOf Fault (K.faults out.old) (K.faults out.new) result }
+{
+    let mut text = Vec::new(alloc);
+    write_saved_head(ds, &mut text)?;
+    out.put(&text)?;
+    Ok(())
+}
+
+#[tactic(auto, using(osm_outside::proofs::Along::front_of_first, osm_outside::proofs::Along::front_of_second))]
+fn send_saved_rest<K: Sink>(alloc: Global, out: &mut K, ds: &DataSet) -> Result<(), WriteError>
+    ensures ok { OnOk result (Appends (K.taken out.old) (K.taken out.new) (saved_rest ds.now)) }
+    ensures err { OnErr result (AppendsFront (K.taken out.old) (K.taken out.new) (saved_rest ds.now)) }
+    ensures cause { HasCauseOf Fault (K.faults out.old) (K.faults out.new) result }
+{
+    let keys = ds.ordered()?;
+    send_lines(alloc, out, Lines::Saved, ds, keys.as_slice())?;
+    send_saved_end(alloc, out)
+}
+
+fn send_saved_end<K: Sink>(alloc: Global, out: &mut K) -> Result<(), WriteError>
+    ensures ok { OnOk result (Appends (K.taken out.old) (K.taken out.new) saved_end) }
+    ensures err { OnErr result (AppendsFront (K.taken out.old) (K.taken out.new) saved_end) }
+    ensures cause { HasCauseOf Fault (K.faults out.old) (K.faults out.new) result }
+{
+    let mut text = Vec::new(alloc);
+    write_saved_end(&mut text)?;
+    out.put(&text)?;
+    Ok(())
+}
+
 /// What is written of an object.
 #[derive(Clone, Copy, Debug, PartialEq, Eq)]
 enum Lines {
@@ -136,6 +188,10 @@ enum Lines {
     Object,
     /// Its lines where it is in conflict.
     Conflict,
+    /// Its lines in a saved session.
+    Saved,
+    /// Its key alone.
+    Key,
 }
 
 // Appends what is written of the object with that key; `unknown` is the empty metadata.
@@ -153,6 +209,8 @@ fn write_lines(
     match lines {
         Lines::Object => write_entry(ds, key, unknown, piece),
         Lines::Conflict => write_conflict(ds, key, piece),
+        Lines::Saved => write_saved_entry(ds, key, unknown, piece),
+        Lines::Key => write_key_line(key, piece),
     }
 }
 
@@ -201,18 +259,73 @@ pub fn send_rehearsed<K: Sink>(alloc: Global, out: &mut K, count: u64) -> Result
     ensures err { OnErr result (AppendsFront (K.taken out.old) (K.taken out.new) (rehearsed_text count)) }
     ensures cause { HasCauseOf Fault (K.faults out.old) (K.faults out.new) result }
 {
+    send_count_line(alloc, out, b"rehearse accepted ", count)
+}
+
+fn send_count_line<K: Sink>(
+    alloc: Global,
+    out: &mut K,
+    name: &[u8],
+    count: u64,
+) -> Result<(), WriteError>
+    ensures ok { OnOk result (Appends (K.taken out.old) (K.taken out.new) (count_line name.now count)) }
+    ensures err { OnErr result (AppendsFront (K.taken out.old) (K.taken out.new) (count_line name.now count)) }
+    ensures cause { HasCauseOf Fault (K.faults out.old) (K.faults out.new) result }
+{
     let mut text = Vec::new(alloc);
-    write_rehearsed(count, &mut text)?;
+    write_count_line(name, count, &mut text)?;
     out.put(&text)?;
     Ok(())
 }
 
-#[tactic(auto, using(osm_base::proofs::ExtendLaws::extends_steps))]
-fn write_rehearsed(count: u64, out: &mut Vec<u8>) -> Result<(), AllocError>
-    ensures written { OnOk result (out.new.items ≡ out.old.items ++ rehearsed_text count) }
-    ensures kept { OnErr result (Extends out.old.items out.new.items) }
+/// Sends the keys that were found, in pieces of some tens of KiB.
+///
+/// # Errors
+/// The sink failed, or no memory was left. A front of the text may have been written.
+#[tactic(auto, using(osm_outside::proofs::Along::front_of_first, osm_outside::proofs::Along::front_of_second))]
+pub fn send_found<K: Sink>(
+    alloc: Global,
+    out: &mut K,
+    ds: &DataSet,
+    keys: &[Key],
+) -> Result<(), WriteError>
+    ensures ok { OnOk result (Appends (K.taken out.old) (K.taken out.new) (found_text keys.now)) }
+    ensures err { OnErr result (AppendsFront (K.taken out.old) (K.taken out.new) (found_text keys.now)) }
+    ensures cause { HasCauseOf Fault (K.faults out.old) (K.faults out.new) result }
 {
-    write_part(b"rehearse accepted ", count, out)?;
-    out.push(b'\n')?;
+    send_count_line(alloc, out, b"found ", keys.len() as u64)?;
+    send_lines(alloc, out, Lines::Key, ds, keys)
+}
+
+/// Sends what is broken, at once.
+///
+/// # Errors
+/// The sink failed, or no memory was left. A front of the text may have been written.
+#[tactic(auto, using(osm_outside::proofs::Along::front_of_first, osm_outside::proofs::Along::front_of_second))]
+pub fn send_findings<K: Sink>(
+    alloc: Global,
+    out: &mut K,
+    findings: &Findings,
+) -> Result<(), WriteError>
+    ensures ok { OnOk result (Appends (K.taken out.old) (K.taken out.new) (findings_text findings.now)) }
+    ensures err { OnErr result (AppendsFront (K.taken out.old) (K.taken out.new) (findings_text findings.now)) }
+    ensures cause { HasCauseOf Fault (K.faults out.old) (K.faults out.new) result }
+{
+    send_count_line(alloc, out, b"check ", findings.len() as u64)?;
+    send_finding_lines(alloc, out, findings)
+}
+
+fn send_finding_lines<K: Sink>(
+    alloc: Global,
+    out: &mut K,
+    findings: &Findings,
+) -> Result<(), WriteError>
+    ensures ok { OnOk result (Appends (K.taken out.old) (K.taken out.new) (findings_lines findings.now)) }
+    ensures err { OnErr result (AppendsFront (K.taken out.old) (K.taken out.new) (findings_lines findings.now)) }
+    ensures cause { HasCauseOf Fault (K.faults out.old) (K.faults out.new) result }
+{
+    let mut text = Vec::new(alloc);
+    write_findings(findings, &mut text)?;
+    out.put(&text)?;
     Ok(())
 }

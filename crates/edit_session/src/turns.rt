@@ -1,22 +1,20 @@
 //! What a step does to the history, and what it answers.
 ghost use Rattle.std.specs.Prelude.{◌≡◌, ◌≤◌, true, false, IfOk};
-ghost use Rattle.dataset.specs.Patch.{after_of};
-ghost use Rattle.answer_file.specs.Answers.{confirm_text};
 ghost use Rattle.tool_api.specs.declared.verb.Verb.TheVariants.{Merge};
 ghost use Rattle.tool_api.specs.Plain.{IsWellFormed, verb_of};
-ghost use Rattle.edit_history.specs.Machine.{settled};
-ghost use Rattle.edit_history.specs.Moved.{Alone, Fits, MaySettle, Moved};
-ghost use Rattle.edit_session.specs.Asked.{MayTake, MayWork, MayRunFound, IsGivenUp};
+ghost use Rattle.edit_history.specs.Moved.{Alone, Fits, Moved};
+ghost use Rattle.edit_session.specs.Asked.{MayTake, MayWork, MayRunFound, MaySettleBy, IsGivenUp};
 ghost use Rattle.edit_session.specs.Groups.{is_given_up};
 ghost use Rattle.edit_session.specs.Load.{MayFind};
 ghost use Rattle.edit_session.specs.Planned.{IsSized};
-ghost use Rattle.edit_session.specs.Turn.{turn, job_turn, file_turn, city_turn, confirm_turn, done_turn, settled_turn, refused_turn, undo_turn, redo_turn, skipped_turn};
+ghost use Rattle.edit_session.specs.Turn.{turn, job_turn, file_turn, city_turn, confirm_turn, resume_turn, settled_turn, refused_turn, undo_turn, redo_turn, skipped_turn};
 
 use crate::limits::Limits;
 use crate::loading::Found;
 use crate::response::{Behind, Response};
-use crate::uploading::{answer_rehearsal, answer_upload, answers_refused};
-use answer_file::confirm_file;
+use crate::searching::{answer_check, answer_find};
+use crate::settling::{confirmed, resumed};
+use crate::uploading::{answer_rehearsal, answer_upload};
 use dataset::Patch;
 use edit_history::{Group, History};
 use edit_script::{Act, StepRefusal, StepReply};
@@ -74,6 +72,10 @@ pub fn take_turn(
         Act::Rehearse => answer_rehearsal(history.ds()),
         Act::Upload { size } => answer_upload(history.ds(), *size),
         Act::Confirm { .. } => confirm(alloc, history, found),
+        Act::Save => Ok(Response::look(alloc, Behind::Saved)),
+        Act::Resume { .. } => resume(alloc, history, found, limits.objects),
+        Act::Find(query) => answer_find(history.ds(), query),
+        Act::Check => answer_check(history.ds()),
     }
 }
 
@@ -100,6 +102,10 @@ fn skip(history: &mut History, act: &Act) -> Result<Response, AllocError>
         Act::Generate { .. } => Ok(Response::alone(StepReply::Skipped)),
         Act::ImportFile { .. } => Ok(Response::alone(StepReply::Skipped)),
         Act::Confirm { .. } => Ok(Response::alone(StepReply::Skipped)),
+        Act::Save => Ok(Response::alone(StepReply::Skipped)),
+        Act::Resume { .. } => Ok(Response::alone(StepReply::Skipped)),
+        Act::Find(_) => Ok(Response::alone(StepReply::Skipped)),
+        Act::Check => Ok(Response::alone(StepReply::Skipped)),
     }
 }
 
@@ -123,7 +129,7 @@ fn take_in(history: &mut History, found: &Found, limit: u64) -> Result<Response,
         Found::Job(job) => run_job(history, job, limit),
         Found::Bad(fault) => refuse(history, StepRefusal::BadFile(*fault)),
         Found::Nothing => refuse(history, StepRefusal::NoFile),
-        Found::Answers(_) => refuse(history, StepRefusal::NoFile),
+        Found::Bytes(_) => refuse(history, StepRefusal::NoFile),
     }
 }
 
@@ -148,33 +154,53 @@ fn confirm(alloc: Global, history: &mut History, found: &Found) -> Result<Respon
     ensures { Moved (λ b. done (b.vtable, b.value)) (λ b. undone (b.vtable, b.value)) (λ b. kind (b.vtable, b.value)) history.old history.new result (confirm_turn found.now) }
 {
     match found {
-        Found::Answers(bytes) => settle(alloc, history, bytes.as_slice()),
+        Found::Bytes(bytes) => {
+            let answer = confirmed(history.ds(), bytes.as_slice())?;
+            settle(alloc, history, answer)
+        }
         Found::Bad(fault) => refuse(history, StepRefusal::BadFile(*fault)),
         Found::Nothing => refuse(history, StepRefusal::NoFile),
         Found::Job(_) => refuse(history, StepRefusal::NoFile),
     }
 }
 
-// Makes the table that the answers confirm the table now, for good.
-fn settle(alloc: Global, history: &mut History, bytes: &[u8]) -> Result<Response, AllocError>
+// Takes up the session that a file holds.
+fn resume(
+    alloc: Global,
+    history: &mut History,
+    found: &Found,
+    limit: u64,
+) -> Result<Response, AllocError>
     requires { Fits (λ b. done (b.vtable, b.value)) (λ b. undone (b.vtable, b.value)) (λ b. kind (b.vtable, b.value)) history.old Alone }
-    ensures { Moved (λ b. done (b.vtable, b.value)) (λ b. undone (b.vtable, b.value)) (λ b. kind (b.vtable, b.value)) history.old history.new result (λ s. settled_turn (confirm_text s.now bytes.now) s) }
+    ensures { Moved (λ b. done (b.vtable, b.value)) (λ b. undone (b.vtable, b.value)) (λ b. kind (b.vtable, b.value)) history.old history.new result (resume_turn limit found.now) }
 {
-    match confirm_file(history.ds(), bytes) {
-        Ok(patch) => settle_by(alloc, history, &patch),
-        Err(fault) => {
-            let why = answers_refused(fault)?;
-            Ok(Response::alone(StepReply::Refused(why)))
+    match found {
+        Found::Bytes(bytes) => {
+            let answer = resumed(history.ds(), bytes.as_slice(), limit)?;
+            settle(alloc, history, answer)
         }
+        Found::Bad(fault) => refuse(history, StepRefusal::BadFile(*fault)),
+        Found::Nothing => refuse(history, StepRefusal::NoFile),
+        Found::Job(_) => refuse(history, StepRefusal::NoFile),
     }
 }
 
-fn settle_by(alloc: Global, history: &mut History, patch: &Patch) -> Result<Response, AllocError>
-    requires { Fits (λ b. done (b.vtable, b.value)) (λ b. undone (b.vtable, b.value)) (λ b. kind (b.vtable, b.value)) history.old (MaySettle patch.now) }
-    ensures { Moved (λ b. done (b.vtable, b.value)) (λ b. undone (b.vtable, b.value)) (λ b. kind (b.vtable, b.value)) history.old history.new result (λ s. done_turn (settled (after_of patch.now s.now) s)) }
+// Makes the table to which a difference leads the table now, for good.
+fn settle(
+    alloc: Global,
+    history: &mut History,
+    answer: Result<Patch, StepRefusal>,
+) -> Result<Response, AllocError>
+    requires { Fits (λ b. done (b.vtable, b.value)) (λ b. undone (b.vtable, b.value)) (λ b. kind (b.vtable, b.value)) history.old (MaySettleBy answer) }
+    ensures { Moved (λ b. done (b.vtable, b.value)) (λ b. undone (b.vtable, b.value)) (λ b. kind (b.vtable, b.value)) history.old history.new result (settled_turn answer) }
 {
-    history.settle(patch)?;
-    Ok(Response::done(alloc))
+    match answer {
+        Ok(patch) => {
+            history.settle(&patch)?;
+            Ok(Response::done(alloc))
+        }
+        Err(why) => Ok(Response::alone(StepReply::Refused(why))),
+    }
 }
 
 // Refuses a step that has no job; a running group is given up all the same.
