@@ -1,7 +1,9 @@
 pub mod Blanks
+pub mod Complete
 mod Examples
 pub mod Found
 pub mod Levels
 pub mod Meeting
+pub mod Sound
 pub mod Steps
 pub mod Waiting

@@ -1,4 +1,5 @@
 pub mod Answers
+pub mod Grammar
 pub mod Innermost
 pub mod Meets
 pub mod Query

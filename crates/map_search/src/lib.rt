@@ -2,7 +2,8 @@
 //!
 //! A query asks for kinds, tags and states of objects, for what found objects refer to (`child`) and for what refers to
 //! them (`parent`), joined by `not`, `and` and `or`. `read_query` reads one from words, exactly as `specs/Reading` says, and
-//! `find` lists the keys of a data set that meet one, exactly as `specs/Meets` says.
+//! `read_as_spelled` is the law that this reads the grammar of `specs/Grammar`. `find` lists the keys of a data set that meet
+//! one, exactly as `specs/Meets` says.
 //!
 //! The reader goes through the words once with a stack of what waits for a part of the query: words that open a factor
 //! (`not`, `child`, `parent`, a bracket) wait for that factor, and the left sides of `and` and `or` for the right ones.
@@ -13,6 +14,7 @@
 
 mod fault;
 mod finding;
+mod law;
 mod pending;
 mod query;
 mod reading;
@@ -23,5 +25,6 @@ mod words;
 
 pub use fault::QueryFault;
 pub use finding::find;
+pub use law::read_as_spelled;
 pub use query::{Form, Query};
 pub use reading::read_query;
