@@ -1,5 +1,5 @@
 //! The change that fuses nodes, as a draft.
-ghost use Rattle.std.specs.Prelude.{◌≡◌, ◌<◌, ◌&&◌, not, length, None, Some, IfOk};
+ghost use Rattle.std.specs.Prelude.{◌≡◌, ◌<◌, ◌&&◌, not, length, Some, IfOk};
 ghost use Rattle.std.specs.List.{filter, find};
 ghost use Rattle.std.specs.Ordering.{int_eq};
 ghost use Rattle.osm_base.specs.Rank.{is_key};

@@ -1,6 +1,6 @@
 //! All tags of nodes.
 ghost use Rattle.std.specs.Prelude.{◌≡◌, ◌&&◌, ◌++◌, not, T, nat_lt, length, IfOk, OnOk};
-ghost use Rattle.std.specs.List.{list_all, list_any, find};
+ghost use Rattle.std.specs.List.{list_all, list_any};
 ghost use Rattle.osm_base.specs.Same.{same_text};
 ghost use Rattle.tool_api.specs.Combine.{all_tags, clash_test, united};
 ghost use Rattle.tool_api.specs.Split.{tags_at};
