@@ -170,7 +170,7 @@ each_at t (k ∷ ks) q =
     ∙ ap (λ (g : Option WorldEntry). cond (is_key q k) (option_or (standing t k) g) g) (each_at t ks q)
     ∙ told_case (is_key q k) (is_in q ks) (standing t q) (standing t k) (λ e. ap (standing t) (sym (one_key q k e)))
 
-neither : (a b : Bool) → (a || b) ≡ false → (a ≡ false) × (b ≡ false)
+pub neither : (a b : Bool) → (a || b) ≡ false → (a ≡ false) × (b ≡ false)
 neither true b e = cc
 neither false b e = (refl, e)
 

@@ -2,12 +2,10 @@
 use Rattle.std.proofs.Common.{◌≡◌, ◌<◌, ◌≤◌, ℕ, zero, suc, ◌+◌, ◌-◌, pos, Bool, true, false, cond, ◌||◌, Option, Some, None, is_some, refl, sym, ◌∙◌, ap, arith, inl, inr}
 use Rattle.std.specs.Prelude.{◌⊎◌}
 use Rattle.std.proofs.Math.Nat.{eq-or-lt_of_le}
-use Rattle.std.proofs.lemmas.Bool.{lt-ltb}
 use Rattle.osm_base.specs.declared.key.Kind.{Kind}
-use Rattle.osm_base.specs.declared.key.Key.{Key}
-use Rattle.osm_table.specs.Table.{TableValue, entry_of}
-use Rattle.upload_order.specs.World.{World, stands}
-use Rattle.server_world.specs.Free.{is_taken, first_free, last_id, free_id, IsStart, IsFreeId}
+use Rattle.osm_table.specs.Table.{TableValue}
+use Rattle.upload_order.specs.World.{World}
+use Rattle.server_world.specs.Free.{is_taken, first_free, last_id, free_id, IsStart}
 
 -- it ends at a number that isn't taken, or behind the last, where all before it are taken
 found : (taken : ℕ → Bool) (more n id : ℕ) → ((m : ℕ) → n ≤ m → m < id → taken m ≡ true) → n ≤ id → id ≤ n + more → (id ≡ n + more) ⊎ (taken id ≡ false) → first_free taken more n ≡ id

@@ -1,7 +1,5 @@
--- Rehearsals: starts of the search for free ids stay starts, the world of the bases serves the plan, and what is accepted
--- whatever is picked is never refused.
-use Rattle.std.proofs.Common.{◌≡◌, ℕ, ◌+◌, ℤ, pos, negsuc, Bool, true, false, cond, ◌||◌, ◌&&◌, List, [], ◌∷◌, Option, Some, None, is_some, Result, Ok, Err, refl, sym, ◌∙◌, ap, subst, arith, inl, inr, ◌<◌, suc, get_or, drop, drop-cons, add-one, length}
-use Rattle.std.specs.Prelude.{IfNone}
+-- Rehearsals: the world of the bases serves the plan, and what is accepted whatever is picked is never refused.
+use Rattle.std.proofs.Common.{◌≡◌, ℕ, ◌+◌, ℤ, pos, negsuc, Bool, true, false, cond, ◌&&◌, List, [], ◌∷◌, Option, Some, None, is_some, Result, Ok, Err, refl, sym, ◌∙◌, ap, subst, arith, inl, inr, ◌<◌, suc, get_or, drop, drop-cons, add-one, length}
 use Rattle.std.specs.List.{list_any}
 use Rattle.std.specs.Option.{option_map, option_map_or}
 use Rattle.std.specs.FinMap as fin
@@ -18,72 +16,28 @@ use Rattle.osm_table.specs.declared.entry.Entry.TheVariants.{Incomplete, Known}
 use Rattle.osm_table.specs.Table.{TableValue, entry_of, version_of, is_incomplete, keys_by_rank, IsPositive}
 use Rattle.dataset.specs.Sound.{IsSound}
 use Rattle.upload_order.specs.declared.change.Change.{Change}
-use Rattle.upload_order.specs.declared.change.Change.TheVariants.{Create, Modify, Delete}
 use Rattle.upload_order.specs.declared.refusal.PlanRefusal.{PlanRefusal}
 use Rattle.upload_order.specs.Bases.{base_in, is_based}
 use Rattle.upload_order.specs.Kinds.{held_of, held_at, held_refers, content_refers}
 use Rattle.upload_order.specs.Plan.{plan}
 use Rattle.upload_order.specs.Refused.{upload_refusal, unless, upload}
-use Rattle.upload_order.specs.Rename.{is_positive, with_id, called}
-use Rattle.upload_order.specs.World.{World, WorldEntry, stands, content_in, Refusal, refusal, after, IsFresh, Holds, Alone, Accepts, Backs, IsEdited}
-use Rattle.upload_order.proofs.Basics.{decide, both, or_cases, or_left, or_right, at_key_put, at_other}
+use Rattle.upload_order.specs.Rename.{is_positive}
+use Rattle.upload_order.specs.World.{World, WorldEntry, content_in, Refusal, refusal, after, IsFresh, Holds, Alone, Accepts, Backs, IsEdited}
+use Rattle.upload_order.proofs.Basics.{both, or_cases, or_left, or_right}
 use Rattle.osm_base.proofs.RisingKeys.{one_key}
 use Rattle.std.proofs.lemmas.Bool.{lt-ltb}
 use Rattle.server_world.specs.declared.refusal.WorldRefusal.{WorldRefusal}
 use Rattle.server_world.specs.declared.rehearsal.Rehearsal.{Rehearsal}
 use Rattle.server_world.specs.declared.rehearsal.Rehearsal.TheVariants.{Accepted, Refused}
 use Rattle.upload_order.proofs.Accepted.{plan_accepted}
-use Rattle.server_world.specs.declared.rehearsal.Starts.{Starts}
-use Rattle.server_world.specs.Codes.{Objects}
+use Rattle.server_world.specs.declared.starts.Starts.{Starts}
 use Rattle.server_world.specs.Answer.{answer_of}
 use Rattle.server_world.specs.Bases.{of_entry, of_mention, is_mentioned, empty_content, of_bases}
-use Rattle.server_world.specs.Free.{IsStart}
-use Rattle.server_world.specs.Starts.{start_at, with_start, AreStarts}
-use Rattle.server_world.specs.Rehearsed.{pick_for, unless_refused, rehearsed}
+use Rattle.server_world.specs.Sent.{pick_for, after_sent}
+use Rattle.server_world.specs.Starts.{AreStarts}
+use Rattle.server_world.specs.Rehearsed.{unless_refused, rehearsed}
 use Rattle.server_world.proofs.Based.{bases_stand}
-use Rattle.server_world.proofs.Freeness.{first_start}
-
--- what stands in a map stands after one more was put
-still_some : (m : Objects) (k q : Key) (e : WorldEntry) → is_some (fin.get m q) ≡ true → is_some (fin.get (fin.insert m k e) q) ≡ true
-still_some m k q e h = elim (decide (is_key q k)) [ inl i ↦ ap is_some (at_key_put m k q e i) | inr o ↦ ap is_some (at_other m k q e o) ∙ h ]
-
--- what stands in a world stands after a change
-still_stands : (w : World) (c : Change) (p : ℤ) (q : Key) → is_some (stands w q) ≡ true → is_some (stands (after w c p) q) ≡ true
-still_stands w (Create k c) p q h = still_some w.entries (with_id k p) q _ h
-still_stands w (Modify k v c) p q h = still_some w.entries (called w.names k) q _ h
-still_stands w (Delete k v) p q h = still_some w.entries (called w.names k) q _ h
-
-or_kept : (a b c : Bool) → (a ≡ true → c ≡ true) → (a || b) ≡ true → (c || b) ≡ true
-or_kept true b c h e = ap (λ x. x || b) (h refl)
-or_kept false b true h e = refl
-or_kept false b false h e = e
-
--- so what is taken stays taken, and a start stays a start
-still_start : (w : World) (t : TableValue) (c : Change) (p : ℤ) (kind : Kind) (from : ℕ) → IsStart w t kind from → IsStart (after w c p) t kind from
-still_start w t c p kind from s = record {
-  least = s.least;
-  most = s.most;
-  below = λ n l g. let k : Key = record { kind = kind; id = pos n } in or_kept (is_some (stands w k)) (is_some (entry_of t k)) (is_some (stands (after w c p) k)) (still_stands w c p k) (s.below n l g);
-}
-
-pub still_starts : (w : World) (t : TableValue) (c : Change) (p : ℤ) (s : Starts) → AreStarts w t s → AreStarts (after w c p) t s
-still_starts w t c p s h kind = still_start w t c p kind (start_at s kind) (h kind)
-
-pub set_start : (w : World) (t : TableValue) (s : Starts) (kind : Kind) (id : ℕ) → AreStarts w t s → IsStart w t kind id → AreStarts w t (with_start s kind id)
-set_start w t s kind.Node id h i kind.Node = i
-set_start w t s kind.Node id h i kind.Way = h kind.Way
-set_start w t s kind.Node id h i kind.Relation = h kind.Relation
-set_start w t s kind.Way id h i kind.Node = h kind.Node
-set_start w t s kind.Way id h i kind.Way = i
-set_start w t s kind.Way id h i kind.Relation = h kind.Relation
-set_start w t s kind.Relation id h i kind.Node = h kind.Node
-set_start w t s kind.Relation id h i kind.Way = h kind.Way
-set_start w t s kind.Relation id h i kind.Relation = i
-
-pub first_starts : (w : World) (t : TableValue) → AreStarts w t (record { node = 1; way = 1; relation = 1 })
-first_starts w t kind.Node = first_start w t kind.Node
-first_starts w t kind.Way = first_start w t kind.Way
-first_starts w t kind.Relation = first_start w t kind.Relation
+use Rattle.server_world.proofs.Starting.{first_starts}
 
 -- the world of the bases has the bases
 based_stands : (e : Entry) (m : Option WorldEntry) → is_based e ≡ true → of_entry m (Some e) ≡ Some (record { version = version_of (base_in e); content = held_of e })
@@ -163,14 +117,6 @@ refused_is : (o : Option Refusal) (why : WorldRefusal) (n : ℕ) (rest : Rehears
 refused_is None why n rest e = cc
 refused_is (Some r) why n rest e = ap (Refused n) (sym (both why (answer_of r) (Some why) refl e))
 
-not_refused : (o : Option Refusal) (n : ℕ) (rest : Rehearsal) → None ≡ option_map answer_of o → unless_refused o n rest ≡ rest
-not_refused None n rest e = refl
-not_refused (Some r) n rest e = cc
-
-pub where_none : (o : Option WorldRefusal) (P : Type 0) → IfNone o P → o ≡ None → P
-where_none None P h e = h
-where_none (Some why) P h e = cc
-
 -- where a rehearsal stands, with n changes accepted of those that it walks over
 pub record Rehearses (t : TableValue) (cs items : List Change) (i n : ℕ) (w : World) (s : Starts) : Type 0 where
   pub walked : items ≡ cs
@@ -182,11 +128,11 @@ pub record Rehearses (t : TableValue) (cs items : List Change) (i n : ℕ) (w : 
 next_of : (items : List Change) (i : ℕ) (c : Change) → i < length items → c ≡ get_or items i c → drop i items ≡ c ∷ drop (i + 1) items
 next_of items i c less is = rw add-one (drop-cons items i c less ∙ ap (λ (y : Change). y ∷ drop (suc i) items) (sym is))
 
-pub begins : (t : TableValue) (cs items : List Change) (w : World) → IsSound t → items ≡ cs → w ≡ of_bases t → Rehearses t cs items 0 0 w (record { node = 1; way = 1; relation = 1 })
-begins t cs items w sound walked is = record {
+pub begins : (t : TableValue) (cs items : List Change) (w : World) (s : Starts) → IsSound t → items ≡ cs → w ≡ of_bases t → s ≡ record { node = 1; way = 1; relation = 1 } → Rehearses t cs items 0 0 w s
+begins t cs items w s sound walked is first = record {
   walked = walked;
   count = refl;
-  starts = first_starts w t;
+  starts = subst (AreStarts w t) (sym first) (first_starts w t);
   value = λ i. rehearsed t 0 (is i) (walked i);
   plan = λ ok. subst (λ (v : World). Accepts t v items (IsEdited t (of_bases t))) (sym is) (subst (λ (xs : List Change). Accepts t (of_bases t) xs (IsEdited t (of_bases t))) (sym walked) (bases_accept t cs sound ok));
 }
@@ -196,17 +142,19 @@ module _ (t : TableValue) (cs items : List Change) (i n : ℕ) (w : World) (s : 
   accepted_here fresh ok = subst (λ (xs : List Change). Accepts t w xs (IsEdited t (of_bases t))) (next_of items i c less is) (before.plan ok) (pick_for w t c) fresh
 
   -- a change is accepted, and the rehearsal goes on
-  pub goes_on : (v : World) (u : Starts) → None ≡ option_map answer_of (refusal w c (pick_for w t c)) → IsFresh w t c (pick_for w t c) → v ≡ after w c (pick_for w t c) → AreStarts v t u → Rehearses t cs items (i + 1) (n + 1) v u
-  goes_on v u none fresh to starts = record {
+  pub goes_on : (v : World) (u : Starts) → refusal w c (pick_for w t c) ≡ None → IsFresh w t c (pick_for w t c) → v ≡ after_sent w t c → AreStarts v t u → Rehearses t cs items (i + 1) (n + 1) v u
+  goes_on v u none fresh sent starts = record {
     walked = before.walked;
     count = ap (λ k. k + 1) before.count;
     starts = starts;
     value =
         ap (λ (x : World). rehearsed t (n + 1) x (drop (i + 1) items)) to
-        ∙ sym (not_refused (refusal w c (pick_for w t c)) (n + 1) (rehearsed t (n + 1) (after w c (pick_for w t c)) (drop (i + 1) items)) none)
+        ∙ sym (ap (λ (o : Option Refusal). unless_refused o (n + 1) (rehearsed t (n + 1) (after w c (pick_for w t c)) (drop (i + 1) items))) none)
         ∙ ap (rehearsed t n w) (sym (next_of items i c less is)) ∙ before.value;
     plan = λ ok. subst (λ (x : World). Accepts t x (drop (i + 1) items) (IsEdited t (of_bases t))) (sym to) (accepted_here fresh ok).1;
-  }
+  } where
+    to : v ≡ after w c (pick_for w t c)
+    to = sent ∙ ap (λ (o : Option Refusal). option_map_or (λ why. w) o (after w c (pick_for w t c))) none
 
   -- a change is refused, and the rehearsal ends
   pub stops : (why : WorldRefusal) → Some why ≡ option_map answer_of (refusal w c (pick_for w t c)) → Refused (n + 1) why ≡ rehearsed t 0 (of_bases t) cs

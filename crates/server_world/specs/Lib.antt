@@ -5,5 +5,8 @@ pub mod Named
 pub mod Bases
 pub mod Putting
 pub mod Free
-pub mod Rehearsed
 pub mod Starts
+pub mod Kept
+pub mod Sent
+pub mod Rehearsed
+pub mod Unsound

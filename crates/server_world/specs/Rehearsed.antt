@@ -1,19 +1,12 @@
 -- What becomes of changes in the world of a table's bases.
-use Rattle.std.specs.Prelude.{ℕ, ◌+◌, ℤ, pos, Option, Some, None, List, [], ◌∷◌}
+use Rattle.std.specs.Prelude.{ℕ, ◌+◌, Option, Some, None, List, [], ◌∷◌}
 use Rattle.osm_table.specs.Table.{TableValue}
 use Rattle.upload_order.specs.declared.change.Change.{Change}
-use Rattle.upload_order.specs.declared.change.Change.TheVariants.{Create, Modify, Delete}
 use Rattle.upload_order.specs.World.{World, Refusal, refusal, after}
 use Rattle.server_world.specs.declared.rehearsal.Rehearsal.{Rehearsal}
 use Rattle.server_world.specs.declared.rehearsal.Rehearsal.TheVariants.{Accepted, Refused}
 use Rattle.server_world.specs.Answer.{answer_of}
-use Rattle.server_world.specs.Free.{free_id}
-
--- the least free id for a Create; no other change has one
-abbrev pub pick_for : World → TableValue → Change → ℤ
-pick_for w t (Create k c) = free_id w t k.kind
-pick_for w t (Modify k v c) = pos 0
-pick_for w t (Delete k v) = pos 0
+use Rattle.server_world.specs.Sent.{pick_for}
 
 abbrev pub unless_refused : Option Refusal → ℕ → Rehearsal → Rehearsal
 unless_refused None n rest = rest

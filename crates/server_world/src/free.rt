@@ -2,12 +2,10 @@
 ghost use Rattle.std.specs.Prelude.{◌≡◌, ◌≤◌, pos};
 ghost use Rattle.server_world.specs.Free.{is_taken, free_id, last_id, IsStart};
 
+use crate::starts::LAST_ID;
 use crate::world::World;
 use dataset::DataSet;
 use osm_base::{Key, Kind};
-
-/// The greatest id.
-const LAST_ID: u64 = 9_223_372_036_854_775_807;
 
 impl World {
     /// The least positive id of the kind that stands neither in the world nor in the table; the greatest id, where all

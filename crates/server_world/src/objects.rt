@@ -1,32 +1,39 @@
 //! The objects of a world.
-ghost use Rattle.std.specs.Prelude.{◌≡◌, ◌<◌, Some, OnOk, OnErr};
+ghost use Rattle.std.specs.Prelude.{◌≡◌, ◌<◌, ◌≤◌, Some, is_some, IfOk, OnOk, OnErr};
+ghost use Rattle.std.specs.List.{IsDistinct};
+ghost use Rattle.std.specs.Map.{keys_of};
 ghost use Rattle.std.specs.Option.{option_copied};
 ghost use Rattle.std.specs.FinMap as fin;
 ghost use Rattle.indexmap.specs.IndexMap.{spare, Updates};
 ghost use Rattle.osm_base.specs.KeyEq.{eq};
 ghost use Rattle.upload_order.specs.World.{user_among};
+ghost use Rattle.server_world.specs.Free.{last_id};
+ghost use Rattle.server_world.specs.Starts.{key_at, IsStartOf, AreStartsOf};
 
 use crate::entry::WorldEntry;
 use crate::pairs::pairs_of;
+use crate::starts::{LAST_ID, Starts};
 use indexmap::IndexMap;
-use osm_base::Key;
+use osm_base::{Key, Keys, Kind};
 use ref_index::RefIndex;
 use std::alloc::{AllocError, Global};
 use std::marker::Model;
 
-/// Objects by key, and who refers to what.
+/// Objects by key, who refers to what, and where free ids are sought.
 ///
-/// Clauses see the map by rank. The index holds the references of each object.
+/// Clauses see the map by rank. The index holds the references of each object. Something stands under each id below the
+/// starts.
 #[derive(Drop)]
 pub struct Objects {
     entries: IndexMap<Key, WorldEntry>,
     index: RefIndex,
+    starts: Starts,
 }
 
 impl Model for Objects {
     ghost use Rattle.std.specs.FinMap as fin;
     ghost use Rattle.server_world.specs.Codes.{Objects, objects_code};
-    ghost use Rattle.server_world.specs.Indexed.{IsIndexed};
+    ghost use Rattle.server_world.specs.Kept.{IsKept};
 
     ghost Value = { Objects };
 
@@ -34,7 +41,7 @@ impl Model for Objects {
 
     ghost view = { λ o. fin.from_entries o.entries.entries };
 
-    ghost invariant = { λ o. IsIndexed (fin.from_entries o.entries.entries) o.index };
+    ghost invariant = { λ o. IsKept (fin.from_entries o.entries.entries) o.index o.starts };
 }
 
 impl Objects {
@@ -45,6 +52,7 @@ impl Objects {
         Objects {
             entries: IndexMap::new(alloc),
             index: RefIndex::new(alloc),
+            starts: Starts::new(),
         }
     }
 
@@ -60,6 +68,53 @@ impl Objects {
         ensures { result ≡ user_among (fin.entries self.now) key }
     {
         self.index.users(key).first().copied()
+    }
+
+    /// Their keys by rank. It sorts them once, so n keys cost n log n steps.
+    ///
+    /// # Errors
+    /// No memory was left.
+    pub fn keys(&self) -> Result<Keys, AllocError>
+        ensures { IfOk result (λ keys. keys ≡ fin.keys self.now) }
+    {
+        let mut keys = keys(&self.entries)?;
+        keys.sort()?;
+        Ok(Keys::from_vec(keys))
+    }
+
+    /// For each kind the least id under which nothing stands, from where an id that is free in a table too can be
+    /// sought. The search goes on where it ended at the last call: objects stay.
+    pub fn starts(&mut self) -> Starts
+        ensures starts { AreStartsOf self.old result }
+        ensures unchanged { self.new ≡ self.old }
+    {
+        self.starts = Starts {
+            node: self.start(Kind::Node),
+            way: self.start(Kind::Way),
+            relation: self.start(Kind::Relation),
+        };
+        self.starts
+    }
+
+    fn start(&self, kind: Kind) -> u64
+        ensures { IsStartOf self.now kind result }
+    {
+        let mut id = self.starts.at(kind);
+        while id < LAST_ID && self.has(kind, id) {
+            id += 1;
+        }
+        id
+    }
+
+    fn has(&self, kind: Kind, id: u64) -> bool
+        requires { id ≤ last_id }
+        ensures { result ≡ is_some (fin.get self.now (key_at kind id)) }
+    {
+        let key = Key {
+            kind,
+            id: id as i64,
+        };
+        self.get(key).is_some()
     }
 
     /// Sets what stands of a key. Costs the references of what stood and of what comes.
@@ -89,4 +144,11 @@ fn set(entries: &mut IndexMap<Key, WorldEntry>, key: Key, entry: WorldEntry)
         Ok(_) => {}
         Err(_) => unreachable!(),
     }
+}
+
+fn keys(entries: &IndexMap<Key, WorldEntry>) -> Result<Vec<Key>, AllocError>
+    ensures listed { IfOk result (λ keys. keys.items ≡ keys_of entries.now.entries) }
+    ensures unique { IfOk result (λ _. IsDistinct eq (keys_of entries.now.entries)) }
+{
+    entries.keys().copied().collect(*entries.allocator())
 }

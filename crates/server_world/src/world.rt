@@ -1,17 +1,21 @@
 //! A server that takes changes one at a time.
-ghost use Rattle.std.specs.Prelude.{◌≡◌, ◌+◌, pos, [], map, not, is_some, IfOk, OnOk, OnErr};
+ghost use Rattle.std.specs.Prelude.{◌≡◌, ◌+◌, pos, true, [], map, not, is_some, IfOk, OnOk, OnErr};
+ghost use Rattle.std.specs.FinMap as fin;
 ghost use Rattle.std.specs.List.{find};
 ghost use Rattle.std.specs.Option.{option_copied, option_map};
 ghost use Rattle.osm_base.specs.Content.{node};
 ghost use Rattle.upload_order.specs.declared.change.Change.TheVariants.{Create, Modify, Delete};
+ghost use Rattle.upload_order.specs.Rename.{called, is_positive};
 ghost use Rattle.upload_order.specs.World.{stands, content_at, reaches, bad_ref, on_content, refusal, after};
 ghost use Rattle.server_world.specs.Answer.{Answers, answer_of};
+ghost use Rattle.server_world.specs.Starts.{AreStartsOf};
 
 use crate::entry::WorldEntry;
 use crate::names::{Names, put_named, with_id};
 use crate::objects::Objects;
 use crate::refusal::{WorldFault, WorldRefusal};
-use osm_base::{Content, Key, Member, fits, node_key};
+use crate::starts::Starts;
+use osm_base::{Content, Key, Keys, Member, fits, node_key};
 use renamed_content::{Renaming, renamed};
 use std::alloc::{AllocError, Global};
 use std::marker::Model;
@@ -37,6 +41,13 @@ impl Model for World {
 }
 
 impl World {
+    /// A world without objects and names. It takes no memory.
+    pub fn new(alloc: Global) -> World
+        ensures { result ≡ record { entries = fin.empty; names = [] } }
+    {
+        World::of_objects(alloc, Objects::new(alloc))
+    }
+
     /// A world of these objects, without names.
     pub(crate) fn of_objects(alloc: Global, objects: Objects) -> World
         ensures { result ≡ record { entries = objects; names = [] } }
@@ -53,6 +64,45 @@ impl World {
         ensures { option_copied result ≡ stands self.now key }
     {
         self.objects.get(key)
+    }
+
+    /// The key that a key of a change means: the name of a placeholder, if it has one, and else itself. One look-up.
+    pub fn called(&self, key: Key) -> Key
+        ensures { result ≡ called self.now.names key }
+    {
+        self.names.key(key)
+    }
+
+    /// The keys of all objects by rank, the deleted ones too: those of the entries, in their order. What stands of each
+    /// is lent by `get`. It sorts the keys once, so n objects cost n log n steps.
+    ///
+    /// # Errors
+    /// No memory was left.
+    pub fn keys(&self) -> Result<Keys, AllocError>
+        ensures { IfOk result (λ keys. keys ≡ fin.keys self.now.entries) }
+    {
+        self.objects.keys()
+    }
+
+    /// Starts of the search for free ids, whatever the table is. Costs three look-ups, and one for each id that stands in
+    /// the world, once for all calls.
+    pub(crate) fn starts(&mut self) -> Starts
+        ensures starts { AreStartsOf self.old.entries result }
+        ensures unchanged { self.new ≡ self.old }
+    {
+        self.objects.starts()
+    }
+
+    /// Sets what stands of a key, as if it had always been there. Costs the references of what stood and of what comes.
+    ///
+    /// # Errors
+    /// No memory was left, and nothing has changed.
+    pub fn put(&mut self, key: Key, entry: WorldEntry) -> Result<(), AllocError>
+        requires { is_positive key.id ≡ true }
+        ensures ok { OnOk result (self.new ≡ record { entries = fin.insert self.old.entries key entry; names = self.old.names }) }
+        ensures err { OnErr result (self.new ≡ self.old) }
+    {
+        self.objects.put(key, entry)
     }
 
     /// Takes a change, or refuses it. `picked` is the id of a created object, and is read at no other change.
@@ -182,7 +232,8 @@ impl World {
         }
     }
 
-    fn has_content(&self, key: Key) -> bool
+    /// Whether an object stands under the key, and isn't deleted. One look-up.
+    pub(crate) fn has_content(&self, key: Key) -> bool
         ensures { result ≡ is_some (content_at self.now key) }
     {
         match self.get(key) {

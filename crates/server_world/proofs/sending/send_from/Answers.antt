@@ -1,8 +1,8 @@
 use Rattle.std.proofs.Common.{sym, subst}
 use Rattle.upload_order.specs.World.{World}
 use Rattle.server_world.specs.Starts.{AreStarts}
-use Rattle.server_world.proofs.Rehearsals.{still_starts}
-use Rattle.server_world.proofs.rehearsal.step.Goals as goal
+use Rattle.server_world.proofs.Starting.{still_starts}
+use Rattle.server_world.proofs.sending.send_from.Goals as goal
 
 pub returns-in-Ok-clause-starts : goal.returns-in-Ok-clause-starts
 returns-in-Ok-clause-starts c =

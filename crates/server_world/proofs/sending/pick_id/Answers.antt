@@ -1,8 +1,8 @@
 use Rattle.std.proofs.Common.{sym, subst}
-use Rattle.server_world.specs.declared.rehearsal.Starts.{Starts}
+use Rattle.server_world.specs.declared.starts.Starts.{Starts}
 use Rattle.server_world.specs.Starts.{AreStarts}
-use Rattle.server_world.proofs.Rehearsals.{set_start}
-use Rattle.server_world.proofs.rehearsal.pick_id.Goals as goal
+use Rattle.server_world.proofs.Starting.{set_start}
+use Rattle.server_world.proofs.sending.pick_id.Goals as goal
 
 pub returns-clause-starts : goal.returns-clause-starts
 returns-clause-starts c =

@@ -1,0 +1,16 @@
+use Rattle.std.proofs.Common.{ap, ◌∙◌, subst, List}
+use Rattle.std.specs.FinMap as fin
+use Rattle.std.specs.List.Sorted.{IsPermutation}
+use Rattle.osm_base.specs.declared.key.Key.{Key}
+use Rattle.osm_base.proofs.ByRank.{by_rank}
+use Rattle.server_world.specs.Codes.{Objects}
+use Rattle.server_world.proofs.objects.Objects.keys.Goals as goal
+
+pub returns : goal.returns
+returns c =
+    let listed = c.in_ok-keys.ensures.listed in
+    c.from_vec.ensures
+    ∙ by_rank c.self.inside.entries.entries c.sort.new.self.items c.in_ok-sort.ensures.sorted
+    (subst (λ (ks : List Key). IsPermutation ks c.sort.new.self.items) listed c.in_ok-sort.ensures.permutation)
+    c.in_ok-keys.ensures.unique
+    ∙ ap (λ (m : Objects). fin.keys m) c.self.view_is
