@@ -4,6 +4,7 @@ mod Ends
 mod Examples
 mod Firsts
 mod Fuses
+mod OfKinds
 mod Plans
 mod Renames
 mod SideBySide

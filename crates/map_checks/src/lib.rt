@@ -6,13 +6,15 @@
 //! one place, to which ways and relations refer in place of them all: `squeeze` and `fuse` of `tool_api`. Each command is the
 //! `Undoable` of one that plans just that, at the cost of the named objects and those that use them, never of the table.
 //!
-//! `places` has the first node at each place, by which doubled nodes are found in one pass. `law` says what a squeeze and a
-//! fuse leave of the named objects.
+//! `by_kind` looks up the places of nodes and the references of ways, and no key of another kind. `places` has the first
+//! node at each place, by which doubled nodes are found in one pass. `law` says what a squeeze and a fuse leave of the
+//! named objects.
 //!
 //! Where to add a check: its test by look-up goes into `specs/Findings` of `tool_api`, a variant with a sentence into
 //! `Finding`, a line at the end of `findings`, and its pass into `listing`.
 #![tactic(auto)]
 
+mod by_kind;
 mod change;
 mod finding;
 mod fuse;

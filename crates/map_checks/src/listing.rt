@@ -9,13 +9,13 @@ ghost use Rattle.tool_api.specs.Upkeep.{first_in};
 ghost use Rattle.map_checks.specs.Findings.{doubled_finding, findings};
 ghost use Rattle.map_checks.specs.declared.finding.Finding.TheVariants.{Doubled, Repeated, OpenRing};
 
+use crate::by_kind::refs_at;
 use crate::finding::{Finding, Findings};
 use crate::places::{Places, are_together};
 use crate::repeats::is_repeated;
 use dataset::DataSet;
 use osm_base::{Key, node_key};
 use std::alloc::AllocError;
-use tool_api::refs_at;
 
 fn push_doubled(found: &mut Vec<Finding>, key: Key, of: Option<Key>) -> Result<(), AllocError>
     ensures { OnOk result (found.new.items ≡ found.old.items ++ cons_option (option_map (λ first. Doubled key first) of) []) }
@@ -81,7 +81,7 @@ fn is_open(ds: &DataSet, refs: &[i64]) -> bool
     3 <= refs.len() && ends_meet(ds, first_in(refs), last_in(refs))
 }
 
-/// Whether the key's object lives as an open ring. Three look-ups.
+/// Whether the key's object lives as an open ring. Three look-ups of a way's key and its ends, and none of any other key.
 fn is_open_ring(ds: &DataSet, key: Key) -> bool
     ensures { result ≡ is_open_ring ds.now key }
 {
@@ -99,8 +99,9 @@ fn open_rings(ds: &DataSet, keys: &[Key]) -> Result<Vec<Finding>, AllocError>
         .collect(ds.alloc())
 }
 
-/// All findings: the doubled nodes, then the repeated ways, then the open rings, each by rank. It sorts all keys of the table
-/// once, and looks each of them up a few times; the first node at each place stands in a hash map.
+/// All findings: the doubled nodes, then the repeated ways, then the open rings, each by rank. It sorts all keys of the
+/// table once, and looks up each node once, each way twice, and the ends of each way of at least three references that ends
+/// elsewhere than it begins; the first node at each place stands in a hash map.
 ///
 /// # Errors
 /// No memory was left.

@@ -1,33 +1,17 @@
 //! Places of nodes, and the first node at each.
 ghost use Rattle.std.specs.Prelude.{◌≡◌, ◌++◌, ◌∷◌, [], if◌then◌else◌, Some, IfOk, OnOk, List};
-ghost use Rattle.std.specs.Option.{option_copied, option_and_then};
+ghost use Rattle.std.specs.Option.{option_and_then};
 ghost use Rattle.osm_base.specs.Same.{same_coord};
 ghost use Rattle.osm_base.specs.declared.coord.Coord.{Coord};
 ghost use Rattle.osm_base.specs.declared.key.Key.{Key};
-ghost use Rattle.tool_api.specs.Findings.{place_of, place_at, same_place, are_together};
+ghost use Rattle.tool_api.specs.Findings.{place_at, same_place, are_together};
 ghost use Rattle.map_checks.specs.Places.{hashed, noted_at, first_at, HasFirst};
 
+use crate::by_kind::place_at;
 use dataset::DataSet;
 use indexmap::IndexMap;
-use osm_base::{Content, Coord, Key};
+use osm_base::{Coord, Key};
 use std::alloc::{AllocError, Global};
-use tool_api::content_of;
-
-fn place_of(content: Option<&Content>) -> Option<Coord>
-    ensures { result ≡ place_of (option_copied content.entry) }
-{
-    match content {
-        Some(Content::Node { at, .. }) => Some(*at),
-        _ => None,
-    }
-}
-
-/// The place of a living node. One look-up.
-pub fn place_at(ds: &DataSet, key: Key) -> Option<Coord>
-    ensures { result ≡ place_at ds.now key }
-{
-    place_of(content_of(ds, key))
-}
 
 fn same_coord(a: Coord, b: Coord) -> bool
     ensures { result ≡ same_coord a b }

@@ -4,6 +4,7 @@ mod Examples
 pub mod Found
 pub mod Levels
 pub mod Meeting
+pub mod OfKinds
 pub mod Sound
 pub mod Steps
 pub mod Waiting

@@ -17,8 +17,9 @@ use std::alloc::AllocError;
 ///
 /// It sorts the keys of the table once, and each word of the query costs at most one pass over them: `and` asks its right
 /// side only of what met the left one, and what `child` and `parent` stand before is asked of all. A pass of `child` looks
-/// at the users of each key, one of `parent` at its references, and they, `not` and `or` make a hashed set of what was
-/// found first. It calls itself once for each level of the query, which bounds the stack that it takes.
+/// at the users of each key, one of `parent` at the references of each way and relation, and they, `not` and `or` make a
+/// hashed set of what was found first. It calls itself once for each level of the query, which bounds the stack that it
+/// takes.
 ///
 /// # Errors
 /// No memory was left.

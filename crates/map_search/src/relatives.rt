@@ -13,7 +13,7 @@ use crate::sets::is_among;
 use closure::set_of;
 use dataset::DataSet;
 use indexmap::IndexSet;
-use osm_base::{Content, Key, Member, node_key};
+use osm_base::{Content, Key, Kind, Member, node_key};
 use osm_table::SharedEntry;
 use std::alloc::AllocError;
 
@@ -40,7 +40,7 @@ fn any_among(keys: &[Key], found: &IndexSet<Key>) -> bool
     keys.iter().any(|key| is_among(found, *key))
 }
 
-/// The keys of living objects that refer to a found one. It looks at the references of each key.
+/// The keys of living objects that refer to a found one. It looks at the references of each way and relation.
 pub fn parents(ds: &DataSet, keys: &[Key], found: &[Key]) -> Result<Vec<Key>, AllocError>
     ensures { IfOk result (λ met. met.items ≡ filter (λ k. list_any (λ of. is_in of found.now) (refs_at (entry_of ds.now k))) keys.now) }
 {
@@ -53,8 +53,20 @@ fn users_of(ds: &DataSet, keys: &[Key], found: &IndexSet<Key>) -> Result<Vec<Key
 {
     keys.iter()
         .copied()
-        .filter(|key| refers_among(ds.entry(*key), found))
+        .filter(|key| is_user(ds, *key, found))
         .collect(ds.alloc())
+}
+
+/// Whether the key's object lives and refers to a found one. Nodes refer to nothing, so a node's key isn't looked up.
+#[tactic(auto, using(crate::proofs::OfKinds::nodes_have_no_refs))]
+fn is_user(ds: &DataSet, key: Key, found: &IndexSet<Key>) -> bool
+    ensures { result ≡ list_any (has is_key found.now.keys) (refs_at (entry_of ds.now key)) }
+{
+    ds.sound();
+    match key.kind {
+        Kind::Node => false,
+        Kind::Way | Kind::Relation => refers_among(ds.entry(key), found),
+    }
 }
 
 fn refers_among(entry: Option<&SharedEntry>, found: &IndexSet<Key>) -> bool
