@@ -1,0 +1,20 @@
+//! What edits keep of the bases.
+ghost use Rattle.std.specs.Prelude.{◌≡◌, ℕ, false};
+ghost use Rattle.osm_table.specs.Table.{TableValue};
+ghost use Rattle.tool_api.specs.declared.job.Job.{Job};
+ghost use Rattle.tool_api.specs.Plain.{plain};
+ghost use Rattle.edit_history.specs.Machine.{State};
+ghost use Rattle.seen_bases.specs.Bases.{KeepsBases};
+ghost use Rattle.seen_bases.specs.Editing.{EditStep, edited, is_merge, IsEdit, EachTable, KeepsSome};
+
+/// Law: no job but a merge puts a base or theirs under a key where the old table doesn't have it, New excepted, and
+/// none makes a table mention a positive key that the old one doesn't mention.
+pub fn jobs_keep_bases()
+    ensures { (j : Job) (t : TableValue) (limit : ℕ) → is_merge j ≡ false → KeepsBases t (plain j t limit).table }
+{}
+
+/// Law: each table of an editor after a step that isn't a download keeps the bases of some table before it. So what
+/// goes over to all tables that keep the bases of one, and holds of each table before the step, holds of each after it.
+pub fn edits_keep_tables()
+    ensures { (step : EditStep) (s : State) → IsEdit step → EachTable (KeepsSome s) (edited step s) }
+{}
