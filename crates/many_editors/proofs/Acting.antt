@@ -1,0 +1,154 @@
+-- A meeting stays sound by each act.
+use Rattle.std.proofs.Common.{◌≡◌, ℕ, zero, suc, List, [], ◌∷◌, take, slice_get, Option, Some, None, Result, Ok, Err, refl, sym, ap, subst}
+use Rattle.std.specs.List.{AllByRecursion}
+use Rattle.std.specs.Option.{option_map}
+use Rattle.std.specs.FinMap as fin
+use Rattle.osm_base.specs.Rank.{rank_cmp}
+use Rattle.osm_base.specs.Tags.{Pair}
+use Rattle.osm_base.specs.declared.area.Area.{Area}
+use Rattle.osm_base.specs.declared.key.Key.{Key}
+use Rattle.osm_table.specs.declared.entry.Entry.{Entry}
+use Rattle.osm_table.specs.Table.{TableValue, IsPositive, entry_of}
+use Rattle.dataset.specs.Sound.{IsSound}
+use Rattle.tool_api.specs.declared.job.Job.TheVariants as job
+use Rattle.edit_history.specs.declared.counts.Group.{Group}
+use Rattle.edit_history.specs.declared.counts.Group.TheVariants.{Outside, Running, Refused}
+use Rattle.edit_history.specs.Machine.{State, refused_in}
+use Rattle.upload_order.specs.declared.change.Change.{Change}
+use Rattle.upload_order.specs.declared.refusal.PlanRefusal.{PlanRefusal}
+use Rattle.upload_order.specs.Refused.{upload}
+use Rattle.upload_order.specs.World.{content_in}
+use Rattle.upload_order.proofs.Basics.{none_some}
+use Rattle.placeholder.specs.declared.answer.Answer.{Answer}
+use Rattle.server_world.specs.Codes.{Objects}
+use Rattle.seen_bases.specs.Bases.{Mentions}
+use Rattle.seen_bases.specs.Bases.Mentions.{has_key}
+use Rattle.seen_bases.specs.Editing.{EditStep, edited, IsEdit, EachTable}
+use Rattle.seen_bases.specs.Editing as step
+use Rattle.seen_bases.proofs.Steps.{edited_tables, merged_tables}
+use Rattle.many_editors.specs.declared.act.MeetAct.{MeetAct}
+use Rattle.many_editors.specs.declared.act.MeetAct.TheVariants as act
+use Rattle.many_editors.specs.States.{IsFromStates, IsServer}
+use Rattle.many_editors.specs.Serving.{told_of_state}
+use Rattle.many_editors.specs.Sending.{version_end, ArePicked}
+use Rattle.many_editors.specs.Meeting.{Editor, Meeting, states, at_editor, at_work, first_editor, first_editors, served, stepped}
+use Rattle.many_editors.specs.Acts.{fetch_met, changes_met, send_met, met_at_work, met_waiting, met_by, met_of, met}
+use Rattle.many_editors.specs.Sound.{MayWait, IsFrom, IsSoundMeeting, KeepsSound}
+use Rattle.many_editors.proofs.Stating.{keeps_states, empty_states, unmentioned}
+use Rattle.many_editors.proofs.Merging.{fetched_states}
+use Rattle.many_editors.proofs.Waiting.{all_map, each_map, here, at_sound, answered_sound, lost_sound, sent_sound}
+
+refused_tables : (P : TableValue → Type 0) (g : Group) (s : State) → EachTable P s → EachTable P (refused_in g s)
+refused_tables P Outside s h = h
+refused_tables P Running s h = record { past = h.past; now = h.start; undone = h.undone; start = h.start }
+refused_tables P Refused s h = h
+
+module _ (m : Meeting) (s : IsSoundMeeting m) (n : ℕ) (e : Editor) (at : slice_get m.editors n ≡ Some e) where
+  tables : EachTable (IsFromStates (states m)) e.state
+  tables = (here m s n e at).tables
+
+  -- An editor at work.
+  module _ (idle : e.waits ≡ None) where
+    -- a step of its machine after which its tables are from the states
+    step_sound : (step : EditStep) → EachTable (IsFromStates (states m)) (edited step e.state) → IsSoundMeeting (at_editor n (stepped step) m)
+    step_sound step from = at_sound m s n e at (stepped step) (record { tables = from; waits = subst (MayWait (states m) (edited step e.state)) (sym idle) tt })
+
+    edit_sound : (step : EditStep) → IsEdit step → IsSoundMeeting (at_editor n (stepped step) m)
+    edit_sound step edit = step_sound step (edited_tables (IsFromStates (states m)) (keeps_states (states m)) step e.state edit tables)
+
+    module _ (is : IsSound e.state.now) (limit : ℕ) where
+      fetch_sound : (area : Option Area) (wanted : Option (List Pair)) (back : ℕ) (o : Option Objects) → slice_get (states m) back ≡ o → IsSoundMeeting (fetch_met limit n area wanted e.state o m).meeting
+      fetch_sound area wanted back None get = at_sound m s n e at (λ e. at_work (refused_in e.state.group e.state)) (record { tables = refused_tables (IsFromStates (states m)) e.state.group e.state tables; waits = tt })
+      fetch_sound area wanted back (Some objects) get =
+          let told = told_of_state objects area wanted in
+          step_sound (step.Run (job.Merge told) limit) (merged_tables (IsFromStates (states m)) told limit e.state (fetched_states (states m) back objects area wanted e.state.now limit s.servers get is tables.now) tables)
+
+      changes_sound : (count : ℕ) (changes : List Change) → upload e.state.now ≡ Ok changes → e.state.group ≡ Outside → (version_end (take count changes) ≡ None → ArePicked e.state.now m.world (take count changes))
+          → (end : Option Key) → version_end (take count changes) ≡ end → IsSoundMeeting (changes_met n (take count changes) e.state end m).meeting
+      changes_sound count changes ok outside picked None end = sent_sound m s n e at changes count is ok outside (picked end) end
+      changes_sound count changes ok outside picked (Some k) end = s
+
+      send_sound : (count : ℕ) → KeepsSound (act.Send count) e.state m.world → (r : Result (List Change) PlanRefusal) → upload e.state.now ≡ r → IsSoundMeeting (send_met n count e.state r m).meeting
+      send_sound count may (Err why) plan = s
+      send_sound count may (Ok changes) plan = changes_sound count changes plan may.0 (may.1 changes plan) (version_end (take count changes)) refl
+
+      work_sound : (act : MeetAct) → KeepsSound act e.state m.world → IsSoundMeeting (met_at_work limit n act e.state m).meeting
+      work_sound (act.Fetch back area wanted) may = fetch_sound area (option_map (λ tags. tags.now) wanted) back (slice_get (states m) back) refl
+      work_sound (act.Job job) may = edit_sound (step.Run job.now limit) may
+      work_sound act.Begin may = edit_sound step.Begin tt
+      work_sound act.GiveUp may = edit_sound step.GiveUp tt
+      work_sound act.End may = edit_sound step.End tt
+      work_sound (act.Undo steps) may = edit_sound (step.Undo steps) tt
+      work_sound (act.Redo steps) may = edit_sound (step.Redo steps) tt
+      work_sound (act.Send count) may = send_sound count may (upload e.state.now) refl
+      work_sound act.Answer may = s
+      work_sound act.Lost may = s
+
+  -- An editor that waits.
+  wait_sound : (act : MeetAct) (answers : List Answer) → e.waits ≡ Some answers → IsSoundMeeting (met_waiting n act answers m).meeting
+  wait_sound (act.Fetch back area wanted) answers waits = s
+  wait_sound (act.Job job) answers waits = s
+  wait_sound act.Begin answers waits = s
+  wait_sound act.GiveUp answers waits = s
+  wait_sound act.End answers waits = s
+  wait_sound (act.Undo steps) answers waits = s
+  wait_sound (act.Redo steps) answers waits = s
+  wait_sound (act.Send count) answers waits = s
+  wait_sound act.Answer answers waits = answered_sound m s n e at answers waits
+  wait_sound act.Lost answers waits = lost_sound m s n e at
+
+  by_sound : (limit : ℕ) (act : MeetAct) → IsSound e.state.now → (e.waits ≡ None → KeepsSound act e.state m.world) → (o : Option (List Answer)) → e.waits ≡ o → IsSoundMeeting (met_by limit n act e o m).meeting
+  by_sound limit act is may None waits = work_sound waits is limit act (may waits)
+  by_sound limit act is may (Some answers) waits = wait_sound act answers waits
+
+of_sound : (limit n : ℕ) (act : MeetAct) (m : Meeting) → IsSoundMeeting m → (o : Option Editor) → slice_get m.editors n ≡ o → ((e : Editor) → o ≡ Some e → IsSound e.state.now × (e.waits ≡ None → KeepsSound act e.state m.world)) → IsSoundMeeting (met_of limit n act o m).meeting
+of_sound limit n act m s None at may = s
+of_sound limit n act m s (Some e) at may = let x = may e refl in by_sound m s n e at limit act x.0 x.1 e.waits refl
+
+-- A meeting stays sound by each act of an editor whose table is sound.
+pub met_sound : (limit n : ℕ) (act : MeetAct) (m : Meeting) → IsSoundMeeting m → ((e : Editor) → slice_get m.editors n ≡ Some e → IsSound e.state.now) → ((e : Editor) → slice_get m.editors n ≡ Some e → e.waits ≡ None → KeepsSound act e.state m.world) → IsSoundMeeting (met limit n act m).meeting
+met_sound limit n act m s sound may = of_sound limit n act m s (slice_get m.editors n) refl (λ e at. (sound e at, may e at))
+
+-- The start.
+
+abbrev nothing : Objects
+nothing = fin.empty
+
+none_stands : (k : Key) → fin.get nothing k ≡ None
+none_stands k = fin.get-empty rank_cmp k
+
+empty_server : IsServer nothing
+empty_server = record {
+  sound = λ k r c h used. none_some c (content_in (fin.get nothing k)) (ap content_in (none_stands k)) h;
+  served = λ k e h. none_some e (fin.get nothing k) (none_stands k) h;
+}
+
+pub first_from : (ms : List Objects) → IsFrom ms first_editor
+first_from ms = record { tables = record { past = tt; now = empty_states ms; undone = tt; start = empty_states ms }; waits = tt }
+
+all_first : (ms : List Objects) (n : ℕ) → AllByRecursion (IsFrom ms) (first_editors n)
+all_first ms zero = tt
+all_first ms (suc n) = (first_from ms, all_first ms n)
+
+-- A meeting at a server begins sound.
+pub served_sound : (objects : Objects) (n : ℕ) → IsServer objects → IsSoundMeeting (served objects n)
+served_sound objects n server = record { servers = (server, tt); history = (tt, tt); editors = all_first (objects ∷ []) n }
+
+pub first_sound : (n : ℕ) → IsSoundMeeting (served fin.empty n)
+first_sound n = served_sound fin.empty n empty_server
+
+-- A key that a server may give and that doesn't stand in the world is mentioned in no table.
+pub new_to_tables : (m : Meeting) (k : Key) → IsSoundMeeting m → IsPositive k.id → fin.get m.world.entries k ≡ None → AllByRecursion (λ e. EachTable (λ t. Mentions t k → ⊥) e.state) m.editors
+new_to_tables m k s p none =
+    all_map (IsFrom (states m)) (λ e. EachTable (λ t. Mentions t k → ⊥) e.state) m.editors
+    (λ e h. each_map (IsFromStates (states m)) (λ t. Mentions t k → ⊥) e.state (λ t from. unmentioned m.earlier m.world.entries t k s.history.0 from p none) h.tables) s.editors
+
+not_there : (t : TableValue) (k : Key) (o : Option Entry) → entry_of t k ≡ o → (Mentions t k → ⊥) → o ≡ None
+not_there t k None is h = refl
+not_there t k (Some e) is h = absurd (h (has_key e is))
+
+-- So it stands in none.
+pub absent_from_tables : (m : Meeting) (k : Key) → IsSoundMeeting m → IsPositive k.id → fin.get m.world.entries k ≡ None → AllByRecursion (λ e. EachTable (λ t. entry_of t k ≡ None) e.state) m.editors
+absent_from_tables m k s p none =
+    all_map (λ e. EachTable (λ t. Mentions t k → ⊥) e.state) (λ e. EachTable (λ t. entry_of t k ≡ None) e.state) m.editors
+    (λ e h. each_map (λ t. Mentions t k → ⊥) (λ t. entry_of t k ≡ None) e.state (λ t new. not_there t k (entry_of t k) refl new) h) (new_to_tables m k s p none)

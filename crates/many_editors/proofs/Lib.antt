@@ -1,0 +1,23 @@
+pub mod Growing
+pub mod Stating
+pub mod Laying
+pub mod Listing
+pub mod Walked
+pub mod Logging
+pub mod Lifting
+pub mod Stepping
+pub mod Fetching
+pub mod Merging
+pub mod Clashing
+pub mod Naming
+pub mod Finding
+pub mod Answering
+pub mod Sends
+pub mod Waiting
+pub mod Acting
+pub mod Replying
+pub mod Beginning
+pub mod Confirming
+pub mod Outgoing
+pub mod Going
+mod Examples

@@ -1,0 +1,12 @@
+pub mod States
+pub mod Serving
+pub mod Sending
+pub mod Meeting
+pub mod Acts
+pub mod Sound
+pub mod Asked
+pub mod Earlier
+pub mod Logged
+pub mod Own
+pub mod Lifted
+pub mod Shown

@@ -1,0 +1,247 @@
+//! Many editors at one server.
+ghost use Rattle.std.specs.Prelude.{◌≡◌, ◌<◌, ◌++◌, ◌∷◌, [], length, map, slice_get, is_some, IfOk, IfSome, IfNone, OnOk, OnErr};
+ghost use Rattle.std.specs.Option.{option_copied};
+ghost use Rattle.download.specs.Tell.{AreTellable};
+ghost use Rattle.edit_history.specs.Trail.{KeepNothing};
+ghost use Rattle.server_world.specs.Unsound.{first_unsound};
+ghost use Rattle.many_editors.specs.Acts.{met};
+ghost use Rattle.many_editors.specs.Asked.{MayAct, MayServe, IsSeen, NeverClashes};
+ghost use Rattle.many_editors.specs.Lifted.{changes_at, fetched, own_act, sent_at, ArePickedAt, IsAt, IsPickedAt, MayFetch, MaySend};
+ghost use Rattle.many_editors.specs.Meeting.{first_meeting, joined, served};
+ghost use Rattle.many_editors.specs.Own.{MayOwn};
+ghost use Rattle.many_editors.specs.Serving.{objects_served};
+ghost use Rattle.many_editors.specs.Shown.{shown_meeting, verbs_met, AreValid, ComesOf, FitsMeeting, MovedMeeting, ValidMeeting};
+ghost use Rattle.many_editors.specs.States.{world_of};
+
+use crate::act::MeetAct;
+use crate::editor::Editor;
+use crate::log::{Before, copied, objects_before};
+use crate::reply::{MeetRefusal, MeetReply};
+use crate::sending::{first_changes, send, version_end};
+use dataset::DataSet;
+use download::filter;
+use edit_history::{Group, History};
+use opl_file::Objects;
+use opl_line::OplObject;
+use osm_base::{Area, Key, Tags};
+use server_world::{World, WorldEntry};
+use std::alloc::{AllocError, Global};
+use tool_api::{Job, Tool};
+use upload_order::{Change, PlanRefusal, plan};
+
+/// A server in memory with its earlier states, and editors, numbered from 0.
+///
+/// `shown_meeting` is what a meeting is seen as. `ValidMeeting` is true of each that `new` made.
+#[derive(Drop)]
+pub struct Meeting {
+    world: World,
+    log: Vec<Before>,
+    editors: Vec<Editor>,
+}
+
+impl Meeting {
+    /// A server that has nothing, and no editors. It takes no memory.
+    pub fn new(alloc: Global) -> Meeting
+        ensures valid { ValidMeeting (λ b. done (b.vtable, b.value)) (λ b. undone (b.vtable, b.value)) result }
+        ensures meeting { shown_meeting (λ b. done (b.vtable, b.value)) (λ b. undone (b.vtable, b.value)) result ≡ first_meeting 0 }
+        ensures verbs { verbs_met (λ b. kind (b.vtable, b.value)) result ≡ [] }
+    {
+        Meeting {
+            world: World::new(alloc),
+            log: Vec::new(alloc),
+            editors: Vec::new(alloc),
+        }
+    }
+
+    /// One editor more, with tools that have done nothing yet. Its number is how many there were.
+    ///
+    /// # Errors
+    /// No memory was left. The meeting isn't used any more then.
+    pub fn join(&mut self, tools: Vec<Box<dyn Tool>>) -> Result<(), AllocError>
+        requires valid { ValidMeeting (λ b. done b) (λ b. undone b) self.old }
+        requires dones { KeepNothing (map (λ b. done b) tools.items) }
+        requires undones { KeepNothing (map (λ b. undone b) tools.items) }
+        ensures valid { OnOk result (ValidMeeting (λ b. done b) (λ b. undone b) self.new) }
+        ensures meeting { OnOk result (shown_meeting (λ b. done b) (λ b. undone b) self.new ≡ joined (shown_meeting (λ b. done b) (λ b. undone b) self.old)) }
+        ensures verbs { OnOk result (verbs_met (λ b. kind b) self.new ≡ verbs_met (λ b. kind b) self.old ++ map (λ b. kind b) tools.items ∷ []) }
+    {
+        let alloc = self.alloc();
+        self.editors.push(Editor {
+            history: History::new(alloc, tools),
+            answers: None,
+        })?;
+        Ok(())
+    }
+
+    /// Makes the objects of a file those of the server, before any act. Where a live object refers to one that isn't live
+    /// among them the answer is the least such object, and nothing has changed. Costs a copy of the objects.
+    ///
+    /// # Errors
+    /// No memory was left, and nothing has changed.
+    pub fn serve(&mut self, objects: &Objects) -> Result<Option<Key>, AllocError>
+        requires fits { FitsMeeting (λ b. done (b.vtable, b.value)) (λ b. undone (b.vtable, b.value)) (λ b. kind (b.vtable, b.value)) self.old (MayServe objects.now) }
+        ensures valid { ValidMeeting (λ b. done (b.vtable, b.value)) (λ b. undone (b.vtable, b.value)) self.new }
+        ensures verbs { verbs_met (λ b. kind (b.vtable, b.value)) self.new ≡ verbs_met (λ b. kind (b.vtable, b.value)) self.old }
+        ensures answer { IfOk result (λ answer. answer ≡ first_unsound (world_of (objects_served objects.now))) }
+        ensures meeting { IfOk result (λ answer. IfNone answer (shown_meeting (λ b. done (b.vtable, b.value)) (λ b. undone (b.vtable, b.value)) self.new ≡ served (objects_served objects.now) (length (shown_meeting (λ b. done (b.vtable, b.value)) (λ b. undone (b.vtable, b.value)) self.old).editors))) }
+        ensures unsound { IfOk result (λ answer. IfSome answer (λ key. shown_meeting (λ b. done (b.vtable, b.value)) (λ b. undone (b.vtable, b.value)) self.new ≡ shown_meeting (λ b. done (b.vtable, b.value)) (λ b. undone (b.vtable, b.value)) self.old)) }
+        ensures err { OnErr result (shown_meeting (λ b. done (b.vtable, b.value)) (λ b. undone (b.vtable, b.value)) self.new ≡ shown_meeting (λ b. done (b.vtable, b.value)) (λ b. undone (b.vtable, b.value)) self.old) }
+    {
+        let world = served(self.alloc(), objects.as_slice())?;
+        match world.first_unsound()? {
+            Some(key) => Ok(Some(key)),
+            None => {
+                self.world = world;
+                Ok(None)
+            }
+        }
+    }
+
+    /// What an editor does, and what comes of it, with at most so many objects in its table.
+    ///
+    /// A fetch costs a walk over the objects of the server, and over the changes since the state that is fetched; a send what
+    /// the plan and the changes cost. No state of the server is kept whole.
+    ///
+    /// # Errors
+    /// No memory was left. The meeting isn't used any more then.
+    pub fn step(
+        &mut self,
+        editor: usize,
+        act: &MeetAct,
+        limit: u64,
+    ) -> Result<MeetReply, AllocError>
+        requires fits { FitsMeeting (λ b. done (b.vtable, b.value)) (λ b. undone (b.vtable, b.value)) (λ b. kind (b.vtable, b.value)) self.old (MayAct editor act.now) }
+        // It answers and does what the definition says, and the meeting is sound again.
+        ensures moved { MovedMeeting (λ b. done (b.vtable, b.value)) (λ b. undone (b.vtable, b.value)) (λ b. kind (b.vtable, b.value)) self.old self.new result (met limit editor act.now) }
+        // What is sent overwrites nothing unseen.
+        ensures seen { OnOk result (IsSeen editor act.now (shown_meeting (λ b. done (b.vtable, b.value)) (λ b. undone (b.vtable, b.value)) self.old)) }
+        // A fetch is never refused for a clash of versions.
+        ensures clash { IfOk result (NeverClashes act.now) }
+    {
+        self.editors[editor].history.ds().sound();
+        if self.editors[editor].answers.is_some() {
+            return self.own(editor, act, limit);
+        }
+        match act {
+            MeetAct::Fetch { back, area, wanted } => {
+                self.fetch(editor, *back, *area, *wanted, limit)
+            }
+            MeetAct::Send { count } => self.send(editor, *count),
+            _ => self.own(editor, act, limit),
+        }
+    }
+
+    /// The data set of an editor.
+    pub fn ds(&self, editor: usize) -> &DataSet
+        requires { editor < length (shown_meeting (λ b. done (b.vtable, b.value)) (λ b. undone (b.vtable, b.value)) self.now).editors }
+        ensures { IfSome (slice_get (shown_meeting (λ b. done (b.vtable, b.value)) (λ b. undone (b.vtable, b.value)) self.now).editors editor) (λ e. result.now ≡ e.state.now) }
+    {
+        self.editors[editor].history.ds()
+    }
+
+    /// Whether an editor has a group open.
+    pub fn group(&self, editor: usize) -> Group
+        requires { editor < length (shown_meeting (λ b. done (b.vtable, b.value)) (λ b. undone (b.vtable, b.value)) self.now).editors }
+        ensures { IfSome (slice_get (shown_meeting (λ b. done (b.vtable, b.value)) (λ b. undone (b.vtable, b.value)) self.now).editors editor) (λ e. result ≡ e.state.group) }
+    {
+        self.editors[editor].history.group()
+    }
+
+    /// Whether an editor waits for an answer.
+    pub fn waits(&self, editor: usize) -> bool
+        requires { editor < length (shown_meeting (λ b. done (b.vtable, b.value)) (λ b. undone (b.vtable, b.value)) self.now).editors }
+        ensures { IfSome (slice_get (shown_meeting (λ b. done (b.vtable, b.value)) (λ b. undone (b.vtable, b.value)) self.now).editors editor) (λ e. result ≡ is_some e.waits) }
+    {
+        self.editors[editor].answers.is_some()
+    }
+
+    /// The server.
+    pub fn world(&self) -> &World
+        ensures { result.now ≡ (shown_meeting (λ b. done (b.vtable, b.value)) (λ b. undone (b.vtable, b.value)) self.now).world }
+    {
+        &self.world
+    }
+
+    fn alloc(&self) -> Global {
+        *self.editors.allocator()
+    }
+
+    /// An act that an editor does alone.
+    fn own(&mut self, editor: usize, act: &MeetAct, limit: u64) -> Result<MeetReply, AllocError>
+        requires valid { AreValid (λ b. done (b.vtable, b.value)) (λ b. undone (b.vtable, b.value)) self.old }
+        requires asked { IsAt editor (MayOwn act.now) (shown_meeting (λ b. done (b.vtable, b.value)) (λ b. undone (b.vtable, b.value)) self.old) (verbs_met (λ b. kind (b.vtable, b.value)) self.old) }
+        ensures { ComesOf (λ b. done (b.vtable, b.value)) (λ b. undone (b.vtable, b.value)) (λ b. kind (b.vtable, b.value)) self.old self.new result (own_act limit editor act.now) }
+    {
+        self.editors[editor].act(act, limit)
+    }
+
+    /// A fetch of an editor at work.
+    fn fetch(
+        &mut self,
+        editor: usize,
+        back: u64,
+        area: Option<Area>,
+        wanted: Option<&Tags>,
+        limit: u64,
+    ) -> Result<MeetReply, AllocError>
+        requires valid { ValidMeeting (λ b. done (b.vtable, b.value)) (λ b. undone (b.vtable, b.value)) self.old }
+        requires asked { IsAt editor MayFetch (shown_meeting (λ b. done (b.vtable, b.value)) (λ b. undone (b.vtable, b.value)) self.old) (verbs_met (λ b. kind (b.vtable, b.value)) self.old) }
+        ensures { ComesOf (λ b. done (b.vtable, b.value)) (λ b. undone (b.vtable, b.value)) (λ b. kind (b.vtable, b.value)) self.old self.new result (fetched limit editor back area (option_copied wanted.entry)) }
+    {
+        let alloc = self.alloc();
+        match objects_before(alloc, &self.world, self.log.as_slice(), back)? {
+            None => self.editors[editor].refuse_state(self.log.len() as u64),
+            Some(objects) => {
+                let told = filter(alloc, objects, area, wanted)?;
+                self.editors[editor].run(&Job::Merge { told }, limit)
+            }
+        }
+    }
+
+    /// A send of an editor at work.
+    fn send(&mut self, editor: usize, count: u32) -> Result<MeetReply, AllocError>
+        requires valid { AreValid (λ b. done (b.vtable, b.value)) (λ b. undone (b.vtable, b.value)) self.old }
+        requires asked { IsAt editor MaySend (shown_meeting (λ b. done (b.vtable, b.value)) (λ b. undone (b.vtable, b.value)) self.old) (verbs_met (λ b. kind (b.vtable, b.value)) self.old) }
+        ensures comes { ComesOf (λ b. done (b.vtable, b.value)) (λ b. undone (b.vtable, b.value)) (λ b. kind (b.vtable, b.value)) self.old self.new result (sent_at editor count) }
+        ensures picked { OnOk result (IsPickedAt editor count (shown_meeting (λ b. done (b.vtable, b.value)) (λ b. undone (b.vtable, b.value)) self.old)) }
+    {
+        let changes = match plan(self.editors[editor].history.ds()) {
+            Ok(changes) => changes,
+            Err(PlanRefusal::Memory) => return Err(AllocError),
+            Err(why) => return Ok(MeetReply::Refused(MeetRefusal::Plan(why))),
+        };
+        let first = first_changes(changes.as_slice(), count);
+        if let Some(key) = version_end(first) {
+            return Ok(MeetReply::Refused(MeetRefusal::VersionEnd(key)));
+        }
+        self.send_changes(editor, first)
+    }
+
+    /// Sends changes of an editor's plan, of which none is of an object in the last version.
+    fn send_changes(&mut self, editor: usize, changes: &[Change]) -> Result<MeetReply, AllocError>
+        requires valid { AreValid (λ b. done (b.vtable, b.value)) (λ b. undone (b.vtable, b.value)) self.old }
+        requires asked { editor < length (shown_meeting (λ b. done (b.vtable, b.value)) (λ b. undone (b.vtable, b.value)) self.old).editors }
+        ensures comes { ComesOf (λ b. done (b.vtable, b.value)) (λ b. undone (b.vtable, b.value)) (λ b. kind (b.vtable, b.value)) self.old self.new result (changes_at editor changes.now) }
+        ensures picked { OnOk result (ArePickedAt editor changes.now (shown_meeting (λ b. done (b.vtable, b.value)) (λ b. undone (b.vtable, b.value)) self.old)) }
+    {
+        let alloc = self.alloc();
+        let ds = self.editors[editor].history.ds();
+        let outcome = send(alloc, &mut self.world, &mut self.log, ds, changes)?;
+        let accepted = outcome.answers.len() as u64;
+        self.editors[editor].answers = Some(outcome.answers);
+        Ok(MeetReply::Sent(accepted, outcome.refused))
+    }
+}
+
+/// A server with these objects, each as it stands in the list.
+fn served(alloc: Global, objects: &[OplObject]) -> Result<World, AllocError>
+    requires { AreTellable objects.now }
+    ensures { IfOk result (λ world. world ≡ world_of (objects_served objects.now)) }
+{
+    let mut world = World::new(alloc);
+    for object in objects {
+        let entry = WorldEntry::new(object.version, copied(object.side.as_ref())?);
+        world.put(object.key, entry)?;
+    }
+    Ok(world)
+}
