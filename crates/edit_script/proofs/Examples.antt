@@ -22,8 +22,9 @@ use Rattle.edit_script.specs.declared.line.ScriptLine.TheVariants.{Skipped, Asks
 use Rattle.edit_script.specs.declared.reply.StepRefusal.TheVariants.{Tool, BadFile, OpenConflicts, IncompleteRef, CyclicNew, WrongAnswer, IdTaken, BadSaved, Unsound}
 use Rattle.edit_script.specs.declared.reply.StepReply.TheVariants as reply
 use Rattle.edit_script.specs.declared.step.Act.TheVariants as act
-use Rattle.edit_script.specs.Forms.{file_word, download, generate, import_file, confirm, resume, add_node, add_way, add_relation, set_tags, shift, place, set_nodes, set_members, delete, split, combine, reverse, squeeze, fuse, undo, find, resolve, parts, mix, choice_form, upload, mend_form, way_form, delete_form, change_form, add_form, send_form, look_form, group_form, form}
-use Rattle.edit_script.specs.Items.{keys_word, tags_word, refs_word, members_word, place_texts, place_words, area_text, wanted_text, number_word, side_word, tag_keys_of, tag_keys_word}
+use Rattle.edit_script.specs.Forms.{download, generate, import_file, confirm, resume, add_node, add_way, add_relation, set_tags, shift, place, set_nodes, set_members, delete, split, combine, reverse, squeeze, fuse, undo, find, resolve, parts, mix, choice_form, upload, mend_form, way_form, delete_form, change_form, add_form, send_form, look_form, group_form, form}
+use Rattle.edit_script.specs.Items.{file_word, keys_word, tags_word, refs_word, members_word, place_texts, place_words, area_text, wanted_text, number_word, side_word, tag_keys_of, tag_keys_word}
+use Rattle.edit_script.specs.Meeting.{meeting_form}
 use Rattle.edit_script.specs.Reply.{reply_line}
 use Rattle.edit_script.specs.Script.{kind_of_line, line_of, steps_of}
 
@@ -291,7 +292,7 @@ unfolding kind_of_line form group_form look_form
 one_cr = refl
 
 two_crs : line_of (codes "print\r\r") ≡ None
-unfolding kind_of_line form group_form look_form send_form add_form change_form delete_form way_form mend_form
+unfolding kind_of_line form group_form look_form send_form add_form change_form delete_form way_form mend_form meeting_form
 two_crs = refl
 
 -- Lines that are skipped are counted, and the last needs no LF.

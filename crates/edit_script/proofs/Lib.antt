@@ -1,6 +1,7 @@
 pub mod Cutting
 mod Examples
 pub mod Lists
+mod MeetingExamples
 pub mod Orderly
 pub mod TagKeys
 pub mod Words

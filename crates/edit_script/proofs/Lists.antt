@@ -1,14 +1,15 @@
 -- What was read so far, and what is left.
-use Rattle.std.proofs.Common.{◌≡◌, ℕ, ◌+◌, Bool, true, List, [], ◌∷◌, ◌++◌, Option, Some, None, Result, Ok, Err, refl, ap, append_assoc, sym, ◌∙◌}
+use Rattle.std.proofs.Common.{◌≡◌, ℕ, ◌+◌, true, List, [], ◌∷◌, ◌++◌, Option, Some, None, Result, Ok, Err, refl, ap, append_assoc, sym, ◌∙◌}
 use Rattle.opl_text.specs.Time.{◌>>=◌}
 use Rattle.opl_line.specs.Cut.{split}
 use Rattle.opl_line.specs.Field.{is}
 use Rattle.opl_line.proofs.Fronts.{split_front}
 use Rattle.edit_script.specs.declared.line.ScriptLine.TheVariants.{Asks}
+use Rattle.edit_script.specs.declared.place.Place.{Place}
 use Rattle.edit_script.specs.declared.step.Act.{Act}
 use Rattle.edit_script.specs.declared.step.Step.{Step}
 use Rattle.edit_script.specs.Items.{all_of, four_texts}
-use Rattle.edit_script.specs.Order.{may_stand, inside_after}
+use Rattle.edit_script.specs.Place.{may_stand_at, place_after}
 use Rattle.edit_script.specs.Script.{onto_steps, after_act, after_line, line_of, steps_from}
 
 -- items before the others, if there are others
@@ -49,13 +50,13 @@ pub onto_front-more : (front : List Step) (step : Step) (steps : Result (List St
 onto_front-more front step (Ok steps) = ap Ok (sym (append_assoc front (step ∷ []) steps))
 onto_front-more front step (Err line) = refl
 
-after_act-stands : (is_inside : Bool) (line : ℕ) (act : Act) (rest : Bool → Result (List Step) ℕ) → may_stand is_inside act ≡ true → after_act is_inside line act rest ≡ onto_steps (record { line = line; act = act }) (rest (inside_after is_inside act))
-after_act-stands is_inside line act rest stands = rw stands refl
+after_act-stands : (place : Place) (line : ℕ) (act : Act) (rest : Place → Result (List Step) ℕ) → may_stand_at place act ≡ true → after_act place line act rest ≡ onto_steps (record { line = line; act = act }) (rest (place_after place act))
+after_act-stands place line act rest stands = rw stands refl
 
 -- a line that asks for something adds its step
-pub onto_front-asks : (front : List Step) (is_inside : Bool) (line : ℕ) (act : Act) (text : List ℕ) (texts : List (List ℕ)) → line_of text ≡ Some (Asks act) → may_stand is_inside act ≡ true → onto_front front (steps_from is_inside line (text ∷ texts)) ≡ onto_front (front ++ record { line = line; act = act } ∷ []) (steps_from (inside_after is_inside act) (line + 1) texts)
-onto_front-asks front is_inside line act text texts asks stands =
-    let rest : Bool → Result (List Step) ℕ = λ inside. steps_from inside (line + 1) texts in
-    ap (λ kind. onto_front front (after_line is_inside line kind rest)) asks
-    ∙ ap (onto_front front) (after_act-stands is_inside line act rest stands)
-    ∙ onto_front-more front (record { line = line; act = act }) (rest (inside_after is_inside act))
+pub onto_front-asks : (front : List Step) (place : Place) (line : ℕ) (act : Act) (text : List ℕ) (texts : List (List ℕ)) → line_of text ≡ Some (Asks act) → may_stand_at place act ≡ true → onto_front front (steps_from place line (text ∷ texts)) ≡ onto_front (front ++ record { line = line; act = act } ∷ []) (steps_from (place_after place act) (line + 1) texts)
+onto_front-asks front place line act text texts asks stands =
+    let rest : Place → Result (List Step) ℕ = λ behind. steps_from behind (line + 1) texts in
+    ap (λ kind. onto_front front (after_line place line kind rest)) asks
+    ∙ ap (onto_front front) (after_act-stands place line act rest stands)
+    ∙ onto_front-more front (record { line = line; act = act }) (rest (place_after place act))

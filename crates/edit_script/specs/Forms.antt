@@ -15,13 +15,8 @@ use Rattle.resolution.specs.declared.choice.Choice.TheVariants as choice
 use Rattle.tool_api.specs.declared.job.Job.TheVariants as job
 use Rattle.edit_script.specs.declared.step.Act.{Act}
 use Rattle.edit_script.specs.declared.step.Act.TheVariants as act
-use Rattle.edit_script.specs.Items.{alone, one_word, two_words, three_words, optional, area_text, wanted_text, keys_word, tags_word, refs_word, members_word, place_words, count_word, streets_word, size_word, side_word, tag_keys_word}
-
--- the name of a file, alone: no word is empty, and so no name that one spells
-unfoldable pub file_word : List (List ℕ) → Option (List ℕ)
-file_word words = do
-  file ← one_word words
-  unescaped file
+use Rattle.edit_script.specs.Items.{alone, one_word, two_words, three_words, file_word, optional, area_text, wanted_text, keys_word, tags_word, refs_word, members_word, place_words, count_word, streets_word, size_word, side_word, tag_keys_word}
+use Rattle.edit_script.specs.Meeting.{meeting_form}
 
 -- `download FILE`, and then `B..` and `F..`, of which each can be left out
 unfoldable pub download : List (List ℕ) → Option Act
@@ -248,7 +243,7 @@ unfoldable pub mend_form : List ℕ → List (List ℕ) → Option Act
 mend_form verb words =
     if bytes_eq verb (codes "squeeze") then squeeze words
     else (if bytes_eq verb (codes "fuse") then fuse words
-    else None)
+    else meeting_form verb words)
 
 -- a way is cut, joined or reversed
 unfoldable pub way_form : List ℕ → List (List ℕ) → Option Act

@@ -49,6 +49,12 @@ abbrev pub three_words : List (List ℕ) → Option (List ℕ × List ℕ × Lis
 three_words (first ∷ second ∷ third ∷ []) = Some (first, second, third)
 three_words words = None
 
+-- the name of a file, alone: no word is empty, and so no name that one spells
+unfoldable pub file_word : List (List ℕ) → Option (List ℕ)
+file_word words = do
+  file ← one_word words
+  unescaped file
+
 -- the texts, where they are four
 abbrev pub four_texts : List (List ℕ) → Option (List ℕ × List ℕ × List ℕ × List ℕ)
 four_texts (first ∷ second ∷ third ∷ fourth ∷ []) = Some (first, second, third, fourth)
@@ -161,9 +167,17 @@ count_word word = number_word 1000000 word
 abbrev pub streets_word : List ℕ → Option ℕ
 streets_word word = number_word 100000 word
 
--- how many changes a chunk has
+-- how many changes a chunk has, or are sent
 abbrev pub size_word : List ℕ → Option ℕ
 size_word word = number_word 10000 word
+
+-- the number of an editor
+abbrev pub editor_word : List ℕ → Option ℕ
+editor_word word = number_word 4 word
+
+-- 1 to 7 digits of how many states of a server something lies back
+abbrev pub back_word : List ℕ → Option ℕ
+back_word word = number_text 7 word
 
 -- `mine` or `theirs`
 unfoldable pub side_word : List ℕ → Option Side

@@ -13,7 +13,7 @@ use Rattle.tool_api.specs.Refusals as refusals
 use Rattle.tool_api.specs.declared.refusal.Refusal.{Refusal}
 use Rattle.tool_api.specs.declared.refusal.Refusal.TheVariants.{Absent, IncompleteObject, DeletedObject, InConflict, InUse, WrongKind, Unfit, OutOfRange, NamedTwice, NotInWay, NothingToSplit, NotJoined, TagClash, MemberClash, NoConflict, NotMixed, VersionClash, TableFull, NotClashing, NoFinding, NotSamePlace}
 use Rattle.edit_script.specs.declared.reply.StepRefusal.{StepRefusal}
-use Rattle.edit_script.specs.declared.reply.StepRefusal.TheVariants.{Tool, NoFile, BadFile, NothingToUndo, NothingToRedo, OpenConflicts, IncompleteRef, CyclicNew, WrongAnswer, IdTaken, BadSaved, Unsound}
+use Rattle.edit_script.specs.declared.reply.StepRefusal.TheVariants.{Tool, NoFile, BadFile, NothingToUndo, NothingToRedo, OpenConflicts, IncompleteRef, CyclicNew, WrongAnswer, IdTaken, BadSaved, Unsound, BadWorld, NoState, NotWaiting, Waiting, VersionEnd}
 use Rattle.edit_script.specs.declared.reply.StepReply.{StepReply}
 use Rattle.edit_script.specs.declared.reply.StepReply.TheVariants.{Done, Refused, Skipped}
 
@@ -31,6 +31,11 @@ number_of (WrongAnswer line) = 26
 number_of (IdTaken key) = 27
 number_of (BadSaved line) = 30
 number_of (Unsound key) = 31
+number_of (BadWorld key) = 34
+number_of (NoState count) = 35
+number_of NotWaiting = 36
+number_of Waiting = 37
+number_of (VersionEnd key) = 38
 
 -- a number, a key or a text behind a space
 abbrev pub number_behind : ℕ → List ℕ
@@ -91,6 +96,11 @@ carried (WrongAnswer line) = number_behind line
 carried (IdTaken key) = key_behind key
 carried (BadSaved line) = number_behind line
 carried (Unsound key) = key_behind key
+carried (BadWorld key) = key_behind key
+carried (NoState count) = number_behind count
+carried NotWaiting = []
+carried Waiting = []
+carried (VersionEnd key) = key_behind key
 
 abbrev pub refusal_text : StepRefusal → List ℕ
 refusal_text why = codes " refused " ++ (decimal (number_of why) ++ carried why)

@@ -2,18 +2,20 @@
 --
 -- For example the lines `# a way`, `way T Nn1,n2` and `undo 0` are skipped, a step, and outside the grammar:
 -- the script that they are has no steps, and its first bad line is 3.
-use Rattle.std.specs.Prelude.{ℕ, ◌+◌, ◌-◌, List, [], ◌∷◌, length, Bool, false, ◌||◌, ◌==◌, Option, None, Some, Result, Ok, Err, slice_index, if◌then◌else◌}
+use Rattle.std.specs.Prelude.{ℕ, ◌+◌, ◌-◌, List, [], ◌∷◌, length, Bool, ◌||◌, ◌==◌, Option, None, Some, Result, Ok, Err, slice_index, if◌then◌else◌}
 use Rattle.std.specs.List.{list_all}
 use Rattle.std.specs.Option.{option_map}
 use Rattle.opl_line.specs.Line.{is_blank, freed}
 use Rattle.opl_file.specs.Cut.{lines_of}
 use Rattle.edit_script.specs.declared.line.ScriptLine.{ScriptLine}
 use Rattle.edit_script.specs.declared.line.ScriptLine.TheVariants.{Skipped, Asks}
+use Rattle.edit_script.specs.declared.place.Place.{Place}
+use Rattle.edit_script.specs.declared.place.Place.TheVariants.{Start}
 use Rattle.edit_script.specs.declared.step.Act.{Act}
 use Rattle.edit_script.specs.declared.step.Step.{Step}
 use Rattle.edit_script.specs.Forms.{act_of}
 use Rattle.edit_script.specs.Items.{words_of}
-use Rattle.edit_script.specs.Order.{may_stand, inside_after}
+use Rattle.edit_script.specs.Place.{may_stand_at, place_after}
 
 -- nothing but blanks, or a comment
 abbrev pub is_skipped : List ℕ → Bool
@@ -39,20 +41,20 @@ onto_steps step (Ok steps) = Ok (step ∷ steps)
 onto_steps step (Err line) = Err line
 
 -- an act that may stand there, and the steps behind it
-abbrev pub after_act : (is_inside : Bool) → ℕ → Act → (Bool → Result (List Step) ℕ) → Result (List Step) ℕ
-after_act is_inside line act rest = if may_stand is_inside act then onto_steps (record { line = line; act = act }) (rest (inside_after is_inside act)) else Err line
+abbrev pub after_act : Place → ℕ → Act → (Place → Result (List Step) ℕ) → Result (List Step) ℕ
+after_act place line act rest = if may_stand_at place act then onto_steps (record { line = line; act = act }) (rest (place_after place act)) else Err line
 
 -- a line, and the steps of those behind it
-abbrev pub after_line : (is_inside : Bool) → ℕ → Option ScriptLine → (Bool → Result (List Step) ℕ) → Result (List Step) ℕ
-after_line is_inside line None rest = Err line
-after_line is_inside line (Some Skipped) rest = rest is_inside
-after_line is_inside line (Some (Asks act)) rest = after_act is_inside line act rest
+abbrev pub after_line : Place → ℕ → Option ScriptLine → (Place → Result (List Step) ℕ) → Result (List Step) ℕ
+after_line place line None rest = Err line
+after_line place line (Some Skipped) rest = rest place
+after_line place line (Some (Asks act)) rest = after_act place line act rest
 
--- the steps of these lines, of which the first has that number and stands inside a group or outside
-abbrev pub steps_from : (is_inside : Bool) → ℕ → List (List ℕ) → Result (List Step) ℕ
-steps_from is_inside line [] = Ok []
-steps_from is_inside line (text ∷ texts) = after_line is_inside line (line_of text) (λ inside. steps_from inside (line + 1) texts)
+-- the steps of these lines, of which the first has that number and stands there
+abbrev pub steps_from : Place → ℕ → List (List ℕ) → Result (List Step) ℕ
+steps_from place line [] = Ok []
+steps_from place line (text ∷ texts) = after_line place line (line_of text) (λ behind. steps_from behind (line + 1) texts)
 
 -- The steps of a script, or the number of its first line outside the grammar.
 abbrev pub steps_of : List ℕ → Result (List Step) ℕ
-steps_of bytes = steps_from false 1 (lines_of bytes)
+steps_of bytes = steps_from Start 1 (lines_of bytes)

@@ -1,19 +1,20 @@
 //! The lines of a script: one function for each form, found by the first word of the line.
 ghost use Rattle.std.specs.Prelude.{IfOk};
 ghost use Rattle.edit_script.specs.Answers.{Gives};
-ghost use Rattle.edit_script.specs.Forms.{file_word, download, generate, import_file, confirm, resume, add_node, add_way, add_relation, set_tags, shift, place, set_nodes, set_members, delete, erase, purge, split, combine, reverse, squeeze, fuse, undo, redo, find, upload, mix, parts, choice_form, choice_of, resolve, mend_form, way_form, delete_form, change_form, add_form, send_form, look_form, group_form, form, act_of};
+ghost use Rattle.edit_script.specs.Forms.{download, generate, import_file, confirm, resume, add_node, add_way, add_relation, set_tags, shift, place, set_nodes, set_members, delete, erase, purge, split, combine, reverse, squeeze, fuse, undo, redo, find, upload, mix, parts, choice_form, choice_of, resolve, mend_form, way_form, delete_form, change_form, add_form, send_form, look_form, group_form, form, act_of};
 ghost use Rattle.edit_script.specs.Items.{words_of};
 ghost use Rattle.edit_script.specs.Order.{IsMeant};
 
 use crate::fault::Unread;
 use crate::items::{
-    alone, area_part, coord_word, count_word, key_word, keys_word, members_word, next_word,
-    one_word, place_words, query_words, refs_word, side_word, size_word, streets_word,
-    tag_keys_word, tags_word, three_words, two_words, wanted_part,
+    alone, area_part, coord_word, file_word, key_word, keys_word, members_word, next_word,
+    one_word, place_words, query_words, refs_word, side_word, tag_keys_word, tags_word,
+    three_words, two_words, wanted_part,
 };
+use crate::meeting::meeting_form;
+use crate::numbers::{count_word, size_word, streets_word};
 use crate::step::Act;
 use opl_text::{Pool, read_escaped};
-use osm_base::Text;
 use resolution::Choice;
 use tool_api::Job;
 
@@ -148,7 +149,7 @@ fn change_form(pool: &mut Pool, verb: &[u8], words: &[u8]) -> Result<Act, Unread
 
 /// Objects go.
 #[tactic(auto, unfolding(crate::specs::Forms::delete_form))]
-fn delete_form(pool: &Pool, verb: &[u8], words: &[u8]) -> Result<Act, Unread>
+fn delete_form(pool: &mut Pool, verb: &[u8], words: &[u8]) -> Result<Act, Unread>
     ensures value { Gives result (delete_form verb.now (words_of words.now)) }
     ensures meant { IfOk result IsMeant }
 {
@@ -165,7 +166,7 @@ fn delete_form(pool: &Pool, verb: &[u8], words: &[u8]) -> Result<Act, Unread>
 
 /// A way is cut, joined or reversed.
 #[tactic(auto, unfolding(crate::specs::Forms::way_form))]
-fn way_form(pool: &Pool, verb: &[u8], words: &[u8]) -> Result<Act, Unread>
+fn way_form(pool: &mut Pool, verb: &[u8], words: &[u8]) -> Result<Act, Unread>
     ensures value { Gives result (way_form verb.now (words_of words.now)) }
     ensures meant { IfOk result IsMeant }
 {
@@ -182,7 +183,7 @@ fn way_form(pool: &Pool, verb: &[u8], words: &[u8]) -> Result<Act, Unread>
 
 /// What a check finds is mended.
 #[tactic(auto, unfolding(crate::specs::Forms::mend_form))]
-fn mend_form(pool: &Pool, verb: &[u8], words: &[u8]) -> Result<Act, Unread>
+fn mend_form(pool: &mut Pool, verb: &[u8], words: &[u8]) -> Result<Act, Unread>
     ensures value { Gives result (mend_form verb.now (words_of words.now)) }
     ensures meant { IfOk result IsMeant }
 {
@@ -191,7 +192,7 @@ fn mend_form(pool: &Pool, verb: &[u8], words: &[u8]) -> Result<Act, Unread>
     } else if verb == b"fuse".as_slice() {
         fuse(pool, words)
     } else {
-        Err(Unread::Outside)
+        meeting_form(pool, verb, words)
     }
 }
 
@@ -249,15 +250,6 @@ fn resume(pool: &mut Pool, words: &[u8]) -> Result<Act, Unread>
 {
     let name = file_word(pool, words)?;
     Ok(Act::Resume { name })
-}
-
-/// The name of a file, alone.
-#[tactic(auto, unfolding(crate::specs::Forms::file_word))]
-fn file_word(pool: &mut Pool, words: &[u8]) -> Result<Text, Unread>
-    ensures { Gives result (file_word (words_of words.now)) }
-{
-    let file = one_word(words)?;
-    Ok(read_escaped(pool, file)?)
 }
 
 /// `node x.. y.. T..`.

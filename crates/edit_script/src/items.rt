@@ -9,16 +9,14 @@ ghost use Rattle.osm_base.specs.Number.{key_text};
 ghost use Rattle.osm_base.specs.Coord.{coord_text};
 ghost use Rattle.resolution.specs.Keys.{is_listed};
 ghost use Rattle.edit_script.specs.Answers.{Gives, IsRefused};
-ghost use Rattle.edit_script.specs.Items.{words_of, alone, one_word, two_words, three_words, four_texts, without_blanks, optional, has_location, keys_word, tags_word, refs_word, members_word, place_texts, place_words, box_between, area_text, wanted_text, number_word, count_word, streets_word, size_word, side_word, texts_of, tag_keys_of, tag_keys_word};
+ghost use Rattle.edit_script.specs.Items.{words_of, alone, one_word, two_words, three_words, file_word, four_texts, without_blanks, optional, has_location, keys_word, tags_word, refs_word, members_word, place_texts, place_words, box_between, area_text, wanted_text, side_word, texts_of, tag_keys_of, tag_keys_word};
 ghost use Rattle.edit_script.specs.Script.{has_outer_blank};
 
 use crate::fault::Unread;
 use map_search::{Query, read_query};
 use opl_line::{cut, is_blank, read_members, read_refs, read_tags};
 use opl_text::{Pool, read_escaped};
-use osm_base::{
-    Area, Coord, Key, Keys, Members, Refs, Tags, coord_of, read_coord, read_digits, read_key,
-};
+use osm_base::{Area, Coord, Key, Keys, Members, Refs, Tags, Text, coord_of, read_coord, read_key};
 use resolution::{Side, TagKeys};
 
 /// The first word of the bytes, and what stands behind it.
@@ -93,6 +91,15 @@ pub fn three_words(words: &[u8]) -> Result<(&[u8], &[u8], &[u8]), Unread>
         None => Ok((first, second, third)),
         Some(_) => Err(Unread::Outside),
     }
+}
+
+/// The name of a file, alone.
+#[tactic(auto, unfolding(crate::specs::Items::file_word))]
+pub fn file_word(pool: &mut Pool, words: &[u8]) -> Result<Text, Unread>
+    ensures { Gives result (file_word (words_of words.now)) }
+{
+    let file = one_word(words)?;
+    Ok(read_escaped(pool, file)?)
 }
 
 /// The texts between commas, where there are four and no more.
@@ -299,47 +306,6 @@ pub fn wanted_part<'a>(pool: &mut Pool, words: &'a [u8]) -> Result<(Option<Tags>
         Some(([b'F', text @ ..], rest)) => Ok((Some(wanted_text(pool, text)?), rest)),
         _ => Ok((None, words)),
     }
-}
-
-/// A number from 1 to the most.
-#[tactic(auto, unfolding(crate::specs::Items::number_word))]
-fn number_word(word: &[u8], most: u64) -> Result<u64, Unread>
-    ensures value { Gives result (number_word most word.now) }
-    ensures some { IfOk result (λ n. 1 ≤ n) }
-    ensures fits { IfOk result (λ n. n ≤ most) }
-{
-    match read_digits(word, 7) {
-        Some(n) if 1 <= n && n <= most => Ok(n),
-        _ => Err(Unread::Outside),
-    }
-}
-
-/// How often something is undone or redone.
-pub fn count_word(word: &[u8]) -> Result<u64, Unread>
-    ensures value { Gives result (count_word word.now) }
-    ensures some { IfOk result (λ n. 1 ≤ n) }
-{
-    number_word(word, 1_000_000)
-}
-
-/// How many streets a city has.
-pub fn streets_word(word: &[u8]) -> Result<u32, Unread>
-    ensures value { Gives result (streets_word word.now) }
-    ensures some { IfOk result (λ streets. 1 ≤ streets) }
-    ensures fits { IfOk result (λ streets. streets ≤ 100000) }
-{
-    let streets = number_word(word, 100_000)?;
-    Ok(streets as u32)
-}
-
-/// How many changes a chunk has.
-pub fn size_word(word: &[u8]) -> Result<u32, Unread>
-    ensures value { Gives result (size_word word.now) }
-    ensures some { IfOk result (λ size. 1 ≤ size) }
-    ensures fits { IfOk result (λ size. size ≤ 10000) }
-{
-    let size = number_word(word, 10_000)?;
-    Ok(size as u32)
 }
 
 /// `mine` or `theirs`.

@@ -2,21 +2,26 @@
 //!
 //! `read_script` gives a script's steps or its first line outside the grammar, exactly as
 //! `specs/Script` says, and promises that the steps are in order: no group in a group, nothing
-//! undone inside one, each job well formed. `write_reply` appends the one text of a reply
-//! (`specs/Reply`). It stands on `opl_line` for tags, references and members, on `opl_file` for
-//! the cut into lines, on `map_search` for queries, on `resolution` for the ways out of a conflict, and
-//! on `tool_api` for jobs and their refusals.
+//! undone inside one, each job well formed, and no line of a meeting in a script that is none
+//! (`specs/Place`). `write_reply` appends the one text of a reply (`specs/Reply`). It stands on
+//! `opl_line` for tags, references and members, on `opl_file` for the cut into lines, on
+//! `map_search` for queries, on `resolution` for the ways out of a conflict, and on `tool_api` for
+//! jobs and their refusals.
 //!
 //! The first word of a line finds its form. A new line wants a definition in `specs/Forms` and a
-//! function of that name in `forms.rt`, which read the words behind the first one; its word in one of
-//! the lists of words there; and an example in `proofs/Examples`. A word that can be left out begins with
-//! a letter of its own, and is read by `optional` of `specs/Items`.
+//! function of that name in `forms.rt`, or in `specs/Meeting` and `meeting.rt` where only meeting
+//! scripts have it, which read the words behind the first one; its word in one of the lists of words
+//! there; and an example in `proofs/Examples` or `MeetingExamples`. A word that can be left out begins
+//! with a letter of its own, and is read by `optional` of `specs/Items`.
 #![tactic(auto)]
 
 mod fault;
 mod forms;
 mod items;
 mod line;
+mod meeting;
+mod numbers;
+mod place;
 mod reply;
 mod script;
 mod step;
@@ -24,6 +29,7 @@ mod step;
 pub use fault::{ScriptFault, Unread};
 pub use items::{key_word, next_word, three_words, two_words};
 pub use line::{has_outer_blank, is_skipped, next_line};
+pub use place::is_meeting;
 pub use reply::{StepRefusal, StepReply, write_reply};
 pub use script::read_script;
 pub use step::{Act, Step};

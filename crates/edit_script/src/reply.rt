@@ -38,6 +38,16 @@ pub enum StepRefusal {
     BadSaved(u64),
     /// A saved table isn't sound: of the entries that break a rule of tables, this key has the least.
     Unsound(Key),
+    /// The file of a server isn't whole: of its objects that refer to one that isn't there, this is the least.
+    BadWorld(Key),
+    /// The server had no state so far back: there are so many earlier ones.
+    NoState(u64),
+    /// The editor waits for no answer.
+    NotWaiting,
+    /// The editor waits for an answer, and does nothing else to its table or the server until then.
+    Waiting,
+    /// Nothing is sent: this object would be, and stands in the last version that there is.
+    VersionEnd(Key),
 }
 
 /// What a step replies.
@@ -69,6 +79,11 @@ impl StepRefusal {
             StepRefusal::IdTaken(_) => 27,
             StepRefusal::BadSaved(_) => 30,
             StepRefusal::Unsound(_) => 31,
+            StepRefusal::BadWorld(_) => 34,
+            StepRefusal::NoState(_) => 35,
+            StepRefusal::NotWaiting => 36,
+            StepRefusal::Waiting => 37,
+            StepRefusal::VersionEnd(_) => 38,
         }
     }
 }
@@ -191,11 +206,18 @@ fn write_carried(why: &StepRefusal, out: &mut Vec<u8>) -> Result<(), AllocError>
         }
         StepRefusal::IncompleteRef { key, of } => write_two_keys(*key, *of, out),
         StepRefusal::CyclicNew(keys) => write_keys_behind(keys.as_slice(), out),
-        StepRefusal::WrongAnswer(line) | StepRefusal::BadSaved(line) => {
-            write_number_behind(*line, out)
-        }
-        StepRefusal::IdTaken(key) | StepRefusal::Unsound(key) => write_key_behind(*key, out),
-        StepRefusal::NoFile | StepRefusal::NothingToUndo | StepRefusal::NothingToRedo => Ok(()),
+        StepRefusal::WrongAnswer(number)
+        | StepRefusal::BadSaved(number)
+        | StepRefusal::NoState(number) => write_number_behind(*number, out),
+        StepRefusal::IdTaken(key)
+        | StepRefusal::Unsound(key)
+        | StepRefusal::BadWorld(key)
+        | StepRefusal::VersionEnd(key) => write_key_behind(*key, out),
+        StepRefusal::NoFile
+        | StepRefusal::NothingToUndo
+        | StepRefusal::NothingToRedo
+        | StepRefusal::NotWaiting
+        | StepRefusal::Waiting => Ok(()),
     }
 }
 

@@ -1,11 +1,13 @@
 //! The steps of a script.
-ghost use Rattle.std.specs.Prelude.{◌≡◌, false, Ok, IfOk, MatchResult};
+ghost use Rattle.std.specs.Prelude.{◌≡◌, true, false, Ok, IfOk, MatchResult, drop};
 ghost use Rattle.edit_script.specs.Answers.{RefusesScript};
 ghost use Rattle.edit_script.specs.Order.{IsOrderly};
+ghost use Rattle.edit_script.specs.Place.{AllBelong, is_meeting};
 ghost use Rattle.edit_script.specs.Script.{steps_of};
 
 use crate::fault::{ScriptFault, Unread};
 use crate::line::{ScriptLine, line_of, next_line};
+use crate::place::Place;
 use crate::step::Step;
 use opl_text::Pool;
 use std::alloc::Global;
@@ -16,15 +18,18 @@ use std::alloc::Global;
 ///
 /// # Errors
 /// `BadLine` with the first line outside the grammar, exactly where there is one; `Memory` where no memory was left.
+#[tactic(auto, using(crate::proofs::Orderly::placed_orderly, crate::proofs::Orderly::placed_meeting, crate::proofs::Orderly::placed_other))]
 pub fn read_script(alloc: Global, bytes: &[u8]) -> Result<Vec<Step>, ScriptFault>
     ensures steps { MatchResult result (λ steps. steps_of bytes.now ≡ Ok steps.items) (RefusesScript (steps_of bytes.now)) }
     // What a session can rely on as it runs the steps.
     ensures orderly { IfOk result (λ steps. IsOrderly false steps.items) }
+    ensures meeting { IfOk result (λ steps. is_meeting steps.items ≡ true → AllBelong true (drop 1 steps.items)) }
+    ensures other { IfOk result (λ steps. is_meeting steps.items ≡ false → AllBelong false steps.items) }
 {
     let mut pool = Pool::new(alloc);
     let mut steps = Vec::new(alloc);
     let mut count = 0u64;
-    let mut is_inside = false;
+    let mut place = Place::Start;
     let mut rest = bytes;
     while !rest.is_empty() {
         let (line, after) = next_line(rest);
@@ -34,10 +39,10 @@ pub fn read_script(alloc: Global, bytes: &[u8]) -> Result<Vec<Step>, ScriptFault
             Err(Unread::Outside) => return Err(ScriptFault::BadLine(count)),
             Ok(ScriptLine::Skipped) => {}
             Ok(ScriptLine::Asks(act)) => {
-                if !act.may_stand(is_inside) {
+                if !place.takes(&act) {
                     return Err(ScriptFault::BadLine(count));
                 }
-                is_inside = act.inside_after(is_inside);
+                place = place.after(&act);
                 steps.push(Step { line: count, act })?;
             }
         }

@@ -75,6 +75,34 @@ pub enum Act {
         /// The name of the file in which it was saved.
         name: Text,
     },
+    /// Begins a meeting, in which up to four editors work at one server.
+    Serve {
+        /// The name of the file whose objects the server has.
+        name: Text,
+    },
+    /// Says which editor does what stands below.
+    Editor {
+        /// Its number: 1 to 4.
+        n: u32,
+    },
+    /// Takes objects that the server has, or had, into the editor's table, all or a part of them.
+    Fetch {
+        /// How many states of the server back: 0 is what it has, and at most 9,999,999.
+        back: u64,
+        /// The box from which they are taken, as of a download.
+        area: Option<Area>,
+        /// The tags that are wanted of them, as of a download.
+        wanted: Option<Tags>,
+    },
+    /// Sends the editor's changes to the server, or the first of them.
+    Send {
+        /// How many are sent at most: 1 to 10,000.
+        count: u32,
+    },
+    /// Takes in what the server answered to what the editor sent.
+    Answer,
+    /// Goes on without the server's answer to what the editor sent.
+    Lost,
 }
 
 /// A line of a script that does something.
@@ -95,6 +123,7 @@ impl Act {
             Act::Begin | Act::Undo { .. } | Act::Redo { .. } => !is_inside,
             Act::Rehearse | Act::Upload { .. } | Act::Confirm { .. } => !is_inside,
             Act::Resume { .. } => !is_inside,
+            Act::Editor { .. } | Act::Send { .. } | Act::Answer | Act::Lost => !is_inside,
             Act::End => is_inside,
             _ => true,
         }
