@@ -5,7 +5,7 @@ use Rattle.dataset.specs.Patch.{PatchValue}
 use Rattle.tool_api.specs.declared.reply.Reply.{Reply}
 use Rattle.tool_api.specs.declared.reply.Reply.TheVariants as reply
 use Rattle.edit_script.specs.declared.step.Act.{Act}
-use Rattle.edit_script.specs.declared.step.Act.TheVariants.{Job, Download, Generate, ImportFile, Begin, End, Undo, Redo, Print, Count, Conflicts, Rehearse, Upload, Confirm, Save, Resume, Find, Check}
+use Rattle.edit_script.specs.declared.step.Act.TheVariants.{Job, Download, Generate, ImportFile, Begin, End, Undo, Redo, Print, Count, Conflicts, Rehearse, Upload, Confirm, Save, Resume, Find, Check, Serve, Editor, Fetch, Send, Answer, Lost}
 use Rattle.edit_script.specs.declared.reply.StepRefusal.{StepRefusal}
 use Rattle.edit_script.specs.Order.{inside_after, may_stand}
 use Rattle.edit_history.specs.declared.counts.Group.{Group}
@@ -23,12 +23,12 @@ done_open Outside u s e going = refl
 done_open Running u s e going = refl
 done_open Refused u s e going = absurd cc
 
-refused_open : (g : Group) (s : State) → s.group ≡ g → is_given_up g ≡ false → is_open (refused_in g s).group ≡ is_open g
+pub refused_open : (g : Group) (s : State) → s.group ≡ g → is_given_up g ≡ false → is_open (refused_in g s).group ≡ is_open g
 refused_open Outside s e going = ap is_open e
 refused_open Running s e going = refl
 refused_open Refused s e going = absurd cc
 
-ran_open : (r : Reply) (u : TableValue) (s : State) → is_given_up s.group ≡ false → is_open (ran r u s).group ≡ is_open s.group
+pub ran_open : (r : Reply) (u : TableValue) (s : State) → is_given_up s.group ≡ false → is_open (ran r u s).group ≡ is_open s.group
 ran_open (reply.Done keys) u s going = done_open s.group u s refl going
 ran_open (reply.Refused why) u s going = refused_open s.group s refl going
 
@@ -37,6 +37,7 @@ file_open limit (found.Job job) s going = ran_open _ _ s going
 file_open limit (found.Bad fault) s going = refused_open s.group s refl going
 file_open limit found.Nothing s going = refused_open s.group s refl going
 file_open limit (found.Bytes bytes) s going = refused_open s.group s refl going
+file_open limit (found.Objects objects) s going = refused_open s.group s refl going
 
 settled_open : (answer : Result PatchValue StepRefusal) (s : State) → is_open s.group ≡ false → is_open (settled_turn answer s).state.group ≡ is_open s.group
 settled_open (Ok patch) s outside = sym outside
@@ -47,12 +48,14 @@ confirm_open (found.Bytes bytes) s going outside = settled_open (confirmed s.now
 confirm_open (found.Bad fault) s going outside = refused_open s.group s refl going
 confirm_open found.Nothing s going outside = refused_open s.group s refl going
 confirm_open (found.Job job) s going outside = refused_open s.group s refl going
+confirm_open (found.Objects objects) s going outside = refused_open s.group s refl going
 
 resume_open : (limit : ℕ) (found : Found) (s : State) → is_given_up s.group ≡ false → is_open s.group ≡ false → is_open (resume_turn limit found s).state.group ≡ is_open s.group
 resume_open limit (found.Bytes bytes) s going outside = settled_open (resumed limit s.now bytes) s outside
 resume_open limit (found.Bad fault) s going outside = refused_open s.group s refl going
 resume_open limit found.Nothing s going outside = refused_open s.group s refl going
 resume_open limit (found.Job job) s going outside = refused_open s.group s refl going
+resume_open limit (found.Objects objects) s going outside = refused_open s.group s refl going
 
 -- answers are taken outside groups alone
 answers_outside : (is_inside : Bool) (name : List ℕ) → may_stand is_inside (Confirm name) ≡ true → is_inside ≡ false
@@ -87,6 +90,12 @@ act_open limits found Save s stands going = refl
 act_open limits found (Resume name) s stands going = resume_open limits.objects found s going (saved_outside (is_open s.group) name stands)
 act_open limits found (Find query) s stands going = refl
 act_open limits found Check s stands going = refl
+act_open limits found (Serve name) s stands going = refl
+act_open limits found (Editor n) s stands going = refl
+act_open limits found (Fetch back area wanted) s stands going = refl
+act_open limits found (Send count) s stands going = refl
+act_open limits found Answer s stands going = refl
+act_open limits found Lost s stands going = refl
 
 given_up_open : (g : Group) → is_given_up g ≡ true → is_open g ≡ true
 given_up_open Outside e = absurd cc
@@ -112,6 +121,12 @@ skipped_open Save s given_up = refl
 skipped_open (Resume name) s given_up = refl
 skipped_open (Find query) s given_up = refl
 skipped_open Check s given_up = refl
+skipped_open (Serve name) s given_up = refl
+skipped_open (Editor n) s given_up = refl
+skipped_open (Fetch back area wanted) s given_up = refl
+skipped_open (Send count) s given_up = refl
+skipped_open Answer s given_up = refl
+skipped_open Lost s given_up = refl
 
 turn_open_by : (limits : Limits) (found : Found) (act : Act) (s : State) (given_up : Bool) → may_stand (is_open s.group) act ≡ true → is_given_up s.group ≡ given_up → is_open (if given_up then skipped_turn act s else act_turn limits found act s).state.group ≡ inside_after (is_open s.group) act
 turn_open_by limits found act s true stands e = skipped_open act s e

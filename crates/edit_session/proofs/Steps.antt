@@ -1,5 +1,5 @@
 -- One step more of a run.
-use Rattle.std.proofs.Common.{◌≡◌, ℕ, ◌+◌, ◌<◌, ◌≤◌, Bool, true, false, List, ◌∷◌, Option, None, Some, IfSome, sym, ap, ◌∙◌, subst, drop, get_or, length, refl}
+use Rattle.std.proofs.Common.{◌≡◌, ℕ, ◌+◌, ◌<◌, ◌≤◌, Bool, true, false, List, ◌∷◌, Option, None, Some, IfSome, sym, ap, ◌∙◌, subst, drop, get_or, length, refl, if◌then◌else◌, arith}
 use Rattle.std.proofs.lemmas.List.{at_drop_more, drop_all}
 use Rattle.std.specs.Option.{option_or}
 use Rattle.std.specs.Io.KnownBytes.{Appends}
@@ -7,20 +7,23 @@ use Rattle.osm_outside.specs.Outside.{AppendsFront, Shelved}
 use Rattle.osm_outside.proofs.Along.{Along, along-start, along-more, along-end, along-front}
 use Rattle.tool_api.specs.declared.verb.Verb.{Verb}
 use Rattle.edit_script.specs.declared.step.Act.{Act}
+use Rattle.edit_script.specs.declared.step.Act.TheVariants.{Editor}
 use Rattle.edit_script.specs.declared.step.Step.{Step}
 use Rattle.edit_script.specs.Order.{IsMeant, IsOrderly, may_stand, inside_after}
+use Rattle.edit_script.specs.Place.{is_meeting}
 use Rattle.edit_history.specs.Machine.{State, first_state}
 use Rattle.edit_history.specs.Shown.{IsThere}
 use Rattle.edit_session.specs.declared.limits.Limits.{Limits}
-use Rattle.edit_session.specs.Needs.{needs, lacks, missing_verb}
+use Rattle.edit_session.specs.Needs.{needs, lacks, missing_from, editor_after}
 use Rattle.edit_session.specs.declared.loading.Found.{Found}
 use Rattle.edit_session.specs.Groups.{is_open}
 use Rattle.edit_session.specs.Load.{found_in}
-use Rattle.edit_session.specs.Session.{states_before, texts, output}
+use Rattle.edit_session.specs.Meet.{meet_texts}
+use Rattle.edit_session.specs.Session.{states_before, texts, output, met}
 use Rattle.edit_session.specs.Turn.{turn, step_turn, turn_text, step_text}
 use Rattle.edit_session.proofs.Opens.{turn_open}
 use Rattle.osm_outside.proofs.Pieces.{along-stop}
-use Rattle.edit_session.proofs.Verbs.{needed_there}
+use Rattle.edit_session.proofs.Counts.{counted_there, enough}
 
 -- the steps from i on begin with that at i
 pub steps-drop : (i : ℕ) (steps : List Step) (step : Step) → i < length steps → step ≡ get_or steps i step → drop i steps ≡ step ∷ drop (i + 1) steps
@@ -67,9 +70,11 @@ pub nothing_yet : (old : Option (List ℕ)) (all : List ℕ) → AppendsFront ol
 nothing_yet old all = along-stop old old all all (along-start old all)
 
 -- nothing is written yet
-pub starts : (limits : Limits) (o : Option Shelved) (old : Option (List ℕ)) (steps : List Step) (s : State) → s ≡ first_state → IfSome o (λ files. Along old old (texts_from limits files steps s) (output limits files steps))
-starts limits None old steps s first = tt
-starts limits (Some files) old steps s first = rw first (along-start old (output limits files steps))
+pub starts : (limits : Limits) (o : Option Shelved) (old : Option (List ℕ)) (steps : List Step) (s : State) → is_meeting steps ≡ false → s ≡ first_state → IfSome o (λ files. Along old old (texts_from limits files steps s) (output limits files steps))
+starts limits None old steps s alone first = tt
+starts limits (Some files) old steps s alone first =
+    subst (λ (meets : Bool). Along old old (texts_from limits files steps s) (if meets then meet_texts limits files (met limits files steps) else texts limits files (states_before limits files steps first_state))) (sym alone)
+    (rw first (along-start old (texts limits files (states_before limits files steps first_state))))
 
 -- All steps have run: the whole text is written.
 pub ends_all : (limits : Limits) (o : Option Shelved) (old new : Option (List ℕ)) (all : Shelved → List ℕ) (i : ℕ) (steps : List Step) (s : State) → length steps ≤ i
@@ -94,13 +99,29 @@ both_none : {A : Type 0} (a b : Option A) → option_or a b ≡ None → (a ≡ 
 both_none None b e = (refl, e)
 both_none (Some x) b e = absurd cc
 
-there_by : (verbs : List Verb) (needed : Option Verb) → lacks verbs needed ≡ None → IfSome needed (λ verb. IsThere verb verbs)
-there_by verbs None e = tt
-there_by verbs (Some verb) e = needed_there verbs verb e
+there_by : (verbs : List Verb) (editor : ℕ) (needed : Option Verb) → 1 ≤ editor → lacks verbs editor needed ≡ None → IfSome needed (λ verb. IsThere verb verbs)
+there_by verbs editor None some e = tt
+there_by verbs editor (Some verb) some e = counted_there verbs verb (omega (arith, some, enough verbs editor verb e))
+
+-- no step of an editor, the first of this one, misses its tool
+pub record NoneMissing (verbs : List Verb) (steps : List Step) : Type 0 where
+  pub editor : ℕ
+  pub some : 1 ≤ editor
+  pub none : missing_from verbs editor steps ≡ None
+
+editor_some : (editor : ℕ) (act : Act) → 1 ≤ editor → IsMeant act → 1 ≤ editor_after editor act
+editor_some editor (Editor n) some meant = meant.0
+editor_some editor act some meant = some
+
+-- what is missing from a step on
+pub missing_at : (verbs : List Verb) (editor i : ℕ) (steps : List Step) (step : Step) → i < length steps → step ≡ get_or steps i step → missing_from verbs editor (drop i steps) ≡ None
+    → (lacks verbs editor (needs step.act) ≡ None) × (missing_from verbs (editor_after editor step.act) (drop (i + 1) steps) ≡ None)
+missing_at verbs editor i steps step h e none =
+    both_none (lacks verbs editor (needs step.act)) (missing_from verbs (editor_after editor step.act) (drop (i + 1) steps)) (sym (ap (missing_from verbs editor) (steps-drop i steps step h e)) ∙ none)
 
 -- the step has its tool, and those behind it
-pub there_at : (verbs : List Verb) (i : ℕ) (steps : List Step) (step : Step) → i < length steps → step ≡ get_or steps i step → missing_verb verbs (drop i steps) ≡ None
-    → IfSome (needs step.act) (λ verb. IsThere verb verbs) × (missing_verb verbs (drop (i + 1) steps) ≡ None)
-there_at verbs i steps step h e none =
-    let both = both_none (lacks verbs (needs step.act)) (missing_verb verbs (drop (i + 1) steps)) (sym (ap (missing_verb verbs) (steps-drop i steps step h e)) ∙ none) in
-    (there_by verbs (needs step.act) both.0, both.1)
+pub there_at : (verbs : List Verb) (i : ℕ) (steps : List Step) (step : Step) → i < length steps → step ≡ get_or steps i step → IsMeant step.act → NoneMissing verbs (drop i steps)
+    → IfSome (needs step.act) (λ verb. IsThere verb verbs) × NoneMissing verbs (drop (i + 1) steps)
+there_at verbs i steps step h e meant before =
+    let both = missing_at verbs before.editor i steps step h e before.none in
+    (there_by verbs before.editor (needs step.act) before.some both.0, record { editor = editor_after before.editor step.act; some = editor_some before.editor step.act before.some meant; none = both.1 })

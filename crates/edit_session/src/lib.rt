@@ -17,16 +17,20 @@
 //! reply is a variant of `Behind`, and a file of another kind one of `Found`.
 #![tactic(auto)]
 
+mod boxes;
 mod counting;
 mod files;
 mod limits;
 mod loading;
+mod meeting;
+mod met_turns;
 mod needs;
 mod printing;
 mod response;
 mod run;
 mod searching;
 mod sending;
+mod sent;
 mod session;
 mod settling;
 mod status;

@@ -10,7 +10,7 @@ ghost use Rattle.import_tool.specs.Counted.{new_objects_of};
 ghost use Rattle.tool_api.specs.declared.job.Job.TheVariants as jobs;
 ghost use Rattle.tool_api.specs.declared.verb.Verb.TheVariants as verbs;
 ghost use Rattle.edit_session.specs.Fetch.{reading};
-ghost use Rattle.edit_session.specs.Load.{job_found, bytes_found, found_in, AreRead, IsFor, MayFind, FinishCause};
+ghost use Rattle.edit_session.specs.Load.{job_found, bytes_found, objects_found, found_in, AreRead, AreServable, IsFor, MayFind, FinishCause};
 ghost use Rattle.edit_session.specs.declared.files.ReadError.TheVariants.{Fault};
 
 use crate::files::{Bytes, Fetched, ReadError, fetch};
@@ -38,6 +38,8 @@ pub enum Found {
     Job(Job),
     /// The bytes of a file that is read with the table at hand: answers, or a saved session.
     Bytes(Bytes),
+    /// The objects of a file that a server gets.
+    Objects(Objects),
 }
 
 /// Reads the file that an act names, piece by piece. In a group that was given up it reads none. It costs what the file
@@ -68,6 +70,12 @@ pub fn find<S: Shelf>(
         Act::ImportFile { name } => find_new(alloc, shelf, name.as_bytes(), limits.file),
         Act::Confirm { name } => find_bytes(alloc, shelf, name.as_bytes(), limits.file),
         Act::Resume { name } => find_bytes(alloc, shelf, name.as_bytes(), limits.file),
+        Act::Serve { name } => find_objects(alloc, shelf, name.as_bytes(), limits.file),
+        Act::Editor { .. } => Ok(Found::Nothing),
+        Act::Fetch { .. } => Ok(Found::Nothing),
+        Act::Send { .. } => Ok(Found::Nothing),
+        Act::Answer => Ok(Found::Nothing),
+        Act::Lost => Ok(Found::Nothing),
         Act::Generate { .. } => Ok(Found::Nothing),
         Act::Begin => Ok(Found::Nothing),
         Act::End => Ok(Found::Nothing),
@@ -129,6 +137,28 @@ fn find_new<S: Shelf>(
             what_is_read_can_be_imported();
             let objects = new_objects(alloc, objects)?;
             Ok(Found::Job(Job::Import { objects }))
+        }
+    }
+}
+
+// The objects of a file that a server gets.
+fn find_objects<S: Shelf>(
+    alloc: Global,
+    shelf: &mut S,
+    name: &[u8],
+    limit: u64,
+) -> Result<Found, ReadError>
+    ensures told { S.told shelf.new ≡ S.told shelf.old }
+    ensures found { IfOk result (λ found. IfSome (S.told shelf.old) (λ files. found ≡ objects_found (option_map (objects_of modes.Download limit) (held files name.now)))) }
+    ensures servable { IfOk result AreServable }
+    ensures cause { HasCauseOf Fault (S.faults shelf.old) (S.faults shelf.new) result }
+{
+    match load(alloc, shelf, name, Mode::Download, limit)? {
+        None => Ok(Found::Nothing),
+        Some(Err(fault)) => Ok(Found::Bad(fault)),
+        Some(Ok(objects)) => {
+            what_is_read_may_be_told();
+            Ok(Found::Objects(objects))
         }
     }
 }

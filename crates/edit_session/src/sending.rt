@@ -10,6 +10,7 @@ ghost use Rattle.saved_session.specs.Saved.{saved, saved_end, saved_head};
 ghost use Rattle.edit_script.specs.Reply.{reply_line};
 ghost use Rattle.edit_session.specs.Planned.{rehearsed_text};
 ghost use Rattle.edit_session.specs.Printed.{lines_of, saved_rest, table_text};
+ghost use Rattle.edit_session.specs.Sent.{sent_text};
 ghost use Rattle.edit_session.specs.Stop.{write_error_of};
 ghost use Rattle.edit_session.specs.Counted.{count_line, count_text};
 ghost use Rattle.edit_session.specs.Searched.{findings_lines, findings_text, found_text};
@@ -18,6 +19,7 @@ ghost use Rattle.edit_session.specs.declared.sending.WriteError.TheVariants.{Fau
 use crate::counting::{write_count, write_count_line};
 use crate::printing::write_entry;
 use crate::searching::{write_findings, write_key_line};
+use crate::sent::write_sent;
 use chunking::{ChunkFault, write_chunks};
 use conflict::{conflicts, write_conflict};
 use dataset::DataSet;
@@ -26,6 +28,7 @@ use map_checks::Findings;
 use osm_base::{Key, Meta};
 use osm_outside::{Failed, Sink, pass_full};
 use saved_session::{write_saved_end, write_saved_entry, write_saved_head};
+use server_world::WorldRefusal;
 use std::alloc::{AllocError, AllocFailed, Global};
 use upload_order::Changes;
 
@@ -260,6 +263,26 @@ pub fn send_rehearsed<K: Sink>(alloc: Global, out: &mut K, count: u64) -> Result
     ensures cause { HasCauseOf Fault (K.faults out.old) (K.faults out.new) result }
 {
     send_count_line(alloc, out, b"rehearse accepted ", count)
+}
+
+/// Sends how many changes a server accepted, and why it refused the next one.
+///
+/// # Errors
+/// The sink failed, or no memory was left. A front of the text may have been written.
+pub fn send_sent<K: Sink>(
+    alloc: Global,
+    out: &mut K,
+    count: u64,
+    refused: Option<WorldRefusal>,
+) -> Result<(), WriteError>
+    ensures ok { OnOk result (Appends (K.taken out.old) (K.taken out.new) (sent_text count refused)) }
+    ensures err { OnErr result (AppendsFront (K.taken out.old) (K.taken out.new) (sent_text count refused)) }
+    ensures cause { HasCauseOf Fault (K.faults out.old) (K.faults out.new) result }
+{
+    let mut text = Vec::new(alloc);
+    write_sent(count, refused, &mut text)?;
+    out.put(&text)?;
+    Ok(())
 }
 
 fn send_count_line<K: Sink>(

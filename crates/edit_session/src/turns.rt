@@ -76,6 +76,12 @@ pub fn take_turn(
         Act::Resume { .. } => resume(alloc, history, found, limits.objects),
         Act::Find(query) => answer_find(history.ds(), query),
         Act::Check => answer_check(history.ds()),
+        Act::Serve { .. } => Ok(Response::alone(StepReply::Skipped)),
+        Act::Editor { .. } => Ok(Response::alone(StepReply::Skipped)),
+        Act::Fetch { .. } => Ok(Response::alone(StepReply::Skipped)),
+        Act::Send { .. } => Ok(Response::alone(StepReply::Skipped)),
+        Act::Answer => Ok(Response::alone(StepReply::Skipped)),
+        Act::Lost => Ok(Response::alone(StepReply::Skipped)),
     }
 }
 
@@ -106,6 +112,12 @@ fn skip(history: &mut History, act: &Act) -> Result<Response, AllocError>
         Act::Resume { .. } => Ok(Response::alone(StepReply::Skipped)),
         Act::Find(_) => Ok(Response::alone(StepReply::Skipped)),
         Act::Check => Ok(Response::alone(StepReply::Skipped)),
+        Act::Serve { .. } => Ok(Response::alone(StepReply::Skipped)),
+        Act::Editor { .. } => Ok(Response::alone(StepReply::Skipped)),
+        Act::Fetch { .. } => Ok(Response::alone(StepReply::Skipped)),
+        Act::Send { .. } => Ok(Response::alone(StepReply::Skipped)),
+        Act::Answer => Ok(Response::alone(StepReply::Skipped)),
+        Act::Lost => Ok(Response::alone(StepReply::Skipped)),
     }
 }
 
@@ -130,6 +142,7 @@ fn take_in(history: &mut History, found: &Found, limit: u64) -> Result<Response,
         Found::Bad(fault) => refuse(history, StepRefusal::BadFile(*fault)),
         Found::Nothing => refuse(history, StepRefusal::NoFile),
         Found::Bytes(_) => refuse(history, StepRefusal::NoFile),
+        Found::Objects(_) => refuse(history, StepRefusal::NoFile),
     }
 }
 
@@ -161,6 +174,7 @@ fn confirm(alloc: Global, history: &mut History, found: &Found) -> Result<Respon
         Found::Bad(fault) => refuse(history, StepRefusal::BadFile(*fault)),
         Found::Nothing => refuse(history, StepRefusal::NoFile),
         Found::Job(_) => refuse(history, StepRefusal::NoFile),
+        Found::Objects(_) => refuse(history, StepRefusal::NoFile),
     }
 }
 
@@ -182,6 +196,7 @@ fn resume(
         Found::Bad(fault) => refuse(history, StepRefusal::BadFile(*fault)),
         Found::Nothing => refuse(history, StepRefusal::NoFile),
         Found::Job(_) => refuse(history, StepRefusal::NoFile),
+        Found::Objects(_) => refuse(history, StepRefusal::NoFile),
     }
 }
 
