@@ -11,6 +11,8 @@ ghost use Rattle.std.specs.Prelude.{◌≡◌, ◌≤◌, ◌⊎◌, [], None, I
 ghost use Rattle.osm_outside.specs.Outside.{Rose};
 ghost use Rattle.command_line.specs.Words.{command_of};
 ghost use Rattle.tool_api.specs.declared.verb.Verb.{Verb};
+ghost use Rattle.edit_session.specs.Met.{AreMetOf};
+ghost use Rattle.edit_session.specs.Needs.{Misses};
 ghost use Rattle.edit_session.specs.Session.{outcome, Agrees, IsAsked, IsEarly};
 ghost use Rattle.edit_session.specs.Uploads.{AreUploadsOf};
 ghost use Rattle.all_tools.specs.Verbs.{all_verbs};
@@ -53,7 +55,7 @@ pub fn run_editor<S: Shelf, K: Sink>(
     ensures asked { IfOk result (IsAsked (S.begun shelf.new)) }
     ensures told { IfOk result (λ _. S.told shelf.new ≡ S.told shelf.old) }
     ensures later { IfOk result (λ _. (S.faults shelf.old ≤ S.faults shelf.new) × (K.faults out.old ≤ K.faults out.new)) }
-    ensures tools { (verb : Verb) → IfOk result (λ status. status ≡ Status.NoTool verb → ⊥) }
+    ensures tools { (verb : Verb) → IfOk result (λ status. status ≡ Status.NoTool verb → Misses all_verbs verb) }
     // It doesn't give up by itself, but for memory.
     ensures complete { IfOk result (λ status. IfSome (S.told shelf.old) (λ files. (outcome all_verbs (map string_bytes words.now) files).0 ≡ Status.Done
         → (Rose (S.faults shelf.old) (S.faults shelf.new) → ⊥) → (Rose (K.faults out.old) (K.faults out.new) → ⊥)
@@ -62,6 +64,10 @@ pub fn run_editor<S: Shelf, K: Sink>(
     // chunks, and each sound server that has the bases, and nothing else that refers to what is deleted, takes each prefix of
     // them whatever fresh ids it picks, and has the edited data after the last.
     ensures uploads { IfOk result (λ status. status ≡ Status.Done → IfSome (S.told shelf.old) (λ files. AreUploadsOf (command_of (map string_bytes words.now)) files)) }
+    // In a meeting nothing is overwritten unseen: the server is sound before each step, each base in each table of each editor is
+    // what the server had in one of its states, and each change of a send that the server accepts finds there what the
+    // editor's table has as base.
+    ensures meetings { IfOk result (λ status. status ≡ Status.Done → IfSome (S.told shelf.old) (λ files. AreMetOf (command_of (map string_bytes words.now)) files)) }
     ensures err { OnErr result ((shelf.new ≡ shelf.old) × (out.new ≡ out.old)) }
 {
     let tools = no_boxes(alloc);

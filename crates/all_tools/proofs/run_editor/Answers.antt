@@ -2,7 +2,8 @@ use Rattle.std.proofs.Common.{◌≡◌, ◌⊎◌, IfSome, map, string_bytes, s
 use Rattle.osm_outside.specs.Outside.{Rose}
 use Rattle.edit_session.specs.declared.status.Status.TheVariants as status
 use Rattle.edit_session.specs.Session.{outcome, Agrees}
-use Rattle.all_tools.proofs.Each.{all_made, none_missed}
+use Rattle.edit_session.specs.Needs.{Misses}
+use Rattle.all_tools.proofs.Each.{all_made}
 use Rattle.all_tools.proofs.run_editor.Goals as goal
 
 pub returns-clause-outcome : goal.returns-clause-outcome
@@ -14,7 +15,7 @@ returns-clause-outcome g c =
 pub returns-clause-tools : goal.returns-clause-tools
 returns-clause-tools g c =
     let all = all_made c.no_boxes-tools.ensures.kinds c.in_ok-tools.ensures.kinds c.in_ok-tools-2.ensures.kinds c.in_ok-tools-3.ensures.kinds c.in_ok-tools-4.ensures.kinds c.in_ok-tools-5.ensures.kinds c.in_ok-tools-6.ensures.kinds c.in_ok-tools-7.ensures.kinds c.in_ok-tools-8.ensures.kinds c.in_ok-tools-9.ensures.kinds c.in_ok-tools-10.ensures.kinds c.in_ok-tools-11.ensures.kinds c.in_ok-tools-12.ensures.kinds c.in_ok-tools-13.ensures.kinds c.in_ok-tools-14.ensures.kinds c.in_ok-tools-15.ensures.kinds in
-    λ verb missed. c.run_session.ensures.no_tool verb missed (none_missed _ verb all)
+    λ verb missed. subst (λ verbs. Misses verbs verb) all (c.run_session.ensures.no_tool verb missed)
 
 pub returns-clause-complete : goal.returns-clause-complete
 returns-clause-complete g c =
