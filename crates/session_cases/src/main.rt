@@ -31,7 +31,7 @@ use running::run_case;
 use std::fs;
 
 /// The bundles of cases, in the order in which they run.
-const BUNDLES: [&str; 44] = [
+const BUNDLES: [&str; 46] = [
     "reading.txt",
     "jobs.txt",
     "groups.txt",
@@ -72,6 +72,8 @@ const BUNDLES: [&str; 44] = [
     "taken_up.txt",
     "bad_saved.txt",
     "unsound_saved.txt",
+    "meetings.txt",
+    "refused_meetings.txt",
     "whole_upload.txt",
     "hostile_files.txt",
     "cut_files.txt",
