@@ -1,8 +1,9 @@
 //! A session with a tool for each verb.
 //!
 //! `run_editor` makes the tools in their boxes and hands them to `run_session`, whose clauses it has, with the verbs of all
-//! commands in place of those of the boxes; so no step misses its tool. A box can't be handed out by the function that
-//! makes it, so the shelf and the sink come in from above, of whatever kind.
+//! commands in place of those of the boxes; so no step of a session of one misses its tool. There is one box of each verb,
+//! so in a meeting the steps of the second to the fourth editor that need a tool do miss it. A box can't be handed out by
+//! the function that makes it, so the shelf and the sink come in from above, of whatever kind.
 //!
 //! To add a tool of a new verb: its line here, and the verb in `specs/Verbs`.
 #![tactic(auto)]
