@@ -126,21 +126,35 @@ one_hashed a b e =
     let lat : a.lat ≡ b.lat = (Decides-int_eq a.lat b.lat).0 h.1 in
     λ i. record { lon = lon i; lat = lat i }
 
+-- what is noted at one place
+noted_alike : (entries : List (Place × Key)) (at there : Coord) → same_coord at there ≡ true → noted_at entries there ≡ noted_at entries at
+noted_alike entries at there same = ap (λ (p : Place). lookup (eq p) entries) (sym (one_hashed at there same))
+
 -- of a node where another one was noted
 there_case : (o : Option Key) (first k : Key) (b : Bool) → (b ≡ true → o ≡ Some first) → o ≡ option_or o (cond b (Some k) None)
 there_case None first k true h = (let e : None ≡ Some first = h refl in cc)
 there_case None first k false h = refl
 there_case (Some j) first k b h = refl
 
-pub noted_before : (t : TableValue) (keys : List Key) (k first : Key) (at : Coord) (entries : List (Place × Key)) → place_at t k ≡ Some at → noted_at entries at ≡ Some first → HasFirst t keys entries → HasFirst t (keys ++ k ∷ []) entries
+noted_before : (t : TableValue) (keys : List Key) (k first : Key) (at : Coord) (entries : List (Place × Key)) → place_at t k ≡ Some at → noted_at entries at ≡ Some first → HasFirst t keys entries → HasFirst t (keys ++ k ∷ []) entries
 noted_before t keys k first at entries is noted h there =
     h there
-    ∙ there_case (first_at t keys there) first k (same_coord at there) (λ same. sym (h there) ∙ ap (λ (p : Place). noted_at_hashed p) (sym (one_hashed at there same)) ∙ noted)
+    ∙ there_case (first_at t keys there) first k (same_coord at there) (λ same. sym (h there) ∙ noted_alike entries at there same ∙ noted)
     ∙ ap (λ (o : Option Coord). option_or (first_at t keys there) (cond (same_place o (Some there)) (Some k) None)) (sym is)
     ∙ sym (find-append (λ j. same_place (place_at t j) (Some there)) keys (k ∷ []))
-  where
-    noted_at_hashed : Place → Option Key
-    noted_at_hashed p = lookup (eq p) entries
+
+back_case : (b : Bool) (first k : Key) (o : Option Key) → (b ≡ true → o ≡ Some first) → cond b (Some first) (cond b (Some k) o) ≡ o
+back_case true first k o h = sym (h refl)
+back_case false first k o h = refl
+
+-- of such a node that is noted in place of the first one, which is then noted again
+pub noted_again : (t : TableValue) (keys : List Key) (k first : Key) (at : Coord) (entries entries₁ entries₂ : List (Place × Key)) → place_at t k ≡ Some at → Some first ≡ noted_at entries at
+    → ((there : Coord) → noted_at entries₁ there ≡ cond (same_coord at there) (Some k) (noted_at entries there))
+    → ((there : Coord) → noted_at entries₂ there ≡ cond (same_coord at there) (Some first) (noted_at entries₁ there)) → HasFirst t keys entries → HasFirst t (keys ++ k ∷ []) entries₂
+noted_again t keys k first at entries entries₁ entries₂ is noted put back h there =
+    back there ∙ ap (cond (same_coord at there) (Some first)) (put there)
+    ∙ back_case (same_coord at there) first k (noted_at entries there) (λ same. noted_alike entries at there same ∙ sym noted)
+    ∙ noted_before t keys k first at entries is (sym noted) h there
 
 -- of the first node at its place
 new_case : (o : Option Key) (k : Key) (b : Bool) → (b ≡ true → o ≡ None) → cond b (Some k) o ≡ option_or o (cond b (Some k) None)
@@ -153,12 +167,9 @@ pub noted_now : (t : TableValue) (keys : List Key) (k : Key) (at : Coord) (entri
     → ((there : Coord) → noted_at entries₁ there ≡ cond (same_coord at there) (Some k) (noted_at entries there)) → HasFirst t keys entries → HasFirst t (keys ++ k ∷ []) entries₁
 noted_now t keys k at entries entries₁ is none put h there =
     put there ∙ ap (cond (same_coord at there) (Some k)) (h there)
-    ∙ new_case (first_at t keys there) k (same_coord at there) (λ same. sym (h there) ∙ ap (λ (p : Place). noted_at_hashed p) (sym (one_hashed at there same)) ∙ none)
+    ∙ new_case (first_at t keys there) k (same_coord at there) (λ same. sym (h there) ∙ noted_alike entries at there same ∙ none)
     ∙ ap (λ (o : Option Coord). option_or (first_at t keys there) (cond (same_place o (Some there)) (Some k) None)) (sym is)
     ∙ sym (find-append (λ j. same_place (place_at t j) (Some there)) keys (k ∷ []))
-  where
-    noted_at_hashed : Place → Option Key
-    noted_at_hashed p = lookup (eq p) entries
 
 -- nothing noted is right of no keys
 pub none_noted : (t : TableValue) (entries : List (Place × Key)) → entries ≡ [] → HasFirst t [] entries

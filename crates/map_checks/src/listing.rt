@@ -32,7 +32,7 @@ fn doubled_nodes(ds: &DataSet, keys: &[Key]) -> Result<Vec<Finding>, AllocError>
     ensures { IfOk result (λ found. found.items ≡ filter_map (doubled_finding ds.now) keys.now) }
 {
     let mut found = Vec::new(ds.alloc());
-    let mut places = Places::new(ds.alloc());
+    let mut places = Places::with_capacity(ds.alloc(), keys.len())?;
     for key in keys {
         let of = places.look_at(ds, *key)?;
         push_doubled(&mut found, *key, of)?;
@@ -100,8 +100,8 @@ fn open_rings(ds: &DataSet, keys: &[Key]) -> Result<Vec<Finding>, AllocError>
 }
 
 /// All findings: the doubled nodes, then the repeated ways, then the open rings, each by rank. It sorts all keys of the
-/// table once, and looks up each node once, each way twice, and the ends of each way of at least three references that ends
-/// elsewhere than it begins; the first node at each place stands in a hash map.
+/// table once, and looks up each node and its place once, each way twice, and the ends of each way of at least three
+/// references that ends elsewhere than it begins; the first node at each place stands in a hash map.
 ///
 /// # Errors
 /// No memory was left.

@@ -58,35 +58,32 @@ pub struct Places {
 }
 
 impl Places {
-    /// No nodes. It takes no memory.
-    pub fn new(alloc: Global) -> Places
-        ensures { result.first.entries ≡ [] }
-    {
-        Places {
-            first: IndexMap::new(alloc),
-        }
-    }
-
-    /// The node that was noted at a place. One look-up.
-    fn noted_at(&self, at: Coord) -> Option<Key>
-        ensures { result ≡ noted_at self.now.first.entries at }
-    {
-        self.first.get(&hashed(at)).copied()
-    }
-
-    /// Notes a node at a place, instead of the one that was noted there, if any.
+    /// No nodes, and room for so many places.
     ///
     /// # Errors
     /// No memory was left.
-    fn note(&mut self, at: Coord, key: Key) -> Result<(), AllocError>
-        ensures { OnOk result ((there : Coord) → noted_at self.new.first.entries there ≡ (if same_coord at there then Some key else noted_at self.old.first.entries there)) }
+    pub fn with_capacity(alloc: Global, places: usize) -> Result<Places, AllocError>
+        ensures { IfOk result (λ none. none.first.entries ≡ []) }
     {
-        self.first.insert(hashed(at), key)?;
-        Ok(())
+        Ok(Places {
+            first: IndexMap::with_capacity(alloc, places)?,
+        })
+    }
+
+    /// Notes a node at a place, and answers the one that was noted there before it, if any. One look-up.
+    ///
+    /// # Errors
+    /// No memory was left.
+    fn note(&mut self, at: Coord, key: Key) -> Result<Option<Key>, AllocError>
+        ensures before { IfOk result (λ before. before ≡ noted_at self.old.first.entries at) }
+        ensures noted { OnOk result ((there : Coord) → noted_at self.new.first.entries there ≡ (if same_coord at there then Some key else noted_at self.old.first.entries there)) }
+    {
+        Ok(self.first.insert(hashed(at), key)?)
     }
 
     /// The first node at the key's place, of the keys that were looked at before, where the key's object is a living node.
-    /// Of these keys the map has the first at each place, and then of this key too. Two look-ups, and one more to note it.
+    /// Of these keys the map has the first at each place, and then of this key too. One look-up of the key, one of its
+    /// place, and one more of the place where a node was there before it.
     ///
     /// # Errors
     /// No memory was left.
@@ -97,11 +94,11 @@ impl Places {
         let Some(at) = place_at(ds, key) else {
             return Ok(None);
         };
-        match self.noted_at(at) {
-            Some(first) => Ok(Some(first)),
-            None => {
-                self.note(at, key)?;
-                Ok(None)
+        match self.note(at, key)? {
+            None => Ok(None),
+            Some(first) => {
+                self.note(at, first)?;
+                Ok(Some(first))
             }
         }
     }
