@@ -79,7 +79,8 @@ all_itself t = record { at = itself t }
 
 -- What is made of a table entry by entry keeps its bases.
 
-not_new : (b : Base) (c : Content) → held_by b ≡ Some c → is_new b ≡ false
+-- what holds a content isn't New
+pub not_new : (b : Base) (c : Content) → held_by b ≡ Some c → is_new b ≡ false
 not_new New c e = cc
 not_new (Live version content meta) c e = refl
 not_new (Gone version meta) c e = refl

@@ -46,7 +46,8 @@ module _ (P : TableValue → Type 0) where
   done_tables Running u s p h = record { past = h.past; now = p; undone = tt; start = h.start }
   done_tables Refused u s p h = h
 
-  refused_tables : (g : Group) (s : State) → EachTable P s → EachTable P (refused_in g s)
+  -- of a job that was refused
+  pub refused_tables : (g : Group) (s : State) → EachTable P s → EachTable P (refused_in g s)
   refused_tables Outside s h = h
   refused_tables Running s h = record { past = h.past; now = h.start; undone = h.undone; start = h.start }
   refused_tables Refused s h = h

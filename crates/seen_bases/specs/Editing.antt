@@ -16,6 +16,10 @@ abbrev pub is_merge : Job → Bool
 is_merge (job.Merge told) = true
 is_merge j = false
 
+-- Whatever the table and the limit, the table after the job keeps the bases of the one before it.
+abbrev pub KeepsAllBases : Job → Type 0
+KeepsAllBases j = (t : TableValue) (limit : ℕ) → KeepsBases t (plain j t limit).table
+
 -- a job with a limit of entries, the three calls of a group, so many steps back or on
 pub data EditStep : Type 0 where
   Run : Job → ℕ → EditStep

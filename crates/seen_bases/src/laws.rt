@@ -1,16 +1,13 @@
 //! What edits keep of the bases.
-ghost use Rattle.std.specs.Prelude.{◌≡◌, ℕ, false};
-ghost use Rattle.osm_table.specs.Table.{TableValue};
+ghost use Rattle.std.specs.Prelude.{◌≡◌, false};
 ghost use Rattle.tool_api.specs.declared.job.Job.{Job};
-ghost use Rattle.tool_api.specs.Plain.{plain};
 ghost use Rattle.edit_history.specs.Machine.{State};
-ghost use Rattle.seen_bases.specs.Bases.{KeepsBases};
-ghost use Rattle.seen_bases.specs.Editing.{EditStep, edited, is_merge, IsEdit, EachTable, KeepsSome};
+ghost use Rattle.seen_bases.specs.Editing.{EditStep, edited, is_merge, IsEdit, EachTable, KeepsAllBases, KeepsSome};
 
 /// Law: no job but a merge puts a base or theirs under a key where the old table doesn't have it, New excepted, and
 /// none makes a table mention a positive key that the old one doesn't mention.
 pub fn jobs_keep_bases()
-    ensures { (j : Job) (t : TableValue) (limit : ℕ) → is_merge j ≡ false → KeepsBases t (plain j t limit).table }
+    ensures { (j : Job) → is_merge j ≡ false → KeepsAllBases j }
 {}
 
 /// Law: each table of an editor after a step that isn't a download keeps the bases of some table before it. So what
