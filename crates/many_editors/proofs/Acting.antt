@@ -8,12 +8,11 @@ use Rattle.osm_base.specs.Tags.{Pair}
 use Rattle.osm_base.specs.declared.area.Area.{Area}
 use Rattle.osm_base.specs.declared.key.Key.{Key}
 use Rattle.osm_table.specs.declared.entry.Entry.{Entry}
-use Rattle.osm_table.specs.Table.{TableValue, IsPositive, entry_of}
+use Rattle.osm_table.specs.Table.{TableValue, entry_of}
 use Rattle.dataset.specs.Sound.{IsSound}
 use Rattle.tool_api.specs.declared.job.Job.TheVariants as job
-use Rattle.edit_history.specs.declared.counts.Group.{Group}
-use Rattle.edit_history.specs.declared.counts.Group.TheVariants.{Outside, Running, Refused}
-use Rattle.edit_history.specs.Machine.{State, refused_in}
+use Rattle.edit_history.specs.declared.counts.Group.TheVariants.{Outside}
+use Rattle.edit_history.specs.Machine.{refused_in}
 use Rattle.upload_order.specs.declared.change.Change.{Change}
 use Rattle.upload_order.specs.declared.refusal.PlanRefusal.{PlanRefusal}
 use Rattle.upload_order.specs.Refused.{upload}
@@ -25,7 +24,8 @@ use Rattle.seen_bases.specs.Bases.{Mentions}
 use Rattle.seen_bases.specs.Bases.Mentions.{has_key}
 use Rattle.seen_bases.specs.Editing.{EditStep, edited, IsEdit, EachTable}
 use Rattle.seen_bases.specs.Editing as step
-use Rattle.seen_bases.proofs.Steps.{edited_tables, merged_tables}
+use Rattle.seen_bases.proofs.Lists.{all_more}
+use Rattle.seen_bases.proofs.Steps.{edited_tables, merged_tables, refused_tables}
 use Rattle.many_editors.specs.declared.act.MeetAct.{MeetAct}
 use Rattle.many_editors.specs.declared.act.MeetAct.TheVariants as act
 use Rattle.many_editors.specs.States.{IsFromStates, IsServer}
@@ -33,15 +33,11 @@ use Rattle.many_editors.specs.Serving.{told_of_state}
 use Rattle.many_editors.specs.Sending.{version_end, ArePicked}
 use Rattle.many_editors.specs.Meeting.{Editor, Meeting, states, at_editor, at_work, first_editor, first_editors, served, stepped}
 use Rattle.many_editors.specs.Acts.{fetch_met, changes_met, send_met, met_at_work, met_waiting, met_by, met_of, met}
+use Rattle.many_editors.specs.Laws.{IsAbsent, IsNewId, IsUnmentioned, MayKeepSound, OfEachTable}
 use Rattle.many_editors.specs.Sound.{MayWait, IsFrom, IsSoundMeeting, KeepsSound}
 use Rattle.many_editors.proofs.Stating.{keeps_states, empty_states, unmentioned}
 use Rattle.many_editors.proofs.Merging.{fetched_states}
-use Rattle.many_editors.proofs.Waiting.{all_map, each_map, here, at_sound, answered_sound, lost_sound, sent_sound}
-
-refused_tables : (P : TableValue → Type 0) (g : Group) (s : State) → EachTable P s → EachTable P (refused_in g s)
-refused_tables P Outside s h = h
-refused_tables P Running s h = record { past = h.past; now = h.start; undone = h.undone; start = h.start }
-refused_tables P Refused s h = h
+use Rattle.many_editors.proofs.Waiting.{each_map, here, at_sound, answered_sound, lost_sound, sent_sound}
 
 module _ (m : Meeting) (s : IsSoundMeeting m) (n : ℕ) (e : Editor) (at : slice_get m.editors n ≡ Some e) where
   tables : EachTable (IsFromStates (states m)) e.state
@@ -106,8 +102,8 @@ of_sound limit n act m s None at may = s
 of_sound limit n act m s (Some e) at may = let x = may e refl in by_sound m s n e at limit act x.0 x.1 e.waits refl
 
 -- A meeting stays sound by each act of an editor whose table is sound.
-pub met_sound : (limit n : ℕ) (act : MeetAct) (m : Meeting) → IsSoundMeeting m → ((e : Editor) → slice_get m.editors n ≡ Some e → IsSound e.state.now) → ((e : Editor) → slice_get m.editors n ≡ Some e → e.waits ≡ None → KeepsSound act e.state m.world) → IsSoundMeeting (met limit n act m).meeting
-met_sound limit n act m s sound may = of_sound limit n act m s (slice_get m.editors n) refl (λ e at. (sound e at, may e at))
+pub met_sound : (limit n : ℕ) (act : MeetAct) (m : Meeting) → IsSoundMeeting m → MayKeepSound n act m → IsSoundMeeting (met limit n act m).meeting
+met_sound limit n act m s may = of_sound limit n act m s (slice_get m.editors n) refl (λ e at. (may.table e at, may.keeps e at))
 
 -- The start.
 
@@ -117,7 +113,7 @@ nothing = fin.empty
 none_stands : (k : Key) → fin.get nothing k ≡ None
 none_stands k = fin.get-empty rank_cmp k
 
-empty_server : IsServer nothing
+pub empty_server : IsServer nothing
 empty_server = record {
   sound = λ k r c h used. none_some c (content_in (fin.get nothing k)) (ap content_in (none_stands k)) h;
   served = λ k e h. none_some e (fin.get nothing k) (none_stands k) h;
@@ -138,17 +134,17 @@ pub first_sound : (n : ℕ) → IsSoundMeeting (served fin.empty n)
 first_sound n = served_sound fin.empty n empty_server
 
 -- A key that a server may give and that doesn't stand in the world is mentioned in no table.
-pub new_to_tables : (m : Meeting) (k : Key) → IsSoundMeeting m → IsPositive k.id → fin.get m.world.entries k ≡ None → AllByRecursion (λ e. EachTable (λ t. Mentions t k → ⊥) e.state) m.editors
-new_to_tables m k s p none =
-    all_map (IsFrom (states m)) (λ e. EachTable (λ t. Mentions t k → ⊥) e.state) m.editors
-    (λ e h. each_map (IsFromStates (states m)) (λ t. Mentions t k → ⊥) e.state (λ t from. unmentioned m.earlier m.world.entries t k s.history.0 from p none) h.tables) s.editors
+pub new_to_tables : (m : Meeting) (k : Key) → IsSoundMeeting m → IsNewId m k → OfEachTable (IsUnmentioned k) m
+new_to_tables m k s new =
+    all_more (IsFrom (states m)) (λ e. EachTable (IsUnmentioned k) e.state)
+    (λ e h. each_map (IsFromStates (states m)) (IsUnmentioned k) e.state (λ t from. unmentioned m.earlier m.world.entries t k s.history.0 from new.positive new.absent) h.tables) m.editors s.editors
 
 not_there : (t : TableValue) (k : Key) (o : Option Entry) → entry_of t k ≡ o → (Mentions t k → ⊥) → o ≡ None
 not_there t k None is h = refl
 not_there t k (Some e) is h = absurd (h (has_key e is))
 
 -- So it stands in none.
-pub absent_from_tables : (m : Meeting) (k : Key) → IsSoundMeeting m → IsPositive k.id → fin.get m.world.entries k ≡ None → AllByRecursion (λ e. EachTable (λ t. entry_of t k ≡ None) e.state) m.editors
-absent_from_tables m k s p none =
-    all_map (λ e. EachTable (λ t. Mentions t k → ⊥) e.state) (λ e. EachTable (λ t. entry_of t k ≡ None) e.state) m.editors
-    (λ e h. each_map (λ t. Mentions t k → ⊥) (λ t. entry_of t k ≡ None) e.state (λ t new. not_there t k (entry_of t k) refl new) h) (new_to_tables m k s p none)
+pub absent_from_tables : (m : Meeting) (k : Key) → IsSoundMeeting m → IsNewId m k → OfEachTable (IsAbsent k) m
+absent_from_tables m k s new =
+    all_more (λ e. EachTable (IsUnmentioned k) e.state) (λ e. EachTable (IsAbsent k) e.state)
+    (λ e h. each_map (IsUnmentioned k) (IsAbsent k) e.state (λ t none. not_there t k (entry_of t k) refl none) h) m.editors (new_to_tables m k s new)

@@ -1,17 +1,14 @@
 -- A meeting begins, editors join it, and it gets its objects.
-use Rattle.std.proofs.Common.{◌≡◌, ℕ, Bool, true, false, cond, List, [], ◌∷◌, ◌++◌, length, map, reverse, fold, slice_get, Option, Some, None, refl, sym, ◌∙◌, ap, subst, arith}
+use Rattle.std.proofs.Common.{◌≡◌, ℕ, true, List, [], ◌∷◌, ◌++◌, length, map, reverse, fold, slice_get, Option, Some, None, refl, sym, ◌∙◌, ap, subst, arith}
 use Rattle.std.specs.List.{AllByRecursion}
 use Rattle.std.specs.FinMap as fin
 use Rattle.std.specs.declared.dyn_box.DynBox.{DynBox}
 use Rattle.std.specs.declared.alloc.Global.{Global}
 use Rattle.std.proofs.lemmas.List.{length-reverse, map-append}
 use Rattle.osm_base.specs.Meta.{empty_meta}
-use Rattle.osm_base.specs.Rank.{rank_cmp, is_key}
-use Rattle.osm_base.specs.RankLaws.{rank_total}
 use Rattle.osm_base.specs.declared.content.Content.{Content}
 use Rattle.osm_base.specs.declared.key.Key.{Key}
 use Rattle.osm_base.specs.declared.meta.Meta.{Meta}
-use Rattle.osm_base.proofs.RisingKeys.{one_key}
 use Rattle.osm_table.specs.Table.{IsPositive}
 use Rattle.osm_table.specs.Told.{IsTold}
 use Rattle.dataset.specs.Patch.{PatchValue}
@@ -21,10 +18,10 @@ use Rattle.edit_history.specs.declared.history.History.{History}
 use Rattle.edit_history.specs.Machine.{first_state}
 use Rattle.edit_history.specs.Shown.{shown, Valid}
 use Rattle.upload_order.specs.Rename.{is_positive}
-use Rattle.upload_order.specs.World.{WorldEntry, IsSoundWorld}
-use Rattle.upload_order.proofs.Basics.{both, none_some}
+use Rattle.upload_order.specs.World.{IsSoundWorld}
 use Rattle.upload_order.proofs.Sounds.{positive_is}
 use Rattle.server_world.specs.Codes.{Objects}
+use Rattle.seen_bases.proofs.Lists.{all_joined}
 use Rattle.many_editors.specs.declared.log.Before.{Before}
 use Rattle.many_editors.specs.declared.meeting.Meeting as held
 use Rattle.many_editors.specs.Earlier.{states_before}
@@ -33,39 +30,27 @@ use Rattle.many_editors.specs.Serving.{entry_served, objects_served}
 use Rattle.many_editors.specs.Shown.{shown_editor, shown_meeting, AreValid, ValidMeeting}
 use Rattle.many_editors.specs.Sound.{IsFrom, IsSoundMeeting}
 use Rattle.many_editors.specs.States.{AreServed, world_of}
+use Rattle.many_editors.proofs.Growing.{put_served}
 use Rattle.many_editors.proofs.Laying.{length_before}
-use Rattle.many_editors.proofs.Lifting.{all_at, all_push}
-use Rattle.many_editors.proofs.Acting.{first_from, first_sound, served_sound}
+use Rattle.many_editors.proofs.Lifting.{all_at}
+use Rattle.many_editors.proofs.Acting.{empty_server, first_from, first_sound, served_sound}
 
 -- one that joins
 pub join_sound : (m : Meeting) → IsSoundMeeting m → IsSoundMeeting (joined m)
-join_sound m sound = record { servers = sound.servers; history = sound.history; editors = all_push (IsFrom (states m)) m.editors first_editor sound.editors (first_from (states m)) }
+join_sound m sound = record { servers = sound.servers; history = sound.history; editors = all_joined (IsFrom (states m)) m.editors (first_editor ∷ []) sound.editors (first_from (states m), tt) }
 
 -- objects that may be told
 without_meta : (k : Key) (v : ℕ) (side : Option Content) (meta : Meta) → IsTold k (told_side v side meta) → IsTold k (told_side v side empty_meta)
 without_meta k v None meta h = h
 without_meta k v (Some c) meta h = h
 
-put_served : (m : Objects) (o : OplObject) → AreServed m → IsTellable o → AreServed (fin.insert m o.key (entry_served o))
-put_served m o are tellable k e is = put_case (is_key k o.key) refl (sym (fin.get-insert rank_total m o.key (entry_served o) k) ∙ is)
-  where
-    put_case : (b : Bool) → is_key k o.key ≡ b → cond b (Some (entry_served o)) (fin.get m k) ≡ Some e → IsTold k (told_side e.version e.content empty_meta)
-    put_case true t h =
-        let same : entry_served o ≡ e = both (entry_served o) e (Some (entry_served o)) refl h in
-        subst (λ (f : WorldEntry). IsTold k (told_side f.version f.content empty_meta)) same
-        (subst (λ q. IsTold q (told_side o.version o.side empty_meta)) (sym (one_key k o.key t)) (without_meta o.key o.version o.side o.meta tellable))
-    put_case false t h = are k e h
-
 all_served : (m : Objects) (os : List OplObject) → AreServed m → AreTellable os → AreServed (fold (λ m o. fin.insert m o.key (entry_served o)) m os)
 all_served m [] are tellable = are
-all_served m (o ∷ os) are tellable = all_served (fin.insert m o.key (entry_served o)) os (put_served m o are tellable.0) tellable.1
-
-empty_served : AreServed fin.empty
-empty_served k e is = none_some e (fin.get fin.empty k) (fin.get-empty rank_cmp k) is
+all_served m (o ∷ os) are tellable = all_served (fin.insert m o.key (entry_served o)) os (put_served m are o.key (entry_served o) (without_meta o.key o.version o.side o.meta tellable.0)) tellable.1
 
 -- The meeting is sound where each reference of a live object is a live object.
 pub serve_sound : (os : List OplObject) (n : ℕ) → AreTellable os → IsSoundWorld (world_of (objects_served os)) → IsSoundMeeting (served (objects_served os) n)
-serve_sound os n tellable sound = served_sound (objects_served os) n (record { sound = sound; served = all_served fin.empty os empty_served tellable })
+serve_sound os n tellable sound = served_sound (objects_served os) n (record { sound = sound; served = all_served fin.empty os empty_server.served tellable })
 
 -- Before the first change the log is empty.
 empty_log : (log : List Before) (m : Objects) → states_before m (reverse log) ≡ [] → log ≡ []
@@ -95,7 +80,7 @@ module _ {X : Type 0} {F : X → Type 0} (done undone : DynBox X Global F → Li
   pub join_valid : (old new : held.Meeting X F) (history : History X F) → new.world ≡ old.world → new.log.items ≡ old.log.items → new.editors.items ≡ old.editors.items ++ record { history = history; answers = None } ∷ []
       → ValidMeeting done undone old → Valid done undone history → shown done undone history ≡ first_state → ValidMeeting done undone new
   join_valid old new history world log editors valid fresh first = record {
-    histories = subst (AllByRecursion (λ e. Valid done undone e.history)) (sym editors) (all_push (λ e. Valid done undone e.history) old.editors.items (record { history = history; answers = None }) valid.histories fresh);
+    histories = subst (AllByRecursion (λ e. Valid done undone e.history)) (sym editors) (all_joined (λ e. Valid done undone e.history) old.editors.items (record { history = history; answers = None } ∷ []) valid.histories (fresh, tt));
     sound = subst IsSoundMeeting (sym (λ i. record {
       world = world i;
       earlier = states_before (world i).entries (reverse (log i));

@@ -7,6 +7,7 @@ use Rattle.std.proofs.lemmas.Result.{IfOk-weaker}
 use Rattle.osm_base.specs.declared.area.Area.{Area}
 use Rattle.dataset.specs.Patch.{PatchValue}
 use Rattle.dataset.specs.Sound.{IsSound}
+use Rattle.dataset.proofs.Drafted.{none_at}
 use Rattle.tool_api.specs.declared.verb.Verb.{Verb}
 use Rattle.edit_history.specs.Machine.{State}
 use Rattle.edit_history.specs.Shown.{shown}
@@ -25,6 +26,7 @@ use Rattle.many_editors.specs.Meeting as seen
 use Rattle.many_editors.specs.Meeting.{states}
 use Rattle.many_editors.specs.Own.{IsOwn, IsTaken, MayOwn, MayOwnBy}
 use Rattle.many_editors.specs.Shown.{shown_editor, shown_meeting, verbs_met, ComesOf, FitsMeeting, MovedMeeting}
+use Rattle.many_editors.specs.Laws.{HasSoundTable}
 use Rattle.many_editors.specs.Sound.{IsSoundMeeting, KeepsSound, MayWait}
 use Rattle.many_editors.proofs.Acting.{met_sound}
 use Rattle.many_editors.proofs.Lifting.{always, shown_at}
@@ -35,10 +37,6 @@ use Rattle.many_editors.proofs.Waiting.{here, sent_finds}
 is_there : {A : Type 0} (o : Option A) → is_some o ≡ true → (x : A) × (o ≡ Some x)
 is_there None e = cc
 is_there (Some x) e = (x, refl)
-
-isnt_there : {A : Type 0} (o : Option A) → is_some o ≡ false → o ≡ None
-isnt_there None e = refl
-isnt_there (Some x) e = cc
 
 -- neither a fetch nor a send
 pub other_own : (a : MeetAct) → ((back : ℕ) (area : Option Area) (wanted : _) → a ≡ act.Fetch back area wanted → ⊥) → ((count : ℕ) → a ≡ act.Send count → ⊥) → IsOwn a
@@ -65,20 +63,8 @@ own_keeps (act.Redo steps) s verbs w own may = tt
 own_keeps act.Answer s verbs w own may = tt
 own_keeps act.Lost s verbs w own may = tt
 
--- no fetch clashes
-never : (limit n : ℕ) (a : MeetAct) (m : seen.Meeting) (r : MeetReply) → IsSoundMeeting m → r ≡ (met limit n a m).reply → NeverClashes a r
-never limit n (act.Fetch back area wanted) m r sound is = λ k version clash. met_calm m sound limit n (act.Fetch back area wanted) k version tt (sym is ∙ clash)
-never limit n (act.Send count) m r sound is = tt
-never limit n (act.Job job) m r sound is = tt
-never limit n act.Begin m r sound is = tt
-never limit n act.GiveUp m r sound is = tt
-never limit n act.End m r sound is = tt
-never limit n (act.Undo steps) m r sound is = tt
-never limit n (act.Redo steps) m r sound is = tt
-never limit n act.Answer m r sound is = tt
-never limit n act.Lost m r sound is = tt
-
-all_seen : (n : ℕ) (a : MeetAct) (m : seen.Meeting) → IsSoundMeeting m → ((e : seen.Editor) → slice_get m.editors n ≡ Some e → IsSound e.state.now) → IsSeen n a m
+-- what a send changes is as the table has it
+pub all_seen : (n : ℕ) (a : MeetAct) (m : seen.Meeting) → IsSoundMeeting m → HasSoundTable n m → IsSeen n a m
 all_seen n (act.Send count) m sound tables = λ e changes at up. sent_finds m sound n e at changes count (tables e at) up
 all_seen n (act.Fetch back area wanted) m sound tables = tt
 all_seen n (act.Job job) m sound tables = tt
@@ -114,7 +100,7 @@ module _ {X : Type 0} {F : X → Type 0} (done undone : DynBox X Global F → Li
   -- One at work.
   module _ (idle : is_some x.answers ≡ false) where
     works : (shown_editor done undone x).waits ≡ None
-    works = ap (λ (o : Option (Vec Answer Global)). option_map (λ (v : Vec Answer Global). v.items) o) (isnt_there x.answers idle)
+    works = ap (λ (o : Option (Vec Answer Global)). option_map (λ (v : Vec Answer Global). v.items) o) (none_at x.answers idle)
 
     may_work : MayWork a (shown_editor done undone x).state (get_or (verbs_met kind old) n [])
     may_work = subst (MayTry a (shown_editor done undone x) (get_or (verbs_met kind old) n [])) works (fits.asked.asked (shown_editor done undone x) shows)
@@ -149,12 +135,12 @@ module _ {X : Type 0} {F : X → Type 0} (done undone : DynBox X Global F → Li
 
     pub step_clash : {E : Type 0} (limit : ℕ) (new : Meeting X F) (result : Result MeetReply E) → MovedMeeting done undone kind old new result (met limit n a) → IfOk result (NeverClashes a)
     step_clash limit new result moved =
-        IfOk-weaker result (λ r. r ≡ (met limit n a (shown_meeting done undone old)).reply) (NeverClashes a) (λ r is. never limit n a (shown_meeting done undone old) r fits.valid.sound is) moved.reply
+        IfOk-weaker result (λ r. r ≡ (met limit n a (shown_meeting done undone old)).reply) (NeverClashes a) (λ r is. subst (NeverClashes a) (sym is) (met_calm (shown_meeting done undone old) fits.valid.sound limit n a)) moved.reply
 
     stays : (limit : ℕ) → ((shown_editor done undone x).waits ≡ None → KeepsSound a (shown_editor done undone x).state old.world) → IsSoundMeeting (met limit n a (shown_meeting done undone old)).meeting
     stays limit keeps =
-        met_sound limit n a (shown_meeting done undone old) fits.valid.sound tables
-        (λ e h waits. subst (λ (g : seen.Editor). KeepsSound a g.state old.world) (is_it e h) (keeps (ap (λ (g : seen.Editor). g.waits) (is_it e h) ∙ waits)))
+        met_sound limit n a (shown_meeting done undone old) fits.valid.sound
+        (record { table = tables; keeps = λ e h waits. subst (λ (g : seen.Editor). KeepsSound a g.state old.world) (is_it e h) (keeps (ap (λ (g : seen.Editor). g.waits) (is_it e h) ∙ waits)) })
 
     pub waiting_moved : {E : Type 0} (limit : ℕ) (new : Meeting X F) (result : Result MeetReply E) → is_some x.answers ≡ true → ComesOf done undone kind old new result (own_act limit n a) → MovedMeeting done undone kind old new result (met limit n a)
     waiting_moved limit new result some comes =

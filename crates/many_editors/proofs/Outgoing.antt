@@ -41,10 +41,9 @@ use Rattle.many_editors.specs.Sending.{version_end, ArePicked}
 use Rattle.many_editors.specs.Serving.{told_objects}
 use Rattle.many_editors.specs.Shown.{shown_editor, shown_meeting, verbs_met, AreValid, ComesOf, FitsEditor, MovedEditor}
 use Rattle.many_editors.specs.States.{IsServer}
+use Rattle.many_editors.proofs.Fetching.{state_tellable}
 use Rattle.many_editors.proofs.Laying.{length_before}
 use Rattle.many_editors.proofs.Lifting.{all_at, all_set, fits_at, lifts, map_same, shown_at, with_set}
-use Rattle.many_editors.proofs.Stating.{server_back}
-use Rattle.many_editors.proofs.Walked.{are_tellable}
 
 same_ok : {A B : Type 0} (r : Result A B) (x y : A) → r ≡ Ok x → r ≡ Ok y → x ≡ y
 same_ok r x y e f = let h : Ok x ≡ Ok y = sym e ∙ f in cc
@@ -68,7 +67,7 @@ told_back w log lent back o same is = is ∙ ap (λ bs. option_map told_objects 
 pub back_tellable : (ms : List Objects) (back : ℕ) (objects : List OplObject) → AllByRecursion IsServer ms → Some objects ≡ option_map told_objects (slice_get ms back) → AreTellable objects
 back_tellable ms back objects servers is =
     let m = told_some _ objects is in
-    subst AreTellable (sym m.2) (are_tellable m.0 (server_back ms back m.0 m.1 servers).served)
+    subst AreTellable (sym m.2) (state_tellable m.0 (all_at IsServer ms back m.0 servers m.1).served)
 
 module _ {X : Type 0} {F : X → Type 0} (done undone : DynBox X Global F → List PatchValue) where
   module _ (old : Meeting X F) (n : ℕ) (x : Editor X F) (at : slice_get old.editors.items n ≡ Some x) where

@@ -22,8 +22,11 @@ use Rattle.many_editors.specs.declared.reply.MeetRefusal.TheVariants.{Tool}
 use Rattle.many_editors.specs.Serving.{told_of_state}
 use Rattle.many_editors.specs.Meeting.{Editor, Meeting, states}
 use Rattle.many_editors.specs.Acts.{replied, fetch_met, met_by, met_of, met}
-use Rattle.many_editors.specs.Sound.{IsSoundMeeting, IsFetch}
-use Rattle.many_editors.proofs.Stating.{was_back, server_back}
+use Rattle.many_editors.specs.Asked.{NeverClashes}
+use Rattle.many_editors.specs.States.{IsServer}
+use Rattle.many_editors.specs.Sound.{IsSoundMeeting}
+use Rattle.many_editors.proofs.Lifting.{all_at}
+use Rattle.many_editors.proofs.Stating.{was_back}
 use Rattle.many_editors.proofs.Fetching.{tells_state}
 use Rattle.many_editors.proofs.Clashing.{no_clash}
 use Rattle.many_editors.proofs.Waiting.{here}
@@ -41,7 +44,7 @@ module _ (m : Meeting) (s : IsSoundMeeting m) (area : Option Area) (wanted : Opt
   -- what a state tells clashes with no editor's table
   pub fetch_calm : (n back : ℕ) (e : Editor) (objects : Objects) → slice_get m.editors n ≡ Some e → slice_get (states m) back ≡ Some objects → clash_test e.state.now (told_of_state objects area wanted).told ≡ None
   fetch_calm n back e objects at get =
-      let server = server_back (states m) back objects get s.servers in
+      let server = all_at IsServer (states m) back objects s.servers get in
       no_clash (states m) s.history objects server.served (was_back (states m) back objects get) e.state.now (here m s n e at).tables.now (told_of_state objects area wanted) (tells_state objects server area wanted)
 
   fetch_reply : (limit n back : ℕ) (e : Editor) (o : Option Objects) → slice_get m.editors n ≡ Some e → slice_get (states m) back ≡ o → IsClash (fetch_met limit n area wanted e.state o m).reply → ⊥
@@ -51,23 +54,23 @@ module _ (m : Meeting) (s : IsSoundMeeting m) (area : Option Area) (wanted : Opt
       merge_reply e.state.now (merged e.state.now told.told) (clash_test e.state.now told.told) (is_full limit (merged e.state.now told.told)) (fetch_calm n back e objects at get) h
 
 module _ (m : Meeting) (s : IsSoundMeeting m) (limit n : ℕ) where
-  by_reply : (act : MeetAct) (e : Editor) (o : Option (List Answer)) → IsFetch act → slice_get m.editors n ≡ Some e → IsClash (met_by limit n act e o m).reply → ⊥
-  by_reply (act.Fetch back area wanted) e None f at h = fetch_reply m s area (option_map (λ tags. tags.now) wanted) limit n back e (slice_get (states m) back) at refl h
-  by_reply (act.Fetch back area wanted) e (Some answers) f at h = let c = h.2 in cc
-  by_reply (act.Job job) e o f at h = absurd f
-  by_reply act.Begin e o f at h = absurd f
-  by_reply act.GiveUp e o f at h = absurd f
-  by_reply act.End e o f at h = absurd f
-  by_reply (act.Undo steps) e o f at h = absurd f
-  by_reply (act.Redo steps) e o f at h = absurd f
-  by_reply (act.Send count) e o f at h = absurd f
-  by_reply act.Answer e o f at h = absurd f
-  by_reply act.Lost e o f at h = absurd f
+  by_reply : (back : ℕ) (area : Option Area) (wanted : _) (e : Editor) (o : Option (List Answer)) → slice_get m.editors n ≡ Some e → IsClash (met_by limit n (act.Fetch back area wanted) e o m).reply → ⊥
+  by_reply back area wanted e None at h = fetch_reply m s area (option_map (λ tags. tags.now) wanted) limit n back e (slice_get (states m) back) at refl h
+  by_reply back area wanted e (Some answers) at h = let c = h.2 in cc
 
-  of_reply : (act : MeetAct) (o : Option Editor) → IsFetch act → slice_get m.editors n ≡ o → IsClash (met_of limit n act o m).reply → ⊥
-  of_reply act None f at h = let c = h.2 in cc
-  of_reply act (Some e) f at h = by_reply act e e.waits f at h
+  of_reply : (back : ℕ) (area : Option Area) (wanted : _) (o : Option Editor) → slice_get m.editors n ≡ o → IsClash (met_of limit n (act.Fetch back area wanted) o m).reply → ⊥
+  of_reply back area wanted None at h = let c = h.2 in cc
+  of_reply back area wanted (Some e) at h = by_reply back area wanted e e.waits at h
 
   -- No fetch is refused since versions clash.
-  pub met_calm : (act : MeetAct) (k : Key) (version : ℕ) → IsFetch act → (met limit n act m).reply ≡ Refused (Tool (VersionClash k version)) → ⊥
-  met_calm act k version f h = of_reply act (slice_get m.editors n) f refl (k, version, h)
+  pub met_calm : (act : MeetAct) → NeverClashes act (met limit n act m).reply
+  met_calm (act.Fetch back area wanted) = λ k version h. of_reply back area wanted (slice_get m.editors n) refl (k, version, h)
+  met_calm (act.Job job) = tt
+  met_calm act.Begin = tt
+  met_calm act.GiveUp = tt
+  met_calm act.End = tt
+  met_calm (act.Undo steps) = tt
+  met_calm (act.Redo steps) = tt
+  met_calm (act.Send count) = tt
+  met_calm act.Answer = tt
+  met_calm act.Lost = tt

@@ -66,10 +66,6 @@ pub record MayServe (objects : List OplObject) (m : Meeting) (verbs : List (List
   pub first : m ≡ first_meeting (length m.editors)
   pub tellable : AreTellable objects
 
--- no act was done yet
-abbrev pub IsUnused : Meeting → List (List Verb) → Type 0
-IsUnused m verbs = m ≡ first_meeting (length m.editors)
-
 -- Nothing is overwritten unseen: what the editor sends finds what its table had seen.
 abbrev pub IsSeen : ℕ → MeetAct → Meeting → Type 0
 IsSeen n (act.Send count) m =

@@ -2,11 +2,9 @@
 --
 -- For example two editors download n1 in version 1 and both move it. The first sends, and its change is accepted as
 -- version 2. The second sends version 1, and is refused: nothing is overwritten unseen.
-use Rattle.std.specs.Prelude.{ℕ, zero, suc, List, [], ◌∷◌, ◌++◌, Option, Some, None, Result, Ok, Err}
+use Rattle.std.specs.Prelude.{◌≡◌, ℕ, zero, suc, List, [], ◌∷◌, ◌++◌, slice_get, Option, Some, None, IfSome, Result, Ok, Err}
 use Rattle.std.specs.FinMap as fin
-use Rattle.osm_table.specs.Told.{ToldValue}
 use Rattle.dataset.specs.Patch.{PatchValue, after_of}
-use Rattle.tool_api.specs.declared.job.Job.TheVariants as job
 use Rattle.edit_history.specs.Machine.{State, first_state, settled}
 use Rattle.upload_order.specs.World.{World}
 use Rattle.server_world.specs.Codes.{Objects}
@@ -14,7 +12,6 @@ use Rattle.placeholder.specs.declared.answer.Answer.{Answer}
 use Rattle.placeholder.specs.declared.fault.ConfirmFault.{ConfirmFault}
 use Rattle.placeholder.specs.Confirm.{confirm}
 use Rattle.seen_bases.specs.Editing.{EditStep, edited}
-use Rattle.seen_bases.specs.Editing as step
 use Rattle.many_editors.specs.Sending.{Sent}
 
 -- An editor; while it waits, the server's answers to what was accepted of its last send.
@@ -31,6 +28,14 @@ pub record Meeting : Type 0 where
 -- All states of the server, the newest first.
 abbrev pub states : Meeting → List Objects
 states m = m.world.entries ∷ m.earlier
+
+-- the editor with this number, from 0
+abbrev pub IsEditor : Meeting → ℕ → Editor → Type 0
+IsEditor m n e = slice_get m.editors n ≡ Some e
+
+-- what holds of it, if it is there
+abbrev pub IfEditor : ℕ → Meeting → (Editor → Type 0) → Type 0
+IfEditor n m P = IfSome (slice_get m.editors n) P
 
 -- an editor that doesn't wait
 abbrev pub at_work : State → Editor
@@ -70,10 +75,6 @@ at_editor n f m = record { world = m.world; earlier = m.earlier; editors = with_
 -- a step of the editor's machine
 abbrev pub stepped : EditStep → Editor → Editor
 stepped act e = record { state = edited act e.state; waits = e.waits }
-
--- a download with at most so many objects in the table
-abbrev pub downloaded : ToldValue → ℕ → Editor → Editor
-downloaded told limit e = stepped (step.Run (job.Merge told) limit) e
 
 -- what was accepted is confirmed for good
 abbrev pub confirmed_state : Result PatchValue ConfirmFault → State → State

@@ -46,8 +46,3 @@ abbrev pub KeepsSound : MeetAct → State → World → Type 0
 KeepsSound (act.Job job) s w = is_merge job.now ≡ false
 KeepsSound (act.Send count) s w = (s.group ≡ Outside) × ((changes : List Change) → upload s.now ≡ Ok changes → version_end (take count changes) ≡ None → ArePicked s.now w (take count changes))
 KeepsSound other s w = Unit {0}
-
--- the act fetches what the server has or had
-abbrev pub IsFetch : MeetAct → Type 0
-IsFetch (act.Fetch back area wanted) = Unit {0}
-IsFetch other = ⊥

@@ -3,11 +3,11 @@ ghost use Rattle.std.specs.Prelude.{◌≡◌, [], Ok, IfOk};
 ghost use Rattle.dataset.specs.Patch.{StandsBefore, after_of};
 ghost use Rattle.dataset.specs.Sound.{IsSound};
 ghost use Rattle.placeholder.specs.Confirm.{confirm};
+ghost use Rattle.many_editors.specs.Boxed.{FitsEditor, MovedEditor};
 ghost use Rattle.many_editors.specs.declared.act.MeetAct.TheVariants as act;
 ghost use Rattle.many_editors.specs.declared.reply.MeetReply.TheVariants.{Done, Refused};
 ghost use Rattle.many_editors.specs.declared.reply.MeetRefusal.TheVariants.{NoState};
 ghost use Rattle.many_editors.specs.Own.{own_met, own_work, own_waiting, own_job, own_undo, own_redo, own_no_state, IsAtWork, IsTaken, IsWaiting, MayOwn, MayOwnCount, MayOwnRun, MayOwnWork};
-ghost use Rattle.many_editors.specs.Shown.{FitsEditor, MovedEditor};
 
 use crate::act::MeetAct;
 use crate::reply::{MeetRefusal, MeetReply};
@@ -31,8 +31,8 @@ impl Editor {
     /// # Errors
     /// No memory was left.
     pub fn act(&mut self, act: &MeetAct, limit: u64) -> Result<MeetReply, AllocError>
-        requires { FitsEditor (λ b. done (b.vtable, b.value)) (λ b. undone (b.vtable, b.value)) (λ b. kind (b.vtable, b.value)) self.old (MayOwn act.now) }
-        ensures { MovedEditor (λ b. done (b.vtable, b.value)) (λ b. undone (b.vtable, b.value)) (λ b. kind (b.vtable, b.value)) self.old self.new result (own_met limit act.now) }
+        requires { FitsEditor done undone kind self.old (MayOwn act.now) }
+        ensures { MovedEditor done undone kind self.old self.new result (own_met limit act.now) }
     {
         match &self.answers {
             None => self.work(act, limit),
@@ -42,8 +42,8 @@ impl Editor {
 
     /// At work.
     fn work(&mut self, act: &MeetAct, limit: u64) -> Result<MeetReply, AllocError>
-        requires fits { FitsEditor (λ b. done (b.vtable, b.value)) (λ b. undone (b.vtable, b.value)) (λ b. kind (b.vtable, b.value)) self.old (MayOwnWork act.now) }
-        ensures { MovedEditor (λ b. done (b.vtable, b.value)) (λ b. undone (b.vtable, b.value)) (λ b. kind (b.vtable, b.value)) self.old self.new result (own_work limit act.now) }
+        requires fits { FitsEditor done undone kind self.old (MayOwnWork act.now) }
+        ensures { MovedEditor done undone kind self.old self.new result (own_work limit act.now) }
     {
         match act {
             MeetAct::Job(job) => self.run(*job, limit),
@@ -70,8 +70,8 @@ impl Editor {
 
     /// Waiting.
     fn wait(&mut self, act: &MeetAct) -> Result<MeetReply, AllocError>
-        requires { FitsEditor (λ b. done (b.vtable, b.value)) (λ b. undone (b.vtable, b.value)) (λ b. kind (b.vtable, b.value)) self.old IsWaiting }
-        ensures { MovedEditor (λ b. done (b.vtable, b.value)) (λ b. undone (b.vtable, b.value)) (λ b. kind (b.vtable, b.value)) self.old self.new result (own_waiting act.now) }
+        requires { FitsEditor done undone kind self.old IsWaiting }
+        ensures { MovedEditor done undone kind self.old self.new result (own_waiting act.now) }
     {
         match act {
             MeetAct::Answer => self.confirm(),
@@ -82,8 +82,8 @@ impl Editor {
 
     /// Takes the answers.
     fn confirm(&mut self) -> Result<MeetReply, AllocError>
-        requires { FitsEditor (λ b. done (b.vtable, b.value)) (λ b. undone (b.vtable, b.value)) (λ b. kind (b.vtable, b.value)) self.old IsWaiting }
-        ensures { MovedEditor (λ b. done (b.vtable, b.value)) (λ b. undone (b.vtable, b.value)) (λ b. kind (b.vtable, b.value)) self.old self.new result (own_waiting act.Answer) }
+        requires { FitsEditor done undone kind self.old IsWaiting }
+        ensures { MovedEditor done undone kind self.old self.new result (own_waiting act.Answer) }
     {
         let Some(answers) = &self.answers else {
             unreachable!()
@@ -96,8 +96,8 @@ impl Editor {
 
     /// Goes on without the answers.
     fn lose(&mut self) -> Result<MeetReply, AllocError>
-        requires { FitsEditor (λ b. done (b.vtable, b.value)) (λ b. undone (b.vtable, b.value)) (λ b. kind (b.vtable, b.value)) self.old IsWaiting }
-        ensures { MovedEditor (λ b. done (b.vtable, b.value)) (λ b. undone (b.vtable, b.value)) (λ b. kind (b.vtable, b.value)) self.old self.new result (own_waiting act.Lost) }
+        requires { FitsEditor done undone kind self.old IsWaiting }
+        ensures { MovedEditor done undone kind self.old self.new result (own_waiting act.Lost) }
     {
         self.answers = None;
         Ok(self.done())
@@ -108,8 +108,8 @@ impl Editor {
     /// # Errors
     /// No memory was left.
     pub fn run(&mut self, job: &Job, limit: u64) -> Result<MeetReply, AllocError>
-        requires { FitsEditor (λ b. done (b.vtable, b.value)) (λ b. undone (b.vtable, b.value)) (λ b. kind (b.vtable, b.value)) self.old (MayOwnRun job.now) }
-        ensures { MovedEditor (λ b. done (b.vtable, b.value)) (λ b. undone (b.vtable, b.value)) (λ b. kind (b.vtable, b.value)) self.old self.new result (own_job limit job.now) }
+        requires { FitsEditor done undone kind self.old (MayOwnRun job.now) }
+        ensures { MovedEditor done undone kind self.old self.new result (own_job limit job.now) }
     {
         match self.history.run(job, limit)? {
             Reply::Done(keys) => Ok(MeetReply::Done(keys)),
@@ -118,8 +118,8 @@ impl Editor {
     }
 
     fn undo(&mut self, n: u64) -> Result<MeetReply, AllocError>
-        requires { FitsEditor (λ b. done (b.vtable, b.value)) (λ b. undone (b.vtable, b.value)) (λ b. kind (b.vtable, b.value)) self.old (MayOwnCount n) }
-        ensures { MovedEditor (λ b. done (b.vtable, b.value)) (λ b. undone (b.vtable, b.value)) (λ b. kind (b.vtable, b.value)) self.old self.new result (own_undo n) }
+        requires { FitsEditor done undone kind self.old (MayOwnCount n) }
+        ensures { MovedEditor done undone kind self.old self.new result (own_undo n) }
     {
         if self.history.undo(n)? {
             Ok(self.done())
@@ -129,8 +129,8 @@ impl Editor {
     }
 
     fn redo(&mut self, n: u64) -> Result<MeetReply, AllocError>
-        requires { FitsEditor (λ b. done (b.vtable, b.value)) (λ b. undone (b.vtable, b.value)) (λ b. kind (b.vtable, b.value)) self.old (MayOwnCount n) }
-        ensures { MovedEditor (λ b. done (b.vtable, b.value)) (λ b. undone (b.vtable, b.value)) (λ b. kind (b.vtable, b.value)) self.old self.new result (own_redo n) }
+        requires { FitsEditor done undone kind self.old (MayOwnCount n) }
+        ensures { MovedEditor done undone kind self.old self.new result (own_redo n) }
     {
         if self.history.redo(n)? {
             Ok(self.done())
@@ -144,8 +144,8 @@ impl Editor {
     /// # Errors
     /// No memory was left.
     pub fn refuse_state(&mut self, count: u64) -> Result<MeetReply, AllocError>
-        requires { FitsEditor (λ b. done (b.vtable, b.value)) (λ b. undone (b.vtable, b.value)) (λ b. kind (b.vtable, b.value)) self.old IsAtWork }
-        ensures { MovedEditor (λ b. done (b.vtable, b.value)) (λ b. undone (b.vtable, b.value)) (λ b. kind (b.vtable, b.value)) self.old self.new result (own_no_state count) }
+        requires { FitsEditor done undone kind self.old IsAtWork }
+        ensures { MovedEditor done undone kind self.old self.new result (own_no_state count) }
     {
         match self.history.group() {
             Group::Running => {

@@ -6,11 +6,12 @@ ghost use Rattle.edit_history.specs.Trail.{KeepNothing};
 ghost use Rattle.server_world.specs.Unsound.{first_unsound};
 ghost use Rattle.many_editors.specs.Acts.{met};
 ghost use Rattle.many_editors.specs.Asked.{MayAct, MayServe, IsSeen, NeverClashes};
+ghost use Rattle.many_editors.specs.Boxed.{shown_meeting, verbs_met, AreValid, ComesOf, FitsMeeting, IsAsked, IsKept, IsServed, KeepsVerbs, MovedMeeting, ValidMeeting};
 ghost use Rattle.many_editors.specs.Lifted.{changes_at, fetched, own_act, sent_at, ArePickedAt, IsAt, IsPickedAt, MayFetch, MaySend};
-ghost use Rattle.many_editors.specs.Meeting.{first_meeting, joined, served};
+ghost use Rattle.many_editors.specs.Meeting.{first_meeting, joined, IfEditor};
 ghost use Rattle.many_editors.specs.Own.{MayOwn};
 ghost use Rattle.many_editors.specs.Serving.{objects_served};
-ghost use Rattle.many_editors.specs.Shown.{shown_meeting, verbs_met, AreValid, ComesOf, FitsMeeting, MovedMeeting, ValidMeeting};
+ghost use Rattle.many_editors.specs.Shown as shown;
 ghost use Rattle.many_editors.specs.States.{world_of};
 
 use crate::act::MeetAct;
@@ -42,9 +43,9 @@ pub struct Meeting {
 impl Meeting {
     /// A server that has nothing, and no editors. It takes no memory.
     pub fn new(alloc: Global) -> Meeting
-        ensures valid { ValidMeeting (λ b. done (b.vtable, b.value)) (λ b. undone (b.vtable, b.value)) result }
-        ensures meeting { shown_meeting (λ b. done (b.vtable, b.value)) (λ b. undone (b.vtable, b.value)) result ≡ first_meeting 0 }
-        ensures verbs { verbs_met (λ b. kind (b.vtable, b.value)) result ≡ [] }
+        ensures valid { ValidMeeting done undone result }
+        ensures meeting { shown_meeting done undone result ≡ first_meeting 0 }
+        ensures verbs { verbs_met kind result ≡ [] }
     {
         Meeting {
             world: World::new(alloc),
@@ -58,12 +59,12 @@ impl Meeting {
     /// # Errors
     /// No memory was left. The meeting isn't used any more then.
     pub fn join(&mut self, tools: Vec<Box<dyn Tool>>) -> Result<(), AllocError>
-        requires valid { ValidMeeting (λ b. done b) (λ b. undone b) self.old }
-        requires dones { KeepNothing (map (λ b. done b) tools.items) }
-        requires undones { KeepNothing (map (λ b. undone b) tools.items) }
-        ensures valid { OnOk result (ValidMeeting (λ b. done b) (λ b. undone b) self.new) }
-        ensures meeting { OnOk result (shown_meeting (λ b. done b) (λ b. undone b) self.new ≡ joined (shown_meeting (λ b. done b) (λ b. undone b) self.old)) }
-        ensures verbs { OnOk result (verbs_met (λ b. kind b) self.new ≡ verbs_met (λ b. kind b) self.old ++ map (λ b. kind b) tools.items ∷ []) }
+        requires valid { shown.ValidMeeting done undone self.old }
+        requires dones { KeepNothing (map done tools.items) }
+        requires undones { KeepNothing (map undone tools.items) }
+        ensures valid { OnOk result (shown.ValidMeeting done undone self.new) }
+        ensures meeting { OnOk result (shown.shown_meeting done undone self.new ≡ joined (shown.shown_meeting done undone self.old)) }
+        ensures verbs { OnOk result (shown.verbs_met kind self.new ≡ shown.verbs_met kind self.old ++ map kind tools.items ∷ []) }
     {
         let alloc = self.alloc();
         self.editors.push(Editor {
@@ -79,13 +80,13 @@ impl Meeting {
     /// # Errors
     /// No memory was left, and nothing has changed.
     pub fn serve(&mut self, objects: &Objects) -> Result<Option<Key>, AllocError>
-        requires fits { FitsMeeting (λ b. done (b.vtable, b.value)) (λ b. undone (b.vtable, b.value)) (λ b. kind (b.vtable, b.value)) self.old (MayServe objects.now) }
-        ensures valid { ValidMeeting (λ b. done (b.vtable, b.value)) (λ b. undone (b.vtable, b.value)) self.new }
-        ensures verbs { verbs_met (λ b. kind (b.vtable, b.value)) self.new ≡ verbs_met (λ b. kind (b.vtable, b.value)) self.old }
+        requires fits { FitsMeeting done undone kind self.old (MayServe objects.now) }
+        ensures valid { ValidMeeting done undone self.new }
+        ensures verbs { KeepsVerbs kind self.old self.new }
         ensures answer { IfOk result (λ answer. answer ≡ first_unsound (world_of (objects_served objects.now))) }
-        ensures meeting { IfOk result (λ answer. IfNone answer (shown_meeting (λ b. done (b.vtable, b.value)) (λ b. undone (b.vtable, b.value)) self.new ≡ served (objects_served objects.now) (length (shown_meeting (λ b. done (b.vtable, b.value)) (λ b. undone (b.vtable, b.value)) self.old).editors))) }
-        ensures unsound { IfOk result (λ answer. IfSome answer (λ key. shown_meeting (λ b. done (b.vtable, b.value)) (λ b. undone (b.vtable, b.value)) self.new ≡ shown_meeting (λ b. done (b.vtable, b.value)) (λ b. undone (b.vtable, b.value)) self.old)) }
-        ensures err { OnErr result (shown_meeting (λ b. done (b.vtable, b.value)) (λ b. undone (b.vtable, b.value)) self.new ≡ shown_meeting (λ b. done (b.vtable, b.value)) (λ b. undone (b.vtable, b.value)) self.old) }
+        ensures meeting { IfOk result (λ answer. IfNone answer (IsServed done undone objects.now self.old self.new)) }
+        ensures unsound { IfOk result (λ answer. IfSome answer (λ key. IsKept done undone self.old self.new)) }
+        ensures err { OnErr result (IsKept done undone self.old self.new) }
     {
         let world = served(self.alloc(), objects.as_slice())?;
         match world.first_unsound()? {
@@ -110,11 +111,11 @@ impl Meeting {
         act: &MeetAct,
         limit: u64,
     ) -> Result<MeetReply, AllocError>
-        requires fits { FitsMeeting (λ b. done (b.vtable, b.value)) (λ b. undone (b.vtable, b.value)) (λ b. kind (b.vtable, b.value)) self.old (MayAct editor act.now) }
+        requires fits { FitsMeeting done undone kind self.old (MayAct editor act.now) }
         // It answers and does what the definition says, and the meeting is sound again.
-        ensures moved { MovedMeeting (λ b. done (b.vtable, b.value)) (λ b. undone (b.vtable, b.value)) (λ b. kind (b.vtable, b.value)) self.old self.new result (met limit editor act.now) }
+        ensures moved { MovedMeeting done undone kind self.old self.new result (met limit editor act.now) }
         // What is sent overwrites nothing unseen.
-        ensures seen { OnOk result (IsSeen editor act.now (shown_meeting (λ b. done (b.vtable, b.value)) (λ b. undone (b.vtable, b.value)) self.old)) }
+        ensures seen { OnOk result (IsSeen editor act.now (shown_meeting done undone self.old)) }
         // A fetch is never refused for a clash of versions.
         ensures clash { IfOk result (NeverClashes act.now) }
     {
@@ -133,31 +134,31 @@ impl Meeting {
 
     /// The data set of an editor.
     pub fn ds(&self, editor: usize) -> &DataSet
-        requires { editor < length (shown_meeting (λ b. done (b.vtable, b.value)) (λ b. undone (b.vtable, b.value)) self.now).editors }
-        ensures { IfSome (slice_get (shown_meeting (λ b. done (b.vtable, b.value)) (λ b. undone (b.vtable, b.value)) self.now).editors editor) (λ e. result.now ≡ e.state.now) }
+        requires { editor < length (shown_meeting done undone self.now).editors }
+        ensures { IfEditor editor (shown_meeting done undone self.now) (λ e. result.now ≡ e.state.now) }
     {
         self.editors[editor].history.ds()
     }
 
     /// Whether an editor has a group open.
     pub fn group(&self, editor: usize) -> Group
-        requires { editor < length (shown_meeting (λ b. done (b.vtable, b.value)) (λ b. undone (b.vtable, b.value)) self.now).editors }
-        ensures { IfSome (slice_get (shown_meeting (λ b. done (b.vtable, b.value)) (λ b. undone (b.vtable, b.value)) self.now).editors editor) (λ e. result ≡ e.state.group) }
+        requires { editor < length (shown_meeting done undone self.now).editors }
+        ensures { IfEditor editor (shown_meeting done undone self.now) (λ e. result ≡ e.state.group) }
     {
         self.editors[editor].history.group()
     }
 
     /// Whether an editor waits for an answer.
     pub fn waits(&self, editor: usize) -> bool
-        requires { editor < length (shown_meeting (λ b. done (b.vtable, b.value)) (λ b. undone (b.vtable, b.value)) self.now).editors }
-        ensures { IfSome (slice_get (shown_meeting (λ b. done (b.vtable, b.value)) (λ b. undone (b.vtable, b.value)) self.now).editors editor) (λ e. result ≡ is_some e.waits) }
+        requires { editor < length (shown_meeting done undone self.now).editors }
+        ensures { IfEditor editor (shown_meeting done undone self.now) (λ e. result ≡ is_some e.waits) }
     {
         self.editors[editor].answers.is_some()
     }
 
     /// The server.
     pub fn world(&self) -> &World
-        ensures { result.now ≡ (shown_meeting (λ b. done (b.vtable, b.value)) (λ b. undone (b.vtable, b.value)) self.now).world }
+        ensures { result.now ≡ (shown_meeting done undone self.now).world }
     {
         &self.world
     }
@@ -168,9 +169,9 @@ impl Meeting {
 
     /// An act that an editor does alone.
     fn own(&mut self, editor: usize, act: &MeetAct, limit: u64) -> Result<MeetReply, AllocError>
-        requires valid { AreValid (λ b. done (b.vtable, b.value)) (λ b. undone (b.vtable, b.value)) self.old }
-        requires asked { IsAt editor (MayOwn act.now) (shown_meeting (λ b. done (b.vtable, b.value)) (λ b. undone (b.vtable, b.value)) self.old) (verbs_met (λ b. kind (b.vtable, b.value)) self.old) }
-        ensures { ComesOf (λ b. done (b.vtable, b.value)) (λ b. undone (b.vtable, b.value)) (λ b. kind (b.vtable, b.value)) self.old self.new result (own_act limit editor act.now) }
+        requires valid { AreValid done undone self.old }
+        requires asked { IsAsked done undone kind self.old (IsAt editor (MayOwn act.now)) }
+        ensures { ComesOf done undone kind self.old self.new result (own_act limit editor act.now) }
     {
         self.editors[editor].act(act, limit)
     }
@@ -184,9 +185,9 @@ impl Meeting {
         wanted: Option<&Tags>,
         limit: u64,
     ) -> Result<MeetReply, AllocError>
-        requires valid { ValidMeeting (λ b. done (b.vtable, b.value)) (λ b. undone (b.vtable, b.value)) self.old }
-        requires asked { IsAt editor MayFetch (shown_meeting (λ b. done (b.vtable, b.value)) (λ b. undone (b.vtable, b.value)) self.old) (verbs_met (λ b. kind (b.vtable, b.value)) self.old) }
-        ensures { ComesOf (λ b. done (b.vtable, b.value)) (λ b. undone (b.vtable, b.value)) (λ b. kind (b.vtable, b.value)) self.old self.new result (fetched limit editor back area (option_copied wanted.entry)) }
+        requires valid { ValidMeeting done undone self.old }
+        requires asked { IsAsked done undone kind self.old (IsAt editor MayFetch) }
+        ensures { ComesOf done undone kind self.old self.new result (fetched limit editor back area (option_copied wanted.entry)) }
     {
         let alloc = self.alloc();
         match objects_before(alloc, &self.world, self.log.as_slice(), back)? {
@@ -200,10 +201,10 @@ impl Meeting {
 
     /// A send of an editor at work.
     fn send(&mut self, editor: usize, count: u32) -> Result<MeetReply, AllocError>
-        requires valid { AreValid (λ b. done (b.vtable, b.value)) (λ b. undone (b.vtable, b.value)) self.old }
-        requires asked { IsAt editor MaySend (shown_meeting (λ b. done (b.vtable, b.value)) (λ b. undone (b.vtable, b.value)) self.old) (verbs_met (λ b. kind (b.vtable, b.value)) self.old) }
-        ensures comes { ComesOf (λ b. done (b.vtable, b.value)) (λ b. undone (b.vtable, b.value)) (λ b. kind (b.vtable, b.value)) self.old self.new result (sent_at editor count) }
-        ensures picked { OnOk result (IsPickedAt editor count (shown_meeting (λ b. done (b.vtable, b.value)) (λ b. undone (b.vtable, b.value)) self.old)) }
+        requires valid { AreValid done undone self.old }
+        requires asked { IsAsked done undone kind self.old (IsAt editor MaySend) }
+        ensures comes { ComesOf done undone kind self.old self.new result (sent_at editor count) }
+        ensures picked { OnOk result (IsPickedAt editor count (shown_meeting done undone self.old)) }
     {
         let changes = match plan(self.editors[editor].history.ds()) {
             Ok(changes) => changes,
@@ -219,10 +220,10 @@ impl Meeting {
 
     /// Sends changes of an editor's plan, of which none is of an object in the last version.
     fn send_changes(&mut self, editor: usize, changes: &[Change]) -> Result<MeetReply, AllocError>
-        requires valid { AreValid (λ b. done (b.vtable, b.value)) (λ b. undone (b.vtable, b.value)) self.old }
-        requires asked { editor < length (shown_meeting (λ b. done (b.vtable, b.value)) (λ b. undone (b.vtable, b.value)) self.old).editors }
-        ensures comes { ComesOf (λ b. done (b.vtable, b.value)) (λ b. undone (b.vtable, b.value)) (λ b. kind (b.vtable, b.value)) self.old self.new result (changes_at editor changes.now) }
-        ensures picked { OnOk result (ArePickedAt editor changes.now (shown_meeting (λ b. done (b.vtable, b.value)) (λ b. undone (b.vtable, b.value)) self.old)) }
+        requires valid { AreValid done undone self.old }
+        requires asked { editor < length (shown_meeting done undone self.old).editors }
+        ensures comes { ComesOf done undone kind self.old self.new result (changes_at editor changes.now) }
+        ensures picked { OnOk result (ArePickedAt editor changes.now (shown_meeting done undone self.old)) }
     {
         let alloc = self.alloc();
         let ds = self.editors[editor].history.ds();
