@@ -1,5 +1,5 @@
 //! Many editors at one server.
-ghost use Rattle.std.specs.Prelude.{◌≡◌, ◌<◌, ◌++◌, ◌∷◌, [], length, map, slice_get, is_some, IfOk, IfSome, IfNone, OnOk, OnErr};
+ghost use Rattle.std.specs.Prelude.{◌≡◌, ◌<◌, ◌++◌, ◌∷◌, [], length, map, is_some, IfOk, IfSome, IfNone, OnOk, OnErr};
 ghost use Rattle.std.specs.Option.{option_copied};
 ghost use Rattle.download.specs.Tell.{AreTellable};
 ghost use Rattle.edit_history.specs.Trail.{KeepNothing};
