@@ -1,8 +1,21 @@
--- The verbs of all commands.
-use Rattle.std.specs.Prelude.{List, [], ◌∷◌}
+-- The verbs of all commands, and of the boxes that a session is given.
+use Rattle.std.specs.Prelude.{◌≡◌, List, [], ◌∷◌, flat_map}
+use Rattle.dataset.specs.Patch.{PatchValue}
 use Rattle.tool_api.specs.declared.verb.Verb.{Verb}
 use Rattle.tool_api.specs.declared.verb.Verb.TheVariants.{Add, Tag, Move, Change, Delete, Erase, Purge, Split, Combine, Reverse, Merge, Import, Resolve, Squeeze, Fuse}
 
 -- in the order of `Verb`
 abbrev pub all_verbs : List Verb
 all_verbs = Add ∷ Tag ∷ Move ∷ Change ∷ Delete ∷ Erase ∷ Purge ∷ Split ∷ Combine ∷ Reverse ∷ Merge ∷ Import ∷ Resolve ∷ Squeeze ∷ Fuse ∷ []
+
+-- a verb for each of the four editors that a meeting may have
+abbrev pub four_of : Verb → List Verb
+four_of verb = verb ∷ verb ∷ verb ∷ verb ∷ []
+
+-- so all verbs
+abbrev pub four_of_each : List Verb
+four_of_each = flat_map four_of all_verbs
+
+-- A tool of this verb has done nothing: what it tells of its verb, of what it did and of what it took back.
+abbrev pub IsNew : (verb kind : Verb) (done undone : List PatchValue) → Type 0
+IsNew verb kind done undone = (kind ≡ verb) × (done ≡ []) × (undone ≡ [])

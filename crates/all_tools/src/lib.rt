@@ -1,22 +1,22 @@
 //! A session with a tool for each verb.
 //!
 //! `run_editor` makes the tools in their boxes and hands them to `run_session`, whose clauses it has, with the verbs of all
-//! commands in place of those of the boxes; so no step of a session of one misses its tool. There is one box of each verb,
-//! so in a meeting the steps of the second to the fourth editor that need a tool do miss it. A box can't be handed out by
-//! the function that makes it, so the shelf and the sink come in from above, of whatever kind.
+//! commands in place of those of the boxes. There is a box of each verb for each of the four editors that a meeting may have,
+//! so no step misses its tool. A box can't be handed out by the function that makes it, so the shelf and the sink come in
+//! from above, of whatever kind.
 //!
-//! To add a tool of a new verb: its line here, and the verb in `specs/Verbs`.
+//! To add a tool of a new verb: its two lines here, the verb in `specs/Verbs`, and the boxes' four lines among the answers.
 #![tactic(auto)]
 
-ghost use Rattle.std.specs.Prelude.{◌≡◌, ◌≤◌, ◌⊎◌, [], None, IfSome, IfOk, OnErr, map, string_bytes};
+ghost use Rattle.std.specs.Prelude.{◌≡◌, ◌≤◌, ◌⊎◌, ◌++◌, None, IfSome, IfOk, OnErr, map, string_bytes};
 ghost use Rattle.osm_outside.specs.Outside.{Rose};
 ghost use Rattle.command_line.specs.Words.{command_of};
 ghost use Rattle.tool_api.specs.declared.verb.Verb.{Verb};
+ghost use Rattle.edit_history.specs.Trail.{KeepNothing};
 ghost use Rattle.edit_session.specs.Met.{AreMetOf};
-ghost use Rattle.edit_session.specs.Needs.{Misses};
 ghost use Rattle.edit_session.specs.Session.{outcome, Agrees, IsAsked, IsEarly};
 ghost use Rattle.edit_session.specs.Uploads.{AreUploadsOf};
-ghost use Rattle.all_tools.specs.Verbs.{all_verbs};
+ghost use Rattle.all_tools.specs.Verbs.{IsNew, four_of, four_of_each};
 
 use conflict::ResolveTool;
 use edit_history::{no_boxes, with_box};
@@ -32,7 +32,7 @@ use tools_delete::{DeleteTool, EraseTool, PurgeTool};
 use way_combine::{CombineTool, ReverseTool};
 use way_split::SplitTool;
 
-/// Runs the session that the words ask for, with a tool for each verb.
+/// Runs the session that the words ask for, with a tool of each verb for each of four editors.
 ///
 /// # Errors
 /// No memory was left for the tools, and then nothing was read or written.
@@ -44,7 +44,7 @@ pub fn run_editor<S: Shelf, K: Sink>(
 ) -> Result<Status, AllocError>
     // Where the shelf tells its files, the status is that of the outcome and the sink took its text; after a fault
     // or want of memory it took a front of the text.
-    ensures outcome { IfOk result (λ status. IfSome (S.told shelf.old) (λ files. Agrees (K.taken out.old) (K.taken out.new) status (outcome all_verbs (map string_bytes words.now) files))) }
+    ensures outcome { IfOk result (λ status. IfSome (S.told shelf.old) (λ files. Agrees (K.taken out.old) (K.taken out.new) status (outcome four_of_each (map string_bytes words.now) files))) }
     ensures read { IfOk result (λ status. status ≡ Status.ReadFault → Rose (S.faults shelf.old) (S.faults shelf.new)) }
     ensures write { IfOk result (λ status. status ≡ Status.WriteFault → Rose (K.faults out.old) (K.faults out.new)) }
     // Words that ask for nothing are bad, unless no memory is left, and then nothing is read or written. No others are.
@@ -56,9 +56,10 @@ pub fn run_editor<S: Shelf, K: Sink>(
     ensures asked { IfOk result (IsAsked (S.begun shelf.new)) }
     ensures told { IfOk result (λ _. S.told shelf.new ≡ S.told shelf.old) }
     ensures later { IfOk result (λ _. (S.faults shelf.old ≤ S.faults shelf.new) × (K.faults out.old ≤ K.faults out.new)) }
-    ensures tools { (verb : Verb) → IfOk result (λ status. status ≡ Status.NoTool verb → Misses all_verbs verb) }
+    // No step misses its tool.
+    ensures tools { (verb : Verb) → IfOk result (λ status. status ≡ Status.NoTool verb → ⊥) }
     // It doesn't give up by itself, but for memory.
-    ensures complete { IfOk result (λ status. IfSome (S.told shelf.old) (λ files. (outcome all_verbs (map string_bytes words.now) files).0 ≡ Status.Done
+    ensures complete { IfOk result (λ status. IfSome (S.told shelf.old) (λ files. (outcome four_of_each (map string_bytes words.now) files).0 ≡ Status.Done
         → (Rose (S.faults shelf.old) (S.faults shelf.new) → ⊥) → (Rose (K.faults out.old) (K.faults out.new) → ⊥)
         → (status ≡ Status.Done) ⊎ (status ≡ Status.Memory))) }
     // Each upload of the run replies ok exactly where nothing refuses the plan of the table. Its text is then the changes in
@@ -72,44 +73,80 @@ pub fn run_editor<S: Shelf, K: Sink>(
     ensures err { OnErr result ((shelf.new ≡ shelf.old) × (out.new ≡ out.old)) }
 {
     let tools = no_boxes(alloc);
-    let tool: Box<AddTool> = boxed(alloc)?;
-    let tools = with_box(tools, Verb::Add, tool)?;
-    let tool: Box<TagTool> = boxed(alloc)?;
-    let tools = with_box(tools, Verb::Tag, tool)?;
-    let tool: Box<MoveTool> = boxed(alloc)?;
-    let tools = with_box(tools, Verb::Move, tool)?;
-    let tool: Box<ChangeTool> = boxed(alloc)?;
-    let tools = with_box(tools, Verb::Change, tool)?;
-    let tool: Box<DeleteTool> = boxed(alloc)?;
-    let tools = with_box(tools, Verb::Delete, tool)?;
-    let tool: Box<EraseTool> = boxed(alloc)?;
-    let tools = with_box(tools, Verb::Erase, tool)?;
-    let tool: Box<PurgeTool> = boxed(alloc)?;
-    let tools = with_box(tools, Verb::Purge, tool)?;
-    let tool: Box<SplitTool> = boxed(alloc)?;
-    let tools = with_box(tools, Verb::Split, tool)?;
-    let tool: Box<CombineTool> = boxed(alloc)?;
-    let tools = with_box(tools, Verb::Combine, tool)?;
-    let tool: Box<ReverseTool> = boxed(alloc)?;
-    let tools = with_box(tools, Verb::Reverse, tool)?;
-    let tool: Box<MergeTool> = boxed(alloc)?;
-    let tools = with_box(tools, Verb::Merge, tool)?;
-    let tool: Box<ImportTool> = boxed(alloc)?;
-    let tools = with_box(tools, Verb::Import, tool)?;
-    let tool: Box<ResolveTool> = boxed(alloc)?;
-    let tools = with_box(tools, Verb::Resolve, tool)?;
-    let tool: Box<SqueezeTool> = boxed(alloc)?;
-    let tools = with_box(tools, Verb::Squeeze, tool)?;
-    let tool: Box<FuseTool> = boxed(alloc)?;
-    let tools = with_box(tools, Verb::Fuse, tool)?;
+    let FourTools(first, second, third, fourth): FourTools<AddTool> = four_tools(alloc)?;
+    let tools = with_four(tools, Verb::Add, first, second, third, fourth)?;
+    let FourTools(first, second, third, fourth): FourTools<TagTool> = four_tools(alloc)?;
+    let tools = with_four(tools, Verb::Tag, first, second, third, fourth)?;
+    let FourTools(first, second, third, fourth): FourTools<MoveTool> = four_tools(alloc)?;
+    let tools = with_four(tools, Verb::Move, first, second, third, fourth)?;
+    let FourTools(first, second, third, fourth): FourTools<ChangeTool> = four_tools(alloc)?;
+    let tools = with_four(tools, Verb::Change, first, second, third, fourth)?;
+    let FourTools(first, second, third, fourth): FourTools<DeleteTool> = four_tools(alloc)?;
+    let tools = with_four(tools, Verb::Delete, first, second, third, fourth)?;
+    let FourTools(first, second, third, fourth): FourTools<EraseTool> = four_tools(alloc)?;
+    let tools = with_four(tools, Verb::Erase, first, second, third, fourth)?;
+    let FourTools(first, second, third, fourth): FourTools<PurgeTool> = four_tools(alloc)?;
+    let tools = with_four(tools, Verb::Purge, first, second, third, fourth)?;
+    let FourTools(first, second, third, fourth): FourTools<SplitTool> = four_tools(alloc)?;
+    let tools = with_four(tools, Verb::Split, first, second, third, fourth)?;
+    let FourTools(first, second, third, fourth): FourTools<CombineTool> = four_tools(alloc)?;
+    let tools = with_four(tools, Verb::Combine, first, second, third, fourth)?;
+    let FourTools(first, second, third, fourth): FourTools<ReverseTool> = four_tools(alloc)?;
+    let tools = with_four(tools, Verb::Reverse, first, second, third, fourth)?;
+    let FourTools(first, second, third, fourth): FourTools<MergeTool> = four_tools(alloc)?;
+    let tools = with_four(tools, Verb::Merge, first, second, third, fourth)?;
+    let FourTools(first, second, third, fourth): FourTools<ImportTool> = four_tools(alloc)?;
+    let tools = with_four(tools, Verb::Import, first, second, third, fourth)?;
+    let FourTools(first, second, third, fourth): FourTools<ResolveTool> = four_tools(alloc)?;
+    let tools = with_four(tools, Verb::Resolve, first, second, third, fourth)?;
+    let FourTools(first, second, third, fourth): FourTools<SqueezeTool> = four_tools(alloc)?;
+    let tools = with_four(tools, Verb::Squeeze, first, second, third, fourth)?;
+    let FourTools(first, second, third, fourth): FourTools<FuseTool> = four_tools(alloc)?;
+    let tools = with_four(tools, Verb::Fuse, first, second, third, fourth)?;
     Ok(run_session(alloc, words, tools, shelf, out))
+}
+
+/// A tool for each of the four editors that a meeting may have.
+struct FourTools<T>(Box<T>, Box<T>, Box<T>, Box<T>);
+
+/// Tools that have done nothing, in their boxes.
+fn four_tools<C: Command>(alloc: Global) -> Result<FourTools<Undoable<C>>, AllocError>
+    ensures first { IfOk result (λ four. IsNew C.kind (⟦<Undoable<C> as Tool>⟧.kind four.0.value) (⟦<Undoable<C> as Tool>⟧.done four.0.value) (⟦<Undoable<C> as Tool>⟧.undone four.0.value)) }
+    ensures second { IfOk result (λ four. IsNew C.kind (⟦<Undoable<C> as Tool>⟧.kind four.1.value) (⟦<Undoable<C> as Tool>⟧.done four.1.value) (⟦<Undoable<C> as Tool>⟧.undone four.1.value)) }
+    ensures third { IfOk result (λ four. IsNew C.kind (⟦<Undoable<C> as Tool>⟧.kind four.2.value) (⟦<Undoable<C> as Tool>⟧.done four.2.value) (⟦<Undoable<C> as Tool>⟧.undone four.2.value)) }
+    ensures fourth { IfOk result (λ four. IsNew C.kind (⟦<Undoable<C> as Tool>⟧.kind four.3.value) (⟦<Undoable<C> as Tool>⟧.done four.3.value) (⟦<Undoable<C> as Tool>⟧.undone four.3.value)) }
+{
+    Ok(FourTools(boxed(alloc)?, boxed(alloc)?, boxed(alloc)?, boxed(alloc)?))
 }
 
 /// A tool that has done nothing, in a box.
 fn boxed<C: Command>(alloc: Global) -> Result<Box<Undoable<C>>, AllocError>
-    ensures done { IfOk result (λ b. ⟦<Undoable<C> as Tool>⟧.done b.value ≡ []) }
-    ensures undone { IfOk result (λ b. ⟦<Undoable<C> as Tool>⟧.undone b.value ≡ []) }
-    ensures kind { IfOk result (λ b. ⟦<Undoable<C> as Tool>⟧.kind b.value ≡ C.kind) }
+    ensures { IfOk result (λ b. IsNew C.kind (⟦<Undoable<C> as Tool>⟧.kind b.value) (⟦<Undoable<C> as Tool>⟧.done b.value) (⟦<Undoable<C> as Tool>⟧.undone b.value)) }
 {
     Ok(Box::new(alloc, Undoable::new(alloc))?)
+}
+
+/// The boxes and four more, of tools for the jobs of this verb that have done nothing yet.
+fn with_four(
+    tools: Vec<Box<dyn Tool>>,
+    verb: Verb,
+    first: Box<dyn Tool>,
+    second: Box<dyn Tool>,
+    third: Box<dyn Tool>,
+    fourth: Box<dyn Tool>,
+) -> Result<Vec<Box<dyn Tool>>, AllocError>
+    requires dones { KeepNothing (map (λ b. done b) tools.items) }
+    requires undones { KeepNothing (map (λ b. undone b) tools.items) }
+    requires first { IsNew verb (kind first) (done first) (undone first) }
+    requires second { IsNew verb (kind second) (done second) (undone second) }
+    requires third { IsNew verb (kind third) (done third) (undone third) }
+    requires fourth { IsNew verb (kind fourth) (done fourth) (undone fourth) }
+    ensures dones { IfOk result (λ more. KeepNothing (map (λ b. done b) more.items)) }
+    ensures undones { IfOk result (λ more. KeepNothing (map (λ b. undone b) more.items)) }
+    ensures kinds { IfOk result (λ more. map (λ b. kind b) more.items ≡ map (λ b. kind b) tools.items ++ four_of verb) }
+{
+    let tools = with_box(tools, verb, first)?;
+    let tools = with_box(tools, verb, second)?;
+    let tools = with_box(tools, verb, third)?;
+    with_box(tools, verb, fourth)
 }

@@ -7,8 +7,6 @@
 ghost use Rattle.std.specs.Prelude.{◌≡◌, ◌⊎◌, None, IfOk, map, string_bytes};
 ghost use Rattle.command_line.specs.Words.{command_of};
 ghost use Rattle.tool_api.specs.declared.verb.Verb.{Verb};
-ghost use Rattle.edit_session.specs.Needs.{Misses};
-ghost use Rattle.all_tools.specs.Verbs.{all_verbs};
 
 use all_tools::run_editor;
 use edit_session::Status;
@@ -42,7 +40,7 @@ fn words(rt: &HostRuntime) -> io::Result<Vec<String>> {
 fn run_with(rt: &HostRuntime, words: &[String]) -> Result<Status, AllocError>
     ensures words { IfOk result (λ status. status ≡ Status.BadWords → command_of (map string_bytes words.now) ≡ None) }
     ensures bad_words { IfOk result (λ status. command_of (map string_bytes words.now) ≡ None → (status ≡ Status.BadWords) ⊎ (status ≡ Status.Memory)) }
-    ensures tools { (verb : Verb) → IfOk result (λ status. status ≡ Status.NoTool verb → Misses all_verbs verb) }
+    ensures tools { (verb : Verb) → IfOk result (λ status. status ≡ Status.NoTool verb → ⊥) }
 {
     let mut shelf = HostShelf::new(rt.clone()?);
     let mut out = HostSink::new(io::writer(rt));
