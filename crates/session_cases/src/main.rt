@@ -31,7 +31,7 @@ use running::run_case;
 use std::fs;
 
 /// The bundles of cases, in the order in which they run.
-const BUNDLES: [&str; 46] = [
+const BUNDLES: [&str; 47] = [
     "reading.txt",
     "jobs.txt",
     "groups.txt",
@@ -73,6 +73,7 @@ const BUNDLES: [&str; 46] = [
     "bad_saved.txt",
     "unsound_saved.txt",
     "meetings.txt",
+    "several_editors.txt",
     "refused_meetings.txt",
     "whole_upload.txt",
     "hostile_files.txt",
