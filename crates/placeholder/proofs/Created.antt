@@ -309,12 +309,6 @@ module _ (k : Key) (p : ℤ) (negative : is_positive k.id ≡ false) where
       mine_kept : renamed f c ≡ c
       mine_kept = renamed_free c (not_refers c k (λ h. true_false (is_positive k.id) (positive_ref k h) negative))
 
-      -- a base stays as it is
-      old_held : (j : Key) (g : Entry) (d : Content) → entry_of t j ≡ Some g → held_of (moved_entry f g) ≡ Some d → held_of g ≡ Some d
-      old_held j g d h m =
-          let x = some_of (held_of g) d (sym (moved_held f g) ∙ m) in
-          x.1 ∙ ap (λ (y : Content). Some y) (sym (renamed_free x.0 (base_free j g x.0 h x.1).0) ∙ x.2)
-
       positive_key : (r : Key) → refers c r ≡ true → IsPositive r.id
       positive_key r h = elim (s.refs k r e c entry mine h) [
         | inl i ↦ (let x = passed is_incomplete (entry_of t r) i in given_id t is r x.0 x.1 (inl x.2))

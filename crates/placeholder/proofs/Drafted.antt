@@ -1,17 +1,34 @@
 -- What is drafted where an answer isn't taken.
-use Rattle.std.proofs.Common.{◌≡◌, ℕ, zero, suc, ◌+◌, ◌<◌, drop, get_or, length, List, [], ◌∷◌, Option, Result, Ok, Err, refl, sym, ◌∙◌, ap, subst, arith}
+use Rattle.std.proofs.Common.{◌≡◌, ℕ, ℤ, zero, suc, ◌+◌, ◌<◌, drop, get_or, length, List, [], ◌∷◌, Option, Some, Result, Ok, Err, refl, sym, ◌∙◌, ap, subst, arith}
 use Rattle.std.specs.List.{slice_get}
 use Rattle.std.proofs.Math.Seq.{drop-cons}
 use Rattle.std.specs.FinMap as fin
-use Rattle.osm_table.specs.Table.{TableValue}
+use Rattle.osm_base.specs.declared.key.Key.{Key}
+use Rattle.osm_base.specs.declared.content.Content.{Content}
+use Rattle.osm_table.specs.declared.entry.Entry.{Entry}
+use Rattle.osm_table.specs.Table.{TableValue, entry_of, with_entry, without_entry, users}
 use Rattle.dataset.specs.Draft.{DraftValue, drafted}
+use Rattle.dataset.specs.Exact.{mine_at}
 use Rattle.dataset.proofs.Changes.{drafted_none}
 use Rattle.placeholder.specs.declared.fault.ConfirmFault.{ConfirmFault}
 use Rattle.placeholder.specs.declared.fault.ConfirmFault.TheVariants.{Plan, WrongAnswer, IdTaken, Memory}
 use Rattle.upload_order.specs.declared.change.Change.{Change}
+use Rattle.upload_order.specs.Rename.{with_id}
+use Rattle.renamed_content.specs.Renamed.{renamed}
 use Rattle.placeholder.specs.declared.answer.Answer.{Answer}
 use Rattle.placeholder.specs.Confirm.{Drafts, and_then, taken_at, first_change, other_changes}
-use Rattle.placeholder.specs.Drafting.{answered_by, drafts_from}
+use Rattle.placeholder.specs.Confirmed.{made_entry, moved}
+use Rattle.placeholder.specs.Drafting.{all_moved, answered_by, drafts_from, made, made_from}
+
+-- the table after an object got its id, by its steps
+pub made_goes : (t u u1 u2 : TableValue) (k : Key) (id n : ℤ) (us : List Key) (c d : Content) (e : Entry) → n ≡ id → us ≡ users t k → mine_at (entry_of u k) ≡ Some c
+    → u1 ≡ all_moved (moved k n) u us → u2 ≡ without_entry u1 k → d ≡ renamed (moved k n) c → e ≡ made_entry d
+    → with_entry u2 (with_id k n) e ≡ made t u k id
+made_goes t u u1 u2 k id n us c d e same all mine moves leaves names stands =
+    (λ i. with_entry (leaves i) (with_id k n) (stands i))
+    ∙ (λ i. with_entry (without_entry (moves i) k) (with_id k n) (made_entry (names i)))
+    ∙ (λ i. with_entry (without_entry (all_moved (moved k (same i)) u (all i)) k) (with_id k (same i)) (made_entry (renamed (moved k (same i)) c)))
+    ∙ ap (made_from u k id (users t k)) (sym mine)
 
 -- the draft that changes nothing
 pub start_is : (t : TableValue) (d : DraftValue) → d ≡ record { puts = fin.empty; next = t.next } → drafted d t ≡ t

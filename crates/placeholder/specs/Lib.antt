@@ -4,3 +4,4 @@ pub mod Resumed
 pub mod Confirm
 pub mod Drafting
 pub mod Answered
+pub mod Laws

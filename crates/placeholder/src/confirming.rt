@@ -1,13 +1,12 @@
 //! The confirmed table, or why answers are not taken.
 ghost use Rattle.std.specs.Prelude.{◌≡◌, slice_get, length, IfOk, IfErr, Ok};
-ghost use Rattle.osm_table.specs.Table.{entry_of};
 ghost use Rattle.dataset.specs.Draft.{drafted};
 ghost use Rattle.dataset.specs.Patch.{StandsBefore, after_of};
 ghost use Rattle.dataset.specs.Sound.{IsSound};
 ghost use Rattle.upload_order.specs.Refused.{upload};
 ghost use Rattle.std.specs.Option.{option_copied};
-ghost use Rattle.placeholder.specs.Confirm.{Confirms, Drafts, IsNumbered, confirm, confirms, is_taken, key_given, taken_at};
-ghost use Rattle.placeholder.specs.Drafting.{answered_by, drafts_from};
+ghost use Rattle.placeholder.specs.Confirm.{Confirms, Drafts, IsNumbered, confirm, confirms, is_taken, key_given};
+ghost use Rattle.placeholder.specs.Drafting.{after_answer, drafts_from};
 
 use crate::answer::{Answer, is_answer};
 use crate::drafting::answered_by;
@@ -45,7 +44,7 @@ fn take(
     answer: Answer,
     number: u64,
 ) -> Result<Draft, ConfirmFault>
-    ensures { Drafts ds.now result (taken_at number (drafted draft ds.now) (option_copied change.entry) answer (answered_by ds.now (drafted draft ds.now) answer)) }
+    ensures { Drafts ds.now result (after_answer ds.now number (drafted draft ds.now) (option_copied change.entry) answer) }
 {
     let Some(change) = change else {
         return Err(ConfirmFault::WrongAnswer { number });

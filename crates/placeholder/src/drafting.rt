@@ -1,16 +1,8 @@
 //! A draft that takes answers.
-ghost use Rattle.std.specs.Prelude.{◌≡◌, ◌+◌, ◌<◌, IfOk, Option, Some, None};
-ghost use Rattle.std.specs.Option.{option_copied};
-ghost use Rattle.osm_base.specs.Meta.{empty_meta};
-ghost use Rattle.osm_base.specs.declared.content.Content.{Content};
-ghost use Rattle.osm_table.specs.declared.entry.Base.TheVariants.{Live, Gone};
-ghost use Rattle.osm_table.specs.Table.{entry_of, with_entry, without_entry, users};
+ghost use Rattle.osm_table.specs.Table.{with_entry, without_entry};
 ghost use Rattle.dataset.specs.Draft.{drafted};
-ghost use Rattle.dataset.specs.Exact.{mine_at};
-ghost use Rattle.upload_order.specs.Rename.{with_id};
-ghost use Rattle.renamed_content.specs.Renamed.{renamed};
 ghost use Rattle.placeholder.specs.Confirmed.{based_on, made_entry, moved};
-ghost use Rattle.placeholder.specs.Drafting.{all_moved, answered_by, made_from, mine_moved_at, sent_content};
+ghost use Rattle.placeholder.specs.Drafting.{DraftsTable, Gives, all_moved, answered_by, changed, deleted, drafted_entry, drafted_mine, made, mine_moved, sent_content};
 
 use crate::answer::Answer;
 use crate::renaming::{renamed, with_mine};
@@ -21,14 +13,14 @@ use std::alloc::{AllocError, Global};
 
 /// With one entry set.
 fn with_entry(mut draft: Draft, ds: &DataSet, key: Key, entry: Entry) -> Result<Draft, AllocError>
-    ensures { IfOk result (λ d. drafted d ds.now ≡ with_entry (drafted draft ds.now) key entry) }
+    ensures { DraftsTable ds.now result (with_entry (drafted draft ds.now) key entry) }
 {
     draft.put(key, Some(entry))?;
     Ok(draft)
 }
 
 fn without_entry(mut draft: Draft, ds: &DataSet, key: Key) -> Result<Draft, AllocError>
-    ensures { IfOk result (λ d. drafted d ds.now ≡ without_entry (drafted draft ds.now) key) }
+    ensures { DraftsTable ds.now result (without_entry (drafted draft ds.now) key) }
 {
     draft.put(key, None)?;
     Ok(draft)
@@ -41,7 +33,7 @@ fn moved_at(
     placeholder: Key,
     id: i64,
 ) -> Result<Draft, AllocError>
-    ensures { IfOk result (λ d. drafted d ds.now ≡ mine_moved_at (moved placeholder id) (drafted draft ds.now) user (entry_of (drafted draft ds.now) user)) }
+    ensures { DraftsTable ds.now result (mine_moved (moved placeholder id) (drafted draft ds.now) user) }
 {
     let Some(entry) = draft.entry(ds, user) else {
         return Ok(draft);
@@ -57,7 +49,7 @@ fn all_moved(
     placeholder: Key,
     id: i64,
 ) -> Result<Draft, AllocError>
-    ensures { IfOk result (λ d. drafted d ds.now ≡ all_moved (moved placeholder id) (drafted draft ds.now) users.now) }
+    ensures { DraftsTable ds.now result (all_moved (moved placeholder id) (drafted draft ds.now) users.now) }
 {
     let mut moved = draft;
     for user in users {
@@ -67,7 +59,7 @@ fn all_moved(
 }
 
 fn mine_at(draft: &Draft, ds: &DataSet, key: Key) -> Result<Option<Content>, AllocError>
-    ensures { IfOk result (λ mine. mine ≡ mine_at (entry_of (drafted draft.now ds.now) key)) }
+    ensures { Gives result (drafted_mine draft.now ds.now key) }
 {
     let Some(entry) = draft.entry(ds, key) else {
         return Ok(None);
@@ -80,7 +72,7 @@ fn mine_at(draft: &Draft, ds: &DataSet, key: Key) -> Result<Option<Content>, All
 
 /// The draft after the object of a placeholder got its id.
 fn made(draft: Draft, ds: &DataSet, placeholder: Key, id: i64) -> Result<Draft, AllocError>
-    ensures { IfOk result (λ d. drafted d ds.now ≡ made_from (drafted draft ds.now) placeholder id (users ds.now placeholder) (mine_at (entry_of (drafted draft ds.now) placeholder))) }
+    ensures { DraftsTable ds.now result (made ds.now (drafted draft ds.now) placeholder id) }
 {
     let alloc = ds.alloc();
     let Some(content) = mine_at(&draft, ds, placeholder)? else {
@@ -98,7 +90,7 @@ fn made(draft: Draft, ds: &DataSet, placeholder: Key, id: i64) -> Result<Draft, 
 
 /// The entry of a key on another base.
 fn based_on(draft: &Draft, ds: &DataSet, key: Key, base: Base) -> Result<Entry, AllocError>
-    ensures { IfOk result (λ e. e ≡ based_on base (entry_of (drafted draft.now ds.now) key)) }
+    ensures { Gives result (based_on base (drafted_entry draft.now ds.now key)) }
 {
     let Some(entry) = draft.entry(ds, key) else {
         return Ok(Entry::Incomplete);
@@ -114,7 +106,7 @@ fn based_on(draft: &Draft, ds: &DataSet, key: Key, base: Base) -> Result<Entry, 
 }
 
 fn sent_content(draft: &Draft, ds: &DataSet, key: Key) -> Result<Content, AllocError>
-    ensures { IfOk result (λ c. c ≡ sent_content (mine_at (entry_of (drafted draft.now ds.now) key))) }
+    ensures { Gives result (sent_content (drafted_mine draft.now ds.now key)) }
 {
     let alloc = ds.alloc();
     match mine_at(draft, ds, key)? {
@@ -127,7 +119,7 @@ fn sent_content(draft: &Draft, ds: &DataSet, key: Key) -> Result<Content, AllocE
 }
 
 fn changed(draft: Draft, ds: &DataSet, key: Key, version: u32) -> Result<Draft, AllocError>
-    ensures { IfOk result (λ d. drafted d ds.now ≡ with_entry (drafted draft ds.now) key (based_on (Live version (sent_content (mine_at (entry_of (drafted draft ds.now) key))) empty_meta) (entry_of (drafted draft ds.now) key))) }
+    ensures { DraftsTable ds.now result (changed (drafted draft ds.now) key version) }
 {
     let base = Base::Live {
         version,
@@ -139,7 +131,7 @@ fn changed(draft: Draft, ds: &DataSet, key: Key, version: u32) -> Result<Draft, 
 }
 
 fn deleted(draft: Draft, ds: &DataSet, key: Key, version: u32) -> Result<Draft, AllocError>
-    ensures { IfOk result (λ d. drafted d ds.now ≡ with_entry (drafted draft ds.now) key (based_on (Gone version empty_meta) (entry_of (drafted draft ds.now) key))) }
+    ensures { DraftsTable ds.now result (deleted (drafted draft ds.now) key version) }
 {
     let base = Base::Gone {
         version,
@@ -154,7 +146,7 @@ fn deleted(draft: Draft, ds: &DataSet, key: Key, version: u32) -> Result<Draft, 
 /// # Errors
 /// No memory was left.
 pub fn answered_by(draft: Draft, ds: &DataSet, answer: Answer) -> Result<Draft, AllocError>
-    ensures { IfOk result (λ d. drafted d ds.now ≡ answered_by ds.now (drafted draft ds.now) answer) }
+    ensures { DraftsTable ds.now result (answered_by ds.now (drafted draft ds.now) answer) }
 {
     match answer {
         Answer::Create { placeholder, id } => made(draft, ds, placeholder, id),
@@ -164,7 +156,7 @@ pub fn answered_by(draft: Draft, ds: &DataSet, answer: Answer) -> Result<Draft, 
 }
 
 fn made_entry(alloc: Global, content: Content) -> Result<Entry, AllocError>
-    ensures { IfOk result (λ e. e ≡ made_entry content) }
+    ensures { Gives result (made_entry content) }
 {
     let mine = content.copy()?;
     let base = Base::Live {

@@ -3,7 +3,7 @@ ghost use Rattle.std.specs.Prelude.{◌≡◌, map, IfOk};
 ghost use Rattle.std.specs.Option.{option_map};
 ghost use Rattle.renamed_content.specs.Renamed.{renamed};
 ghost use Rattle.placeholder.specs.Confirmed.{moved};
-ghost use Rattle.placeholder.specs.Drafting.{with_mine, moved_member, moved_node};
+ghost use Rattle.placeholder.specs.Drafting.{Gives, with_mine, moved_member, moved_node};
 
 use osm_base::{Content, Key, Kind, Member, Members, Refs, same_key};
 use osm_table::{Entry, SharedEntry};
@@ -47,7 +47,7 @@ fn moved_refs(
 
 #[tactic(auto, unfolding(crate::specs::Drafting::moved_member))]
 fn moved_member(member: &Member, placeholder: Key, id: i64) -> Result<Member, AllocError>
-    ensures { IfOk result (λ m. m ≡ moved_member placeholder id member.now) }
+    ensures { Gives result (moved_member placeholder id member.now) }
 {
     let key = Key {
         kind: member.key.kind,
@@ -85,7 +85,7 @@ pub fn renamed(
     placeholder: Key,
     id: i64,
 ) -> Result<Content, AllocError>
-    ensures { IfOk result (λ c. c ≡ renamed (moved placeholder id) content.now) }
+    ensures { Gives result (renamed (moved placeholder id) content.now) }
 {
     match content {
         Content::Node { tags, at } => Ok(Content::Node {
@@ -113,7 +113,7 @@ pub fn with_mine(
     placeholder: Key,
     id: i64,
 ) -> Result<Entry, AllocError>
-    ensures { IfOk result (λ e. e ≡ with_mine (moved placeholder id) entry.now) }
+    ensures { Gives result (with_mine (moved placeholder id) entry.now) }
 {
     match entry.to_entry()? {
         Entry::Incomplete => Ok(Entry::Incomplete),
@@ -135,7 +135,7 @@ fn renamed_mine(
     placeholder: Key,
     id: i64,
 ) -> Result<Option<Content>, AllocError>
-    ensures { IfOk result (λ m. m ≡ option_map (renamed (moved placeholder id)) mine) }
+    ensures { Gives result (option_map (renamed (moved placeholder id)) mine) }
 {
     match mine {
         None => Ok(None),
