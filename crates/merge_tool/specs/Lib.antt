@@ -1,2 +1,5 @@
+pub mod Drafts
+pub mod Laws
+pub mod Outcomes
 pub mod Passes
 pub mod Walks

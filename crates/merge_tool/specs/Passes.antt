@@ -7,20 +7,31 @@ use Rattle.std.specs.List.{list_any}
 use Rattle.std.specs.Option.{option_map, option_map_or, option_and_then}
 use Rattle.std.specs.FinMap as fin
 use Rattle.osm_base.specs.Rank.{is_key}
+use Rattle.osm_base.specs.declared.content.Content.{Content}
 use Rattle.osm_base.specs.declared.key.Key.{Key}
 use Rattle.osm_table.specs.declared.entry.Why.TheVariants.{Held}
 use Rattle.osm_table.specs.declared.entry.Entry.{Entry}
 use Rattle.osm_table.specs.declared.entry.Entry.TheVariants.{Incomplete, Known}
 use Rattle.osm_table.specs.Table.{TableValue, entry_of, with_entry, users, base_of, version_of}
-use Rattle.osm_table.specs.Told.{ToldEntries}
+use Rattle.osm_table.specs.Told.{ToldEntries, told_of}
+use Rattle.dataset.specs.Exact.{mine_at}
+use Rattle.merge_cases.specs.declared.verdict.Verdict.{Verdict}
 use Rattle.closure.specs.Closure.{has}
-use Rattle.tool_api.specs.Staged.{stage_of, verdict_at, theirs_at, is_clash, refs_by, against, bared}
+use Rattle.tool_api.specs.Staged.{stage_of, staged, verdict_at, theirs_at, theirs_told, is_candidate, is_clash, refs_by, against, bared}
 use Rattle.tool_api.specs.Merged.{both_keys, firm_content}
 
 -- a new entry, or none where the old one stays
 abbrev pub Gives : Option Entry → Option Entry → Option Entry → Type 0
 Gives old new None = new ≡ old
 Gives old new (Some e) = new ≡ Some e
+
+-- what a case makes of an entry and of what is told
+abbrev pub CaseGives : Verdict → Option Entry → Entry → Option Entry → Type 0
+CaseGives verdict old news new = Gives old (staged verdict old (theirs_told (told_of news))) new
+
+-- the content of an entry that is no candidate
+abbrev pub firm_mine : Verdict → Option Entry → Option Content
+firm_mine verdict entry = if is_candidate verdict then None else mine_at entry
 
 -- a table with a new entry, if there is one
 abbrev pub noted : TableValue → Key → Option Entry → TableValue

@@ -1,10 +1,11 @@
 //! Versions that clash.
-ghost use Rattle.std.specs.Prelude.{◌≡◌, IfOk, filter, slice_get};
+ghost use Rattle.std.specs.Prelude.{◌≡◌, IfOk, slice_get};
 ghost use Rattle.std.specs.Option.{option_copied};
 ghost use Rattle.osm_base.specs.declared.key.Key.{Key};
 ghost use Rattle.osm_base.specs.Order.{ranked};
 ghost use Rattle.tool_api.specs.Merged.{clash_of, clash_test};
-ghost use Rattle.merge_tool.specs.Passes.{is_clashing, version_told};
+ghost use Rattle.merge_tool.specs.Drafts.{clashing_keys};
+ghost use Rattle.merge_tool.specs.Passes.{version_told};
 
 use dataset::DataSet;
 use osm_base::{Key, ranked};
@@ -21,7 +22,7 @@ pub fn clash_test(
     told: &ToldMap,
     clashes: Vec<Key>,
 ) -> Result<Option<Refusal>, AllocError>
-    requires clashes { clashes.items ≡ filter (is_clashing ds.now told.now.told) told.now.order }
+    requires clashes { clashes.items ≡ clashing_keys ds.now told.now }
     ensures { IfOk result (λ r. r ≡ clash_test ds.now told.now.told) }
 {
     told.sound();

@@ -5,8 +5,8 @@ ghost use Rattle.osm_table.specs.Table.{held_by};
 ghost use Rattle.osm_table.specs.Told.{told_of, entry_told};
 ghost use Rattle.dataset.specs.Exact.{mine_at};
 ghost use Rattle.merge_cases.specs.Case.{verdict_of};
-ghost use Rattle.tool_api.specs.Staged.{theirs_told, against, withdrawn, with_theirs, all_joined, staged, back, lost_of, is_dead};
-ghost use Rattle.merge_tool.specs.Passes.{Gives};
+ghost use Rattle.tool_api.specs.Staged.{theirs_told, against, withdrawn, with_theirs, all_joined, back, lost_of, is_dead};
+ghost use Rattle.merge_tool.specs.Passes.{CaseGives};
 
 use merge_cases::{Verdict, joined};
 use osm_base::Content;
@@ -25,7 +25,7 @@ pub fn staged(
 ) -> Result<Option<SharedEntry>, AllocError>
     requires case { verdict ≡ verdict_of (option_copied old) (told_of news.now) }
     requires told { entry_told (told_of news.now) ≡ news.now }
-    ensures { IfOk result (λ new. Gives (option_copied old.entry) (staged verdict (option_copied old.entry) (theirs_told (told_of news.now))) new) }
+    ensures { IfOk result (λ new. CaseGives verdict (option_copied old.entry) news.now new) }
 {
     match verdict {
         Verdict::Stay => Ok(None),

@@ -1,16 +1,13 @@
 //! The candidates that are held.
-ghost use Rattle.std.specs.Prelude.{◌≡◌, ◌++◌, ◌∷◌, [], ◌↔◌, true, IfOk, OnOk, filter};
+ghost use Rattle.std.specs.Prelude.{◌≡◌, ◌++◌, ◌∷◌, [], IfOk, OnOk, filter};
 ghost use Rattle.std.specs.List.{flat_map};
 ghost use Rattle.osm_base.specs.Rank.{is_key};
-ghost use Rattle.osm_base.specs.declared.key.Key.{Key};
-ghost use Rattle.osm_table.specs.Table.{entry_of};
-ghost use Rattle.dataset.specs.Draft.{drafted};
 ghost use Rattle.dataset.specs.Sound.{IsSound};
-ghost use Rattle.tool_api.specs.Staged.{stage_of, bared};
-ghost use Rattle.tool_api.specs.Merged.{both_keys, held, named_by_wanted, named_by_held};
-ghost use Rattle.closure.specs.Closure.{has, Chain};
-ghost use Rattle.merge_tool.specs.Walks.{mine_refs, going_links};
-ghost use Rattle.merge_tool.specs.Passes.{has_untold_user, held_starts, is_going, firm_refs};
+ghost use Rattle.closure.specs.Closure.{has};
+ghost use Rattle.merge_tool.specs.Drafts.{AreGoing, AreHeld, AreHeldEnds, AreWantedNames, NamesEnter, firm_names};
+ghost use Rattle.merge_tool.specs.Outcomes.{is_held_name};
+ghost use Rattle.merge_tool.specs.Walks.{mine_refs};
+ghost use Rattle.merge_tool.specs.Passes.{has_untold_user, held_starts};
 
 use crate::entries::mine;
 use crate::naming::name_all;
@@ -140,11 +137,11 @@ pub fn hold(
     late: &[Key],
 ) -> Result<IndexSet<Key>, AllocError>
     requires sound { IsSound ds.now }
-    requires candidates { (k : Key) → has is_key candidates.now.keys k ≡ is_going ds.now told.now.told k }
-    requires names { names.now ≡ flat_map (firm_refs ds.now told.now.told) told.now.order }
-    requires late { (k : Key) → has is_key late.now k ≡ named_by_wanted (stage_of ds.now told.now.told) (both_keys ds.now told.now.told) k }
-    ensures held { IfOk result (λ h. (k : Key) → has is_key h.keys k ≡ has is_key (held (stage_of ds.now told.now.told) (both_keys ds.now told.now.told)) k) }
-    ensures entries { IfOk result (λ h. (k : Key) → entry_of (drafted draft.new ds.now) k ≡ bared (named_by_held (stage_of ds.now told.now.told) (both_keys ds.now told.now.told) k) (entry_of (drafted draft.old ds.now) k)) }
+    requires candidates { AreGoing ds.now told.now candidates.now.keys }
+    requires names { names.now ≡ firm_names ds.now told.now }
+    requires late { AreWantedNames ds.now told.now late.now }
+    ensures held { IfOk result (λ h. AreHeld ds.now told.now h.keys) }
+    ensures entries { IfOk result (λ h. NamesEnter ds.now (is_held_name ds.now told.now.told) draft.old draft.new) }
     ensures number { IfOk result (λ h. draft.new.next ≡ draft.old.next) }
 {
     told.sound();
@@ -167,7 +164,7 @@ fn held_walk(
     names: &[Key],
     late: &[Key],
 ) -> Result<IndexSet<Key>, AllocError>
-    ensures { IfOk result (λ marks. (k : Key) → (has is_key marks.keys k ≡ true) ↔ Chain (has is_key (held_starts ds.now told.now.told candidates.now.keys names.now late.now)) (λ j. has is_key (going_links candidates.now.keys ds.now j)) k) }
+    ensures { IfOk result (λ marks. AreHeldEnds ds.now told.now candidates.now.keys names.now late.now marks.keys) }
 {
     let starts = held_starts(ds, told, candidates, names, late)?;
     reach(ds.alloc(), &starts, &CandidateLinks { ds, candidates })

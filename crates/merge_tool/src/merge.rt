@@ -1,14 +1,9 @@
 //! Takes in a download.
-ghost use Rattle.std.specs.Prelude.{◌≡◌, IfOk, filter};
-ghost use Rattle.std.specs.List.{flat_map};
-ghost use Rattle.osm_base.specs.declared.key.Key.{Key};
-ghost use Rattle.osm_table.specs.Table.{entry_of};
-ghost use Rattle.dataset.specs.Draft.{drafted};
+ghost use Rattle.std.specs.Prelude.{◌≡◌, IfOk};
 ghost use Rattle.dataset.specs.Sound.{IsSound};
-ghost use Rattle.tool_api.specs.Staged.{stage_of};
-ghost use Rattle.tool_api.specs.Merged.{merge, both_keys, final};
+ghost use Rattle.tool_api.specs.Merged.{merge};
 ghost use Rattle.tool_api.specs.Planned.{Plans};
-ghost use Rattle.merge_tool.specs.Passes.{early, firm_refs, is_going};
+ghost use Rattle.merge_tool.specs.Drafts.{IsMerged, IsStaged, firm_names, going_keys};
 
 use crate::clash::clash_test;
 use crate::holding::hold;
@@ -32,10 +27,10 @@ fn merged(
     candidates: &[Key],
 ) -> Result<Draft, AllocError>
     requires sound { IsSound ds.now }
-    requires entries { (k : Key) → entry_of (drafted staged ds.now) k ≡ early ds.now told.now.told k }
-    requires names { names.now ≡ flat_map (firm_refs ds.now told.now.told) told.now.order }
-    requires candidates { candidates.now ≡ filter (is_going ds.now told.now.told) told.now.order }
-    ensures entries { IfOk result (λ draft. (k : Key) → entry_of (drafted draft ds.now) k ≡ final (stage_of ds.now told.now.told) (both_keys ds.now told.now.told) k) }
+    requires entries { IsStaged ds.now told.now staged }
+    requires names { names.now ≡ firm_names ds.now told.now }
+    requires candidates { candidates.now ≡ going_keys ds.now told.now }
+    ensures entries { IfOk result (λ draft. IsMerged ds.now told.now draft) }
     ensures number { IfOk result (λ draft. draft.next ≡ staged.next) }
 {
     told.sound();

@@ -1,12 +1,10 @@
 //! What living objects refer to.
-ghost use Rattle.std.specs.Prelude.{◌≡◌, ◌++◌, ◌∷◌, [], if◌then◌else◌, true, is_some, IfOk, OnOk, filter};
+ghost use Rattle.std.specs.Prelude.{◌≡◌, ◌++◌, ◌∷◌, [], OnOk, filter};
 ghost use Rattle.std.specs.Option.{option_copied};
 ghost use Rattle.osm_base.specs.Rank.{is_key};
-ghost use Rattle.osm_base.specs.declared.key.Key.{Key};
-ghost use Rattle.osm_table.specs.Table.{entry_of};
 ghost use Rattle.dataset.specs.Draft.{drafted};
 ghost use Rattle.closure.specs.Closure.{has};
-ghost use Rattle.tool_api.specs.Staged.{bared};
+ghost use Rattle.merge_tool.specs.Drafts.{NamesEnter};
 ghost use Rattle.merge_tool.specs.Walks.{is_lost};
 ghost use Rattle.merge_tool.specs.Passes.{is_there};
 
@@ -27,7 +25,7 @@ pub fn name_all(
     names: &[Key],
     out: &mut Vec<Key>,
 ) -> Result<(), AllocError>
-    ensures entries { OnOk result ((q : Key) → entry_of (drafted draft.new ds.now) q ≡ bared (has is_key names.now q) (entry_of (drafted draft.old ds.now) q)) }
+    ensures entries { OnOk result (NamesEnter ds.now (has is_key names.now) draft.old draft.new) }
     ensures lost { OnOk result (out.new.items ≡ out.old.items ++ filter (is_lost (drafted draft.old ds.now)) names.now) }
     ensures number { OnOk result (draft.new.next ≡ draft.old.next) }
 {
@@ -38,7 +36,7 @@ pub fn name_all(
 }
 
 fn name(ds: &DataSet, draft: &mut Draft, key: Key, out: &mut Vec<Key>) -> Result<(), AllocError>
-    ensures entries { OnOk result ((q : Key) → entry_of (drafted draft.new ds.now) q ≡ bared (is_key q key) (entry_of (drafted draft.old ds.now) q)) }
+    ensures entries { OnOk result (NamesEnter ds.now (λ q. is_key q key) draft.old draft.new) }
     ensures lost { OnOk result (out.new.items ≡ out.old.items ++ filter (is_lost (drafted draft.old ds.now)) (key ∷ [])) }
     ensures number { OnOk result (draft.new.next ≡ draft.old.next) }
 {

@@ -1,15 +1,13 @@
 //! The outcome of each case.
-ghost use Rattle.std.specs.Prelude.{◌≡◌, ◌++◌, ◌∷◌, [], if◌then◌else◌, Some, None, List, IfOk, OnOk, filter};
-ghost use Rattle.std.specs.List.{flat_map, list_any};
+ghost use Rattle.std.specs.Prelude.{◌≡◌, ◌++◌, ◌∷◌, [], Some, IfOk, OnOk, filter};
 ghost use Rattle.std.specs.Option.{option_copied, option_or};
-ghost use Rattle.osm_base.specs.declared.key.Key.{Key};
-ghost use Rattle.osm_table.specs.Table.{TableValue, entry_of};
+ghost use Rattle.osm_table.specs.Table.{TableValue};
 ghost use Rattle.osm_table.specs.Told.{told_of, told_at, entry_told};
 ghost use Rattle.dataset.specs.Draft.{drafted};
-ghost use Rattle.dataset.specs.Exact.{mine_at};
 ghost use Rattle.dataset.specs.Sound.{IsSound};
 ghost use Rattle.tool_api.specs.Staged.{is_candidate, is_clash, refs_by};
-ghost use Rattle.merge_tool.specs.Passes.{IsPassed, noted, new_bared, early, firm_refs, has_untold_user, is_going, is_clashing};
+ghost use Rattle.merge_tool.specs.Drafts.{IsStaged, StagesNext, clashing_keys, firm_names, going_keys};
+ghost use Rattle.merge_tool.specs.Passes.{noted, new_bared, firm_mine, firm_refs, has_untold_user, is_going, is_clashing};
 
 use crate::entries::{is_gone, mine, staged};
 use dataset::{DataSet, Draft};
@@ -37,10 +35,10 @@ impl Staging {
     /// # Errors
     /// No memory was left.
     pub fn of(ds: &DataSet, told: &ToldMap) -> Result<Staging, AllocError>
-        ensures entries { IfOk result (λ s. (k : Key) → entry_of (drafted s.draft ds.now) k ≡ early ds.now told.now.told k) }
-        ensures names { IfOk result (λ s. s.names.items ≡ flat_map (firm_refs ds.now told.now.told) told.now.order) }
-        ensures candidates { IfOk result (λ s. s.candidates.items ≡ filter (is_going ds.now told.now.told) told.now.order) }
-        ensures clashes { IfOk result (λ s. s.clashes.items ≡ filter (is_clashing ds.now told.now.told) told.now.order) }
+        ensures entries { IfOk result (λ s. IsStaged ds.now told.now s.draft) }
+        ensures names { IfOk result (λ s. s.names.items ≡ firm_names ds.now told.now) }
+        ensures candidates { IfOk result (λ s. s.candidates.items ≡ going_keys ds.now told.now) }
+        ensures clashes { IfOk result (λ s. s.clashes.items ≡ clashing_keys ds.now told.now) }
         ensures number { IfOk result (λ s. s.draft.next ≡ ds.now.next) }
     {
         let mut staging = Staging {
@@ -68,7 +66,7 @@ impl Staging {
         requires sound { IsSound ds.now }
         requires told { told_at told.now key ≡ Some (told_of news.now) }
         requires news { entry_told (told_of news.now) ≡ news.now }
-        ensures entries { OnOk result ((ks : List Key) → IsPassed (entry_of ds.now) (early ds.now told.now.told) ks (drafted self.old.draft ds.now) → IsPassed (entry_of ds.now) (early ds.now told.now.told) (ks ++ key ∷ []) (drafted self.new.draft ds.now)) }
+        ensures entries { OnOk result (StagesNext ds.now told.now key self.old.draft self.new.draft) }
         ensures names { OnOk result (self.new.names.items ≡ self.old.names.items ++ firm_refs ds.now told.now.told key) }
         ensures candidates { OnOk result (self.new.candidates.items ≡ self.old.candidates.items ++ filter (is_going ds.now told.now.told) (key ∷ [])) }
         ensures clashes { OnOk result (self.new.clashes.items ≡ self.old.clashes.items ++ filter (is_clashing ds.now told.now.told) (key ∷ [])) }
@@ -125,7 +123,7 @@ fn push_firm(
     after: Option<&SharedEntry>,
     out: &mut Vec<Key>,
 ) -> Result<(), AllocError>
-    ensures { OnOk result (out.new.items ≡ out.old.items ++ refs_by (if is_candidate verdict then None else mine_at (option_copied after.entry))) }
+    ensures { OnOk result (out.new.items ≡ out.old.items ++ refs_by (firm_mine verdict (option_copied after.entry))) }
 {
     match verdict {
         Verdict::Candidate => Ok(()),

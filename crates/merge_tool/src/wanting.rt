@@ -1,15 +1,9 @@
 //! The lost objects that are wanted.
-ghost use Rattle.std.specs.Prelude.{◌≡◌, ◌++◌, ◌∷◌, [], ◌↔◌, true, IfOk, OnOk, filter};
+ghost use Rattle.std.specs.Prelude.{◌≡◌, ◌++◌, ◌∷◌, [], IfOk, OnOk, filter};
 ghost use Rattle.std.specs.List.{flat_map};
-ghost use Rattle.osm_base.specs.Rank.{is_key};
-ghost use Rattle.osm_base.specs.declared.key.Key.{Key};
-ghost use Rattle.osm_table.specs.Table.{entry_of};
 ghost use Rattle.dataset.specs.Draft.{drafted};
 ghost use Rattle.dataset.specs.Sound.{IsSound};
-ghost use Rattle.tool_api.specs.Staged.{stage_of, bared};
-ghost use Rattle.tool_api.specs.Merged.{both_keys, wanted, named_by_wanted};
-ghost use Rattle.closure.specs.Closure.{has, Chain};
-ghost use Rattle.merge_tool.specs.Passes.{early, firm_refs};
+ghost use Rattle.merge_tool.specs.Drafts.{AreEnds, AreWanted, AreWantedNames, BothEnter, IsStaged, firm_names};
 ghost use Rattle.merge_tool.specs.Walks.{is_lost, lost_refs, lost_links};
 
 use crate::entries::{is_lost, lost};
@@ -85,11 +79,11 @@ pub fn want(
     names: &[Key],
 ) -> Result<Wanted, AllocError>
     requires sound { IsSound ds.now }
-    requires entries { (k : Key) → entry_of (drafted draft.old ds.now) k ≡ early ds.now told.now.told k }
-    requires names { names.now ≡ flat_map (firm_refs ds.now told.now.told) told.now.order }
-    ensures wanted { IfOk result (λ w. (k : Key) → has is_key w.keys.keys k ≡ has is_key (wanted (stage_of ds.now told.now.told) (both_keys ds.now told.now.told)) k) }
-    ensures names { IfOk result (λ w. (k : Key) → has is_key w.names.items k ≡ named_by_wanted (stage_of ds.now told.now.told) (both_keys ds.now told.now.told) k) }
-    ensures entries { IfOk result (λ w. (k : Key) → entry_of (drafted draft.new ds.now) k ≡ bared (has is_key w.names.items k) (bared (has is_key names.now k) (entry_of (drafted draft.old ds.now) k))) }
+    requires entries { IsStaged ds.now told.now draft.old }
+    requires names { names.now ≡ firm_names ds.now told.now }
+    ensures wanted { IfOk result (λ w. AreWanted ds.now told.now w.keys.keys) }
+    ensures names { IfOk result (λ w. AreWantedNames ds.now told.now w.names.items) }
+    ensures entries { IfOk result (λ w. BothEnter ds.now names.now w.names.items draft.old draft.new) }
     ensures number { IfOk result (λ w. draft.new.next ≡ draft.old.next) }
 {
     told.sound();
@@ -107,7 +101,7 @@ pub fn want(
 /// # Errors
 /// No memory was left.
 fn lost_walk(ds: &DataSet, draft: &Draft, starts: &[Key]) -> Result<IndexSet<Key>, AllocError>
-    ensures { IfOk result (λ marks. (k : Key) → (has is_key marks.keys k ≡ true) ↔ Chain (has is_key starts.now) (λ j. has is_key (lost_links (drafted draft.now ds.now) j)) k) }
+    ensures { IfOk result (λ marks. AreEnds starts.now (lost_links (drafted draft.now ds.now)) marks.keys) }
 {
     reach(ds.alloc(), starts, &LostLinks { ds, draft })
 }

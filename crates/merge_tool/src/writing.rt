@@ -1,12 +1,8 @@
 //! What is written at the end: what comes back, is held or goes.
-ghost use Rattle.std.specs.Prelude.{◌≡◌, ◌∷◌, [], if◌then◌else◌, true, Some, IfOk, OnOk};
-ghost use Rattle.std.specs.Option.{option_map};
+ghost use Rattle.std.specs.Prelude.{◌≡◌, true, Some, IfOk, OnOk};
 ghost use Rattle.osm_base.specs.Rank.{is_key};
-ghost use Rattle.osm_base.specs.declared.key.Key.{Key};
-ghost use Rattle.osm_table.specs.Table.{entry_of};
-ghost use Rattle.dataset.specs.Draft.{drafted};
 ghost use Rattle.closure.specs.Closure.{has};
-ghost use Rattle.tool_api.specs.Staged.{back};
+ghost use Rattle.merge_tool.specs.Drafts.{AreGoing, ComeBack, GoUnlessHeld, IsWritten};
 ghost use Rattle.merge_tool.specs.Passes.{is_going, left};
 
 use crate::entries::{against, back};
@@ -29,8 +25,8 @@ pub fn write(
     wanted: &IndexSet<Key>,
     held: &IndexSet<Key>,
 ) -> Result<(), AllocError>
-    requires going { (k : Key) → has is_key candidates.now.keys k ≡ is_going ds.now told.now.told k }
-    ensures entries { OnOk result ((q : Key) → entry_of (drafted draft.new ds.now) q ≡ (if has is_key candidates.now.keys q then left ds.now told.now.told held.now.keys q else (if has is_key wanted.now.keys q then option_map back (entry_of (drafted draft.old ds.now) q) else entry_of (drafted draft.old ds.now) q))) }
+    requires going { AreGoing ds.now told.now candidates.now.keys }
+    ensures entries { OnOk result (IsWritten ds.now told.now candidates.now.keys wanted.now.keys held.now.keys draft.old draft.new) }
     ensures number { OnOk result (draft.new.next ≡ draft.old.next) }
 {
     bring_back(ds, draft, wanted)?;
@@ -40,7 +36,7 @@ pub fn write(
 
 /// Brings lost objects back, each as its known side.
 fn bring_back(ds: &DataSet, draft: &mut Draft, wanted: &IndexSet<Key>) -> Result<(), AllocError>
-    ensures entries { OnOk result ((q : Key) → entry_of (drafted draft.new ds.now) q ≡ (if has is_key wanted.now.keys q then option_map back (entry_of (drafted draft.old ds.now) q) else entry_of (drafted draft.old ds.now) q)) }
+    ensures entries { OnOk result (ComeBack ds.now (has is_key wanted.now.keys) draft.old draft.new) }
     ensures number { OnOk result (draft.new.next ≡ draft.old.next) }
 {
     for i in 0..wanted.len() {
@@ -50,7 +46,7 @@ fn bring_back(ds: &DataSet, draft: &mut Draft, wanted: &IndexSet<Key>) -> Result
 }
 
 fn bring_one(ds: &DataSet, draft: &mut Draft, key: Key) -> Result<(), AllocError>
-    ensures entries { OnOk result ((q : Key) → entry_of (drafted draft.new ds.now) q ≡ (if is_key q key then option_map back (entry_of (drafted draft.old ds.now) q) else entry_of (drafted draft.old ds.now) q)) }
+    ensures entries { OnOk result (ComeBack ds.now (λ q. is_key q key) draft.old draft.new) }
     ensures number { OnOk result (draft.new.next ≡ draft.old.next) }
 {
     match draft.entry(ds, key) {
@@ -71,8 +67,8 @@ fn let_go(
     candidates: &IndexSet<Key>,
     held: &IndexSet<Key>,
 ) -> Result<(), AllocError>
-    requires going { (k : Key) → has is_key candidates.now.keys k ≡ is_going ds.now told.now.told k }
-    ensures entries { OnOk result ((q : Key) → entry_of (drafted draft.new ds.now) q ≡ (if has is_key candidates.now.keys q then left ds.now told.now.told held.now.keys q else entry_of (drafted draft.old ds.now) q)) }
+    requires going { AreGoing ds.now told.now candidates.now.keys }
+    ensures entries { OnOk result (GoUnlessHeld ds.now told.now held.now.keys (has is_key candidates.now.keys) draft.old draft.new) }
     ensures number { OnOk result (draft.new.next ≡ draft.old.next) }
 {
     for i in 0..candidates.len() {
@@ -89,7 +85,7 @@ fn let_one_go(
     key: Key,
 ) -> Result<(), AllocError>
     requires going { is_going ds.now told.now.told key ≡ true }
-    ensures entries { OnOk result ((q : Key) → entry_of (drafted draft.new ds.now) q ≡ (if is_key q key then left ds.now told.now.told held.now.keys q else entry_of (drafted draft.old ds.now) q)) }
+    ensures entries { OnOk result (GoUnlessHeld ds.now told.now held.now.keys (λ q. is_key q key) draft.old draft.new) }
     ensures number { OnOk result (draft.new.next ≡ draft.old.next) }
 {
     let entry = left(ds, told, held, key)?;
