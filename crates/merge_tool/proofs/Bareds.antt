@@ -8,16 +8,8 @@ use Rattle.osm_table.specs.declared.entry.Conflict.{Conflict}
 use Rattle.osm_table.specs.declared.entry.Entry.{Entry}
 use Rattle.osm_table.specs.declared.entry.Entry.TheVariants.{Incomplete, Known}
 use Rattle.osm_table.specs.Table.{held_by, known_base}
-use Rattle.dataset.specs.Exact.{mine_at}
 use Rattle.tool_api.specs.Staged.{lost_of, bared, back}
 use Rattle.merge_tool.specs.Passes.{is_there}
-
--- what is there stays
-pub there_bared : (n : Bool) (o : Option Entry) → is_there o ≡ true → bared n o ≡ o
-there_bared n None h = absurd (true≢false (sym h))
-there_bared n (Some Incomplete) h = refl
-there_bared n (Some (Known b None f)) h = absurd (true≢false (sym h))
-there_bared n (Some (Known b (Some c) f)) h = refl
 
 dead_by : (b : Base) (f : Option Conflict) (n l : Bool) → is_some (held_by (known_base b f)) ≡ l → l ≡ true → cond (n && not (is_some (held_by (known_base b f)))) (Some Incomplete) (Some (Known b None f)) ≡ Some (Known b None f)
 dead_by b f n false e h = absurd (true≢false (sym h))

@@ -1,6 +1,6 @@
 -- What the case of a key says, where its entry was looked up.
-use Rattle.std.proofs.Common.{◌≡◌, ◌&&◌, ◌||◌, Bool, true, false, not, List, [], ◌∷◌, ◌++◌, Option, Some, None, is_some, cond, refl, sym, ap, subst, ◌∙◌, filter}
-use Rattle.std.specs.Option.{option_map, option_map_or, option_or}
+use Rattle.std.proofs.Common.{◌≡◌, ◌&&◌, ◌||◌, Bool, true, false, not, List, [], ◌∷◌, ◌++◌, Option, Some, None, is_some, cond, refl, sym, ap, subst, ◌∙◌}
+use Rattle.std.specs.Option.{option_map, option_map_or}
 use Rattle.std.specs.List.{list_any}
 use Rattle.std.proofs.lemmas.Bool.{true≢false}
 use Rattle.std.specs.FinMap as fin
@@ -12,9 +12,8 @@ use Rattle.osm_table.specs.declared.entry.Base.{Base}
 use Rattle.osm_table.specs.declared.entry.Entry.{Entry}
 use Rattle.osm_table.specs.declared.entry.Entry.TheVariants.{Incomplete, Known}
 use Rattle.osm_table.specs.declared.told.Told.{Told}
-use Rattle.osm_table.specs.declared.told.Told.TheVariants as told
 use Rattle.osm_table.specs.Table.{TableValue, entry_of, uses, users, held_by, known_base, IsThere}
-use Rattle.osm_table.specs.Told.{ToldEntries, ToldValue, entry_told, told_of, told_at}
+use Rattle.osm_table.specs.Told.{ToldEntries, ToldValue, entry_told, told_at}
 use Rattle.osm_table.proofs.Each.{get_with}
 use Rattle.dataset.specs.Draft.{DraftValue, drafted}
 use Rattle.dataset.proofs.Changes.{drafted_none}
@@ -27,8 +26,8 @@ use Rattle.osm_base.proofs.RisingKeys.{key_itself}
 use Rattle.merge_cases.specs.declared.verdict.Verdict.{Verdict}
 use Rattle.merge_cases.specs.declared.verdict.Verdict.TheVariants.{Stay, Mention, Take, Clash, Keep, Candidate, Settle, Join, Dispute}
 use Rattle.merge_cases.specs.Case.{verdict_of}
-use Rattle.tool_api.specs.Staged.{stage_of, verdict_at, theirs_at, theirs_told, staged, is_candidate, is_clash, refers_by, refs_by, against, bared}
-use Rattle.merge_tool.specs.Passes.{Gives, IsPassed, noted, new_bared, early, firm_refs, has_untold_user, is_going, is_clashing, left}
+use Rattle.tool_api.specs.Staged.{stage_of, verdict_at, theirs_at, theirs_told, staged, is_candidate, refers_by, against, bared}
+use Rattle.merge_tool.specs.Passes.{Gives, IsPassed, noted, new_bared, early, has_untold_user, is_going, left}
 use Rattle.merge_tool.proofs.Rows.{theirs_by, verdict_by}
 use Rattle.merge_tool.proofs.Fitting.{there}
 use Rattle.merge_tool.proofs.Appends.{has_more}
@@ -47,11 +46,6 @@ stage_is t m k s o v is look case =
     ap (λ (w : Verdict). staged w o (theirs_told s)) (case_is t m k s o v is look case)
     ∙ ap (λ (b : Base). staged (verdict_at t m k) o b) (theirs_is m k s is)
     ∙ ap (λ (x : Option Entry). staged (verdict_at t m k) x (theirs_at m k)) look
-
--- the entry after its case
-pub given : (old new : Option Entry) (s : Option Entry) → Gives old s new → option_or new old ≡ s
-given old None s g = sym g
-given old (Some e) s g = sym g
 
 pub uses_at : (o : Option Entry) (k : Key) → option_map_or (λ e. uses e k) o false ≡ refers_by (mine_at o) k
 uses_at None k = refl
@@ -132,11 +126,6 @@ passed_all t m u sound h each q = h q ∙ ap (λ b. cond b (early t m.told q) (e
 
 -- What is left of a candidate.
 
-told_back : (s : Told) → told_of (entry_told s) ≡ s
-told_back told.Mentioned = refl
-told_back (told.Live v c m) = refl
-told_back (told.Gone v m) = refl
-
 candidate_is : (v : Verdict) → is_candidate v ≡ true → v ≡ Candidate
 candidate_is Candidate h = refl
 candidate_is Stay h = absurd (true≢false (sym h))
@@ -150,9 +139,6 @@ candidate_is Dispute h = absurd (true≢false (sym h))
 
 unheld : (x y : Option Entry) (b : Bool) → b ≡ false → y ≡ cond b x y
 unheld x y b e = sym (ap (λ c. cond c x y) e)
-
-heeded : (x y : Option Entry) (b : Bool) → b ≡ true → x ≡ cond b x y
-heeded x y b e = sym (ap (λ c. cond c x y) e)
 
 -- where it isn't held, what is told
 pub left_gone : (t : TableValue) (m : ToldEntries) (held : List Key) (k : Key) (news : Entry) → is_going t m k ≡ true → Some news ≡ option_map entry_told (fin.get m k) → has is_key held k ≡ false → Some news ≡ left t m held k

@@ -1,6 +1,5 @@
 -- What the entry says of which no more is known than what is told.
-use Rattle.std.proofs.Common.{◌≡◌, ◌≢◌, ℕ, Option, Some, None, refl, sym, ◌∙◌, subst}
-use Rattle.std.specs.Option.{option_map}
+use Rattle.std.proofs.Common.{◌≡◌, ℕ, Option, Some, None, refl, sym, ◌∙◌, subst}
 use Rattle.osm_base.specs.declared.content.Content.{Content}
 use Rattle.osm_table.specs.declared.entry.Base.{Base}
 use Rattle.osm_table.specs.declared.entry.Base.TheVariants as base
@@ -9,14 +8,12 @@ use Rattle.osm_table.specs.declared.entry.Entry.{Entry}
 use Rattle.osm_table.specs.declared.entry.Entry.TheVariants.{Incomplete, Known}
 use Rattle.osm_table.specs.declared.told.Told.{Told}
 use Rattle.osm_table.specs.declared.told.Told.TheVariants as told
-use Rattle.osm_table.specs.Table.{version_of}
 use Rattle.osm_table.specs.Told.{entry_told, told_of}
 use Rattle.merge_cases.specs.declared.verdict.Verdict.{Verdict}
 use Rattle.merge_cases.specs.declared.verdict.Verdict.TheVariants.{Stay, Mention, Take, Candidate}
 use Rattle.merge_cases.specs.Case.{verdict_of}
-use Rattle.tool_api.specs.Staged.{theirs_told, taken}
-use Rattle.merge_tool.specs.Passes.{version_told}
-use Rattle.merge_tool.proofs.Rows.{SaysTold, Says, says, theirs_by}
+use Rattle.tool_api.specs.Staged.{theirs_told}
+use Rattle.merge_tool.proofs.Rows.{SaysTold, Says, says}
 
 pub theirs_known : (b : Base) (mine : Option Content) (f : Option Conflict) → theirs_told (told_of (Known b mine f)) ≡ b
 theirs_known base.New mine f = refl

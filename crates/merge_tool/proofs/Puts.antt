@@ -16,7 +16,7 @@ use Rattle.merge_tool.specs.Walks.{is_lost}
 use Rattle.merge_tool.specs.Passes.{noted, is_there}
 use Rattle.merge_tool.proofs.Appends.{has_taken}
 use Rattle.merge_tool.proofs.Stand.{bared_none}
-use Rattle.merge_tool.proofs.Bareds.{there_bared, bared_lost, bared_gone, lost_bared, bared_twice, back_twice}
+use Rattle.merge_tool.proofs.Bareds.{bared_lost, bared_gone, lost_bared, bared_twice, back_twice}
 
 -- what a draft's table has after one put
 pub put_at : (d e : DraftValue) (t : TableValue) (k : Key) (x : Entry) → e ≡ record { puts = fin.insert d.puts k (Some x); next = d.next } → (q : Key) → entry_of (drafted e t) q ≡ cond (is_key q k) (Some x) (entry_of (drafted d t) q)
