@@ -17,7 +17,7 @@ use Rattle.edit_history.specs.declared.history.History.{History}
 use Rattle.edit_history.specs.Machine.{State, IsWiped, ran}
 use Rattle.edit_history.specs.Single.{tables, went}
 use Rattle.edit_history.specs.Trail.{KeepNothing, IsAlong}
-use Rattle.edit_history.specs.Boxes.{trail_of}
+use Rattle.edit_history.specs.Boxes.{Keeps, trail_of}
 use Rattle.edit_history.specs.Shown.{shown, Valid, IsThere, verbs_of, patches_of}
 
 -- the answer of a call, and the state after it
@@ -46,6 +46,14 @@ pub record Stopped {X : Type 0} {F : X → Type 0} (done undone : DynBox X Globa
 -- The new table stands between whole patches: k of the old trail were taken back, or gone on.
 abbrev pub IsBetween : {X : Type 0} {F : X → Type 0} → Direction → (DynBox X Global F → List PatchValue) → (DynBox X Global F → List PatchValue) → History X F → History X F → Type 0
 IsBetween way done undone old new = IsAlong way (trail_of way done undone old.jobs) (shown done undone old).now (shown done undone new).now
+
+-- The new table is the one that the job makes of the old one.
+abbrev pub IsMadeBy : {X : Type 0} {F : X → Type 0} → Job → ℕ → Keeps X F → Keeps X F → History X F → History X F → Type 0
+IsMadeBy job limit done undone old new = (shown done undone new).now ≡ (plain job (shown done undone old).now limit).table
+
+-- The state is what it was.
+abbrev pub IsKept : {X : Type 0} {F : X → Type 0} → Keeps X F → Keeps X F → History X F → History X F → Type 0
+IsKept done undone old new = shown done undone new ≡ shown done undone old
 
 -- a move that answers nothing
 abbrev pub silent : (State → State) → State → Move (Unit {0})

@@ -2,13 +2,13 @@
 ghost use Rattle.std.specs.Prelude.{◌≡◌, ◌≢◌, ◌≤◌, ◌<◌, ◌+◌, ◌↔◌, ◌⊎◌, ℕ, length, map, IsTrue, OnOk, OnErr, IfOk};
 ghost use Rattle.dataset.specs.Patch.{after_of};
 ghost use Rattle.tool_api.specs.Plain.{verb_of, plain, IsWellFormed};
-ghost use Rattle.edit_history.specs.Trail.{IsAlong, KeepNothing};
-ghost use Rattle.edit_history.specs.Boxes.{WentBy, trail_of};
-ghost use Rattle.edit_history.specs.Machine.{IsWiped, fresh, first_state, ran, began, gave_up, ended, settled};
+ghost use Rattle.edit_history.specs.Trail.{KeepNothing};
+ghost use Rattle.edit_history.specs.Boxes.{WentBy};
+ghost use Rattle.edit_history.specs.Machine.{fresh, first_state, ran, began, gave_up, ended, settled};
 ghost use Rattle.edit_history.specs.Single.{go_1, go_n};
 ghost use Rattle.edit_history.specs.Ways.{side};
 ghost use Rattle.edit_history.specs.Shown.{shown, Valid, IsThere, IsFirst, KeptByFirst, verbs_of};
-ghost use Rattle.edit_history.specs.Moved.{Alone, Fits, IsBetween, MayRun, MaySettle, Moved, Stopped, run_move, silent, steps_move};
+ghost use Rattle.edit_history.specs.Moved.{Alone, Fits, IsBetween, IsKept, IsMadeBy, MayRun, MaySettle, Moved, Stopped, run_move, silent, steps_move};
 ghost use Rattle.edit_history.specs.declared.counts.Group.TheVariants.{Outside, Running, Refused};
 ghost use Rattle.edit_history.specs.declared.sides.Direction.TheVariants.{Back, On};
 
@@ -34,9 +34,9 @@ impl History {
     pub fn new(alloc: Global, tools: Vec<Box<dyn Tool>>) -> History
         requires dones { KeepNothing (map (λ b. done b) tools.items) }
         requires undones { KeepNothing (map (λ b. undone b) tools.items) }
-        ensures valid { Valid (λ b. done b) (λ b. undone b) result }
-        ensures state { shown (λ b. done b) (λ b. undone b) result ≡ first_state }
-        ensures kinds { verbs_of (λ b. kind b) result ≡ map (λ b. kind b) tools.items }
+        ensures valid { Valid done undone result }
+        ensures state { shown done undone result ≡ first_state }
+        ensures kinds { verbs_of kind result ≡ map (λ b. kind b) tools.items }
     {
         let ds = DataSet::new(alloc);
         ds.sound();
@@ -56,7 +56,7 @@ impl History {
 
     /// Whether some box has the verb.
     pub fn has(&self, verb: Verb) -> bool
-        ensures { IsTrue result ↔ IsThere verb (verbs_of (λ b. kind b) self.now) }
+        ensures { IsTrue result ↔ IsThere verb (verbs_of kind self.now) }
     {
         match find(&self.jobs.tools, verb) {
             None => false,
@@ -66,14 +66,14 @@ impl History {
 
     /// The data set.
     pub fn ds(&self) -> &DataSet
-        ensures { result.now ≡ (shown (λ b. done b) (λ b. undone b) self.now).now }
+        ensures { result.now ≡ (shown done undone self.now).now }
     {
         &self.jobs.ds
     }
 
     /// Whether a group is open.
     pub fn group(&self) -> Group
-        ensures { result ≡ (shown (λ b. done b) (λ b. undone b) self.now).group }
+        ensures { result ≡ (shown done undone self.now).group }
     {
         self.counts.group
     }
@@ -85,11 +85,11 @@ impl History {
     /// # Errors
     /// Want of memory. Then the table is sound, nothing can be undone or done again, and no group is open.
     pub fn run(&mut self, job: &Job, limit: u64) -> Result<Reply, AllocError>
-        requires { Fits (λ b. done b) (λ b. undone b) (λ b. kind b) self.old (MayRun job.now) }
-        ensures moved { Moved (λ b. done b) (λ b. undone b) (λ b. kind b) self.old self.new result (run_move job.now limit) }
-        ensures first { IfOk result (KeptByFirst (λ b. done b) (λ b. kind b) (verb_of job.now) self.old self.new) }
-        ensures stopped { OnErr result (Stopped (λ b. done b) (λ b. undone b) self.new) }
-        ensures between { OnErr result (IsBetween Back (λ b. done b) (λ b. undone b) self.old self.new ⊎ ((shown (λ b. done b) (λ b. undone b) self.new).now ≡ (plain job.now (shown (λ b. done b) (λ b. undone b) self.old).now limit).table)) }
+        requires { Fits done undone kind self.old (MayRun job.now) }
+        ensures moved { Moved done undone kind self.old self.new result (run_move job.now limit) }
+        ensures first { IfOk result (KeptByFirst done kind (verb_of job.now) self.old self.new) }
+        ensures stopped { OnErr result (Stopped done undone self.new) }
+        ensures between { OnErr result (IsBetween Back done undone self.old self.new ⊎ IsMadeBy job.now limit done undone self.old self.new) }
     {
         match find(&self.jobs.tools, job.verb()) {
             None => unreachable!(),
@@ -105,10 +105,10 @@ impl History {
 
     /// Opens a group.
     pub fn begin(&mut self)
-        requires { Fits (λ b. done b) (λ b. undone b) (λ b. kind b) self.old Alone }
-        ensures valid { Valid (λ b. done b) (λ b. undone b) self.new }
-        ensures state { shown (λ b. done b) (λ b. undone b) self.new ≡ began (shown (λ b. done b) (λ b. undone b) self.old) }
-        ensures verbs { verbs_of (λ b. kind b) self.new ≡ verbs_of (λ b. kind b) self.old }
+        requires { Fits done undone kind self.old Alone }
+        ensures valid { Valid done undone self.new }
+        ensures state { shown done undone self.new ≡ began (shown done undone self.old) }
+        ensures verbs { verbs_of kind self.new ≡ verbs_of kind self.old }
     {
         self.counts.group = Group::Running;
     }
@@ -119,10 +119,10 @@ impl History {
     /// # Errors
     /// Want of memory. Then the table is sound, nothing can be undone or done again, and no group is open.
     pub fn give_up(&mut self) -> Result<(), AllocError>
-        requires { Fits (λ b. done b) (λ b. undone b) (λ b. kind b) self.old (λ s _. s.group ≡ Running) }
-        ensures moved { Moved (λ b. done b) (λ b. undone b) (λ b. kind b) self.old self.new result (silent gave_up) }
-        ensures stopped { OnErr result (Stopped (λ b. done b) (λ b. undone b) self.new) }
-        ensures between { OnErr result (IsBetween Back (λ b. done b) (λ b. undone b) self.old self.new) }
+        requires { Fits done undone kind self.old (λ s _. s.group ≡ Running) }
+        ensures moved { Moved done undone kind self.old self.new result (silent gave_up) }
+        ensures stopped { OnErr result (Stopped done undone self.new) }
+        ensures between { OnErr result (IsBetween Back done undone self.old self.new) }
     {
         match self.leave_group() {
             Ok(()) => Ok(()),
@@ -138,9 +138,9 @@ impl History {
     /// # Errors
     /// Want of memory, and then nothing is changed.
     pub fn end(&mut self) -> Result<(), AllocError>
-        requires { Fits (λ b. done b) (λ b. undone b) (λ b. kind b) self.old (λ s _. s.group ≢ Outside) }
-        ensures moved { Moved (λ b. done b) (λ b. undone b) (λ b. kind b) self.old self.new result (silent ended) }
-        ensures err { OnErr result (shown (λ b. done b) (λ b. undone b) self.new ≡ shown (λ b. done b) (λ b. undone b) self.old) }
+        requires { Fits done undone kind self.old (λ s _. s.group ≢ Outside) }
+        ensures moved { Moved done undone kind self.old self.new result (silent ended) }
+        ensures err { OnErr result (IsKept done undone self.old self.new) }
     {
         if self.counts.waiting > 0 {
             self.counts.steps.behind.push(self.counts.waiting)?;
@@ -155,11 +155,11 @@ impl History {
     /// # Errors
     /// Want of memory. Then the table is sound, nothing can be undone or done again, and no group is open.
     pub fn undo(&mut self, n: u64) -> Result<bool, AllocError>
-        requires fits { Fits (λ b. done b) (λ b. undone b) (λ b. kind b) self.old Alone }
+        requires fits { Fits done undone kind self.old Alone }
         requires some { 1 ≤ n }
-        ensures moved { Moved (λ b. done b) (λ b. undone b) (λ b. kind b) self.old self.new result (steps_move Back n) }
-        ensures stopped { OnErr result (Stopped (λ b. done b) (λ b. undone b) self.new) }
-        ensures between { OnErr result (IsBetween Back (λ b. done b) (λ b. undone b) self.old self.new) }
+        ensures moved { Moved done undone kind self.old self.new result (steps_move Back n) }
+        ensures stopped { OnErr result (Stopped done undone self.new) }
+        ensures between { OnErr result (IsBetween Back done undone self.old self.new) }
     {
         self.lead(Direction::Back, n)
     }
@@ -170,11 +170,11 @@ impl History {
     /// # Errors
     /// Want of memory. Then the table is sound, nothing can be undone or done again, and no group is open.
     pub fn redo(&mut self, n: u64) -> Result<bool, AllocError>
-        requires fits { Fits (λ b. done b) (λ b. undone b) (λ b. kind b) self.old Alone }
+        requires fits { Fits done undone kind self.old Alone }
         requires some { 1 ≤ n }
-        ensures moved { Moved (λ b. done b) (λ b. undone b) (λ b. kind b) self.old self.new result (steps_move On n) }
-        ensures stopped { OnErr result (Stopped (λ b. done b) (λ b. undone b) self.new) }
-        ensures between { OnErr result (IsBetween On (λ b. done b) (λ b. undone b) self.old self.new) }
+        ensures moved { Moved done undone kind self.old self.new result (steps_move On n) }
+        ensures stopped { OnErr result (Stopped done undone self.new) }
+        ensures between { OnErr result (IsBetween On done undone self.old self.new) }
     {
         self.lead(Direction::On, n)
     }
@@ -184,9 +184,9 @@ impl History {
     /// # Errors
     /// Want of memory, and then nothing is changed.
     pub fn settle(&mut self, patch: &Patch) -> Result<(), AllocError>
-        requires { Fits (λ b. done b) (λ b. undone b) (λ b. kind b) self.old (MaySettle patch.now) }
-        ensures moved { Moved (λ b. done b) (λ b. undone b) (λ b. kind b) self.old self.new result (silent (λ s. settled (after_of patch.now s.now) s)) }
-        ensures err { OnErr result (shown (λ b. done b) (λ b. undone b) self.new ≡ shown (λ b. done b) (λ b. undone b) self.old) }
+        requires { Fits done undone kind self.old (MaySettle patch.now) }
+        ensures moved { Moved done undone kind self.old self.new result (silent (λ s. settled (after_of patch.now s.now) s)) }
+        ensures err { OnErr result (IsKept done undone self.old self.new) }
     {
         self.jobs.ds.apply(patch)?;
         self.wipe();
@@ -195,10 +195,10 @@ impl History {
 
     /// Forgets all steps. The table stays.
     fn wipe(&mut self)
-        ensures valid { Valid (λ b. done b) (λ b. undone b) self.new }
-        ensures state { shown (λ b. done b) (λ b. undone b) self.new ≡ fresh self.old.jobs.ds }
-        ensures stopped { Stopped (λ b. done b) (λ b. undone b) self.new }
-        ensures verbs { verbs_of (λ b. kind b) self.new ≡ verbs_of (λ b. kind b) self.old }
+        ensures valid { Valid done undone self.new }
+        ensures state { shown done undone self.new ≡ fresh self.old.jobs.ds }
+        ensures stopped { Stopped done undone self.new }
+        ensures verbs { verbs_of kind self.new ≡ verbs_of kind self.old }
     {
         self.jobs.wipe();
         self.counts.steps.clear();
@@ -208,16 +208,16 @@ impl History {
 
     /// Runs a job in the i-th box. After an `Err` the caller wipes.
     fn run_in(&mut self, i: usize, job: &Job, limit: u64) -> Result<Reply, AllocError>
-        requires valid { Valid (λ b. done b) (λ b. undone b) self.old }
-        requires first { IsFirst (verb_of job.now) (verbs_of (λ b. kind b) self.old) i }
+        requires valid { Valid done undone self.old }
+        requires first { IsFirst (verb_of job.now) (verbs_of kind self.old) i }
         requires formed { IsWellFormed job.now }
         requires open { self.old.counts.group ≢ Refused }
         ensures reply { IfOk result (λ r. r ≡ (plain job.now self.old.jobs.ds limit).reply) }
-        ensures valid { OnOk result (Valid (λ b. done b) (λ b. undone b) self.new) }
-        ensures state { IfOk result (λ r. shown (λ b. done b) (λ b. undone b) self.new ≡ ran r (plain job.now self.old.jobs.ds limit).table (shown (λ b. done b) (λ b. undone b) self.old)) }
-        ensures first { IfOk result (KeptByFirst (λ b. done b) (λ b. kind b) (verb_of job.now) self.old self.new) }
-        ensures verbs { verbs_of (λ b. kind b) self.new ≡ verbs_of (λ b. kind b) self.old }
-        ensures err { OnErr result (IsBetween Back (λ b. done b) (λ b. undone b) self.old self.new ⊎ (self.new.jobs.ds ≡ (plain job.now self.old.jobs.ds limit).table)) }
+        ensures valid { OnOk result (Valid done undone self.new) }
+        ensures state { IfOk result (λ r. shown done undone self.new ≡ ran r (plain job.now self.old.jobs.ds limit).table (shown done undone self.old)) }
+        ensures first { IfOk result (KeptByFirst done kind (verb_of job.now) self.old self.new) }
+        ensures verbs { verbs_of kind self.new ≡ verbs_of kind self.old }
+        ensures err { OnErr result (IsBetween Back done undone self.old self.new ⊎ IsMadeBy job.now limit done undone self.old self.new) }
     {
         match self.jobs.run_job(i, job, limit)? {
             Reply::Done(keys) => {
@@ -238,12 +238,12 @@ impl History {
 
     /// Undoes the jobs of the running group. After an `Err` the caller wipes.
     fn leave_group(&mut self) -> Result<(), AllocError>
-        requires valid { Valid (λ b. done b) (λ b. undone b) self.old }
+        requires valid { Valid done undone self.old }
         requires running { self.old.counts.group ≡ Running }
-        ensures valid { OnOk result (Valid (λ b. done b) (λ b. undone b) self.new) }
-        ensures state { OnOk result (shown (λ b. done b) (λ b. undone b) self.new ≡ gave_up (shown (λ b. done b) (λ b. undone b) self.old)) }
-        ensures verbs { verbs_of (λ b. kind b) self.new ≡ verbs_of (λ b. kind b) self.old }
-        ensures err { OnErr result (IsBetween Back (λ b. done b) (λ b. undone b) self.old self.new) }
+        ensures valid { OnOk result (Valid done undone self.new) }
+        ensures state { OnOk result (shown done undone self.new ≡ gave_up (shown done undone self.old)) }
+        ensures verbs { verbs_of kind self.new ≡ verbs_of kind self.old }
+        ensures err { OnErr result (IsBetween Back done undone self.old self.new) }
     {
         let count = self.counts.waiting;
         if count == 0 {
@@ -259,11 +259,11 @@ impl History {
 
     /// Undoes the last n steps, or does the next n undone ones again; false where there are fewer.
     fn lead(&mut self, way: Direction, n: u64) -> Result<bool, AllocError>
-        requires fits { Fits (λ b. done b) (λ b. undone b) (λ b. kind b) self.old Alone }
+        requires fits { Fits done undone kind self.old Alone }
         requires some { 1 ≤ n }
-        ensures moved { Moved (λ b. done b) (λ b. undone b) (λ b. kind b) self.old self.new result (steps_move way n) }
-        ensures stopped { OnErr result (Stopped (λ b. done b) (λ b. undone b) self.new) }
-        ensures between { OnErr result (IsBetween way (λ b. done b) (λ b. undone b) self.old self.new) }
+        ensures moved { Moved done undone kind self.old self.new result (steps_move way n) }
+        ensures stopped { OnErr result (Stopped done undone self.new) }
+        ensures between { OnErr result (IsBetween way done undone self.old self.new) }
     {
         if n > self.counts.steps.len(way) as u64 {
             return Ok(false);
@@ -279,13 +279,13 @@ impl History {
 
     /// Undoes the last n steps, or does the next n undone ones again. After an `Err` the caller wipes.
     fn lead_steps(&mut self, way: Direction, n: usize) -> Result<(), AllocError>
-        requires valid { Valid (λ b. done b) (λ b. undone b) self.old }
+        requires valid { Valid done undone self.old }
         requires outside { self.old.counts.group ≡ Outside }
         requires some { n ≤ length (side way self.old.counts.steps) }
-        ensures valid { OnOk result (Valid (λ b. done b) (λ b. undone b) self.new) }
-        ensures state { OnOk result (shown (λ b. done b) (λ b. undone b) self.new ≡ go_n way n (shown (λ b. done b) (λ b. undone b) self.old)) }
-        ensures verbs { verbs_of (λ b. kind b) self.new ≡ verbs_of (λ b. kind b) self.old }
-        ensures err { OnErr result (IsBetween way (λ b. done b) (λ b. undone b) self.old self.new) }
+        ensures valid { OnOk result (Valid done undone self.new) }
+        ensures state { OnOk result (shown done undone self.new ≡ go_n way n (shown done undone self.old)) }
+        ensures verbs { verbs_of kind self.new ≡ verbs_of kind self.old }
+        ensures err { OnErr result (IsBetween way done undone self.old self.new) }
     {
         for _led in 0..n {
             self.lead_step(way)?;
@@ -295,16 +295,16 @@ impl History {
 
     /// Undoes the last step, or does the next undone one again. After an `Err` the caller wipes.
     fn lead_step(&mut self, way: Direction) -> Result<(), AllocError>
-        requires valid { Valid (λ b. done b) (λ b. undone b) self.old }
+        requires valid { Valid done undone self.old }
         requires outside { self.old.counts.group ≡ Outside }
         requires some { 0 < length (side way self.old.counts.steps) }
-        ensures valid { OnOk result (Valid (λ b. done b) (λ b. undone b) self.new) }
+        ensures valid { OnOk result (Valid done undone self.new) }
         ensures outside { OnOk result (self.new.counts.group ≡ Outside) }
-        ensures state { OnOk result (shown (λ b. done b) (λ b. undone b) self.new ≡ go_1 way (shown (λ b. done b) (λ b. undone b) self.old)) }
+        ensures state { OnOk result (shown done undone self.new ≡ go_1 way (shown done undone self.old)) }
         ensures left { OnOk result (length (side way self.old.counts.steps) ≡ length (side way self.new.counts.steps) + 1) }
-        ensures went { OnOk result ((k : ℕ) × WentBy way k (λ b. done b) (λ b. undone b) self.old.jobs self.new.jobs) }
-        ensures verbs { verbs_of (λ b. kind b) self.new ≡ verbs_of (λ b. kind b) self.old }
-        ensures err { OnErr result (IsBetween way (λ b. done b) (λ b. undone b) self.old self.new) }
+        ensures went { OnOk result ((k : ℕ) × WentBy way k done undone self.old.jobs self.new.jobs) }
+        ensures verbs { verbs_of kind self.new ≡ verbs_of kind self.old }
+        ensures err { OnErr result (IsBetween way done undone self.old self.new) }
     {
         let count = self.counts.steps.pass(way)?;
         self.jobs.lead_jobs(way, count)?;
