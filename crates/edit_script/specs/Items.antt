@@ -3,7 +3,7 @@
 -- For example `place n-1 x2.5 y0` has the words `place`, `n-1`, `x2.5` and `y0`. The word `Kname,old%20%name` has the keys
 -- `name` and `old name`, `K` has none, and `Kname,name` spells nothing. The word `B13.3,52.5,13.4,52.6` is a box with its
 -- west, south, east and north, and `B13.4,52.5,13.3,52.6` is none, since its west lies beyond its east.
-use Rattle.std.specs.Prelude.{ℕ, ℤ, Bool, ◌==◌, ◌&&◌, nat_le, nat_lt, int_le, if◌then◌else◌, codes, List, [], ◌∷◌, length, filter, Option, Some, None}
+use Rattle.std.specs.Prelude.{ℕ, ℤ, Bool, ◌==◌, ◌&&◌, nat_le, nat_lt, int_le, if◌then◌else◌, codes, List, [], ◌∷◌, length, Option, Some, None}
 use Rattle.std.specs.List.{list_any}
 use Rattle.std.specs.Str.{bytes_eq}
 use Rattle.osm_base.specs.Coord.{coord_text}
@@ -18,18 +18,12 @@ use Rattle.opl_text.specs.Text.{unescaped}
 use Rattle.opl_text.specs.Time.{◌>>=◌}
 use Rattle.opl_line.specs.Cut.{split}
 use Rattle.opl_line.specs.Field.{is, tags_text, refs_text, members_text}
-use Rattle.opl_line.specs.Line.{is_blank}
 use Rattle.opl_line.specs.Spelling.{ok_of}
+-- a line is cut into its words as a query is
+pub use Rattle.map_search.specs.Words.{has_byte, words_of}
 use Rattle.resolution.specs.Keys.{are_tag_keys}
 use Rattle.resolution.specs.declared.choice.Side.{Side}
 use Rattle.resolution.specs.declared.choice.Side.TheVariants as side
-
-abbrev pub has_byte : List ℕ → Bool
-has_byte piece = nat_lt 0 (length piece)
-
--- the words of a line: what stands between its blanks
-abbrev pub words_of : List ℕ → List (List ℕ)
-words_of line = filter has_byte (split is_blank line)
 
 -- a thing, where no word is left
 abbrev pub alone : {A : Type 0} → A → List (List ℕ) → Option A
@@ -59,11 +53,6 @@ file_word words = do
 abbrev pub four_texts : List (List ℕ) → Option (List ℕ × List ℕ × List ℕ × List ℕ)
 four_texts (first ∷ second ∷ third ∷ fourth ∷ []) = Some (first, second, third, fourth)
 four_texts texts = None
-
--- what stands behind the blanks at the front
-abbrev pub without_blanks : List ℕ → List ℕ
-without_blanks [] = []
-without_blanks (byte ∷ bytes) = if is_blank byte then without_blanks bytes else byte ∷ bytes
 
 -- what each text spells; none where one of them spells nothing
 abbrev pub all_of : {A : Type 0} → (List ℕ → Option A) → List (List ℕ) → Option (List A)

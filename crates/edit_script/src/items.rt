@@ -2,6 +2,7 @@
 ghost use Rattle.std.specs.Prelude.{◌≡◌, ◌∷◌, ◌<◌, ◌≤◌, ◌==◌, ◌||◌, [], length, Some, MatchOption, MatchResult, IfOk, false};
 ghost use Rattle.map_search.specs.Query.{depth};
 ghost use Rattle.map_search.specs.Reading.{query_of_words};
+ghost use Rattle.map_search.specs.Words.{words_of, without_blanks, has_outer_blank};
 ghost use Rattle.opl_line.specs.Cut.{split};
 ghost use Rattle.opl_line.specs.Field.{is};
 ghost use Rattle.opl_line.specs.Line.{is_blank};
@@ -9,8 +10,7 @@ ghost use Rattle.osm_base.specs.Number.{key_text};
 ghost use Rattle.osm_base.specs.Coord.{coord_text};
 ghost use Rattle.resolution.specs.Keys.{is_listed};
 ghost use Rattle.edit_script.specs.Answers.{Gives, IsRefused};
-ghost use Rattle.edit_script.specs.Items.{words_of, alone, one_word, two_words, three_words, file_word, four_texts, without_blanks, optional, has_location, keys_word, tags_word, refs_word, members_word, place_texts, place_words, box_between, area_text, wanted_text, side_word, texts_of, tag_keys_of, tag_keys_word};
-ghost use Rattle.edit_script.specs.Script.{has_outer_blank};
+ghost use Rattle.edit_script.specs.Items.{alone, one_word, two_words, three_words, file_word, four_texts, optional, has_location, keys_word, tags_word, refs_word, members_word, place_texts, place_words, box_between, area_text, wanted_text, side_word, texts_of, tag_keys_of, tag_keys_word};
 
 use crate::fault::Unread;
 use map_search::{Query, read_query};

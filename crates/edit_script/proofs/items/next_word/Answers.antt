@@ -1,6 +1,6 @@
 use Rattle.std.proofs.Common.{◌≡◌, ◌<◌, length, arith}
 use Rattle.std.proofs.lemmas.Bool.Decides.{nat_tests}
-use Rattle.edit_script.proofs.Words.{no_word, first_word}
+use Rattle.map_search.proofs.Blanks.{no_word, first_word}
 use Rattle.edit_script.proofs.items.next_word.Goals as goal
 
 pub returns-then-is_empty : goal.returns-then-is_empty

@@ -1,5 +1,5 @@
 use Rattle.std.proofs.Common.{◌≡◌, length}
-use Rattle.edit_script.specs.Items.{without_blanks}
+use Rattle.map_search.specs.Words.{without_blanks}
 use Rattle.edit_script.proofs.items.without_blanks.Given as goal
 
 abbrev pub invariant-loop-rest : goal.invariant-loop-rest

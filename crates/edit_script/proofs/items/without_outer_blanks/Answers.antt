@@ -1,8 +1,9 @@
 use Rattle.std.proofs.Common.{sym, ap, ◌∙◌}
 use Rattle.std.specs.Prelude.{slice_index}
 use Rattle.opl_line.specs.Line.{is_blank}
-use Rattle.edit_script.specs.Items.{words_of}
-use Rattle.edit_script.proofs.Words.{words_of-without_blanks, begins_bare}
+use Rattle.map_search.specs.Words.{words_of}
+use Rattle.map_search.proofs.Blanks.{words_of-without_blanks}
+use Rattle.edit_script.proofs.Words.{begins_bare}
 use Rattle.edit_script.proofs.items.without_outer_blanks.Goals as goal
 
 pub loop-rest-init : goal.loop-rest-init

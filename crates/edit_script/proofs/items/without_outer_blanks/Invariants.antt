@@ -1,7 +1,7 @@
 use Rattle.std.proofs.Common.{◌≡◌, false, length}
 use Rattle.std.specs.Prelude.{slice_index}
 use Rattle.opl_line.specs.Line.{is_blank}
-use Rattle.edit_script.specs.Items.{words_of}
+use Rattle.map_search.specs.Words.{words_of}
 use Rattle.edit_script.proofs.items.without_outer_blanks.Given as goal
 
 abbrev pub invariant-loop-rest : goal.invariant-loop-rest
