@@ -17,10 +17,6 @@ abbrev pub onto_items : {A : Type 0} → List A → Option (List A) → Option (
 onto_items front None = None
 onto_items front (Some items) = Some (front ++ items)
 
-pub onto_items-nil : {A : Type 0} (items : Option (List A)) → onto_items [] items ≡ items
-onto_items-nil None = refl
-onto_items-nil (Some items) = refl
-
 more_items : {A : Type 0} (front : List A) (x : A) (items : Option (List A)) → onto_items front (items >>= λ xs. Some (x ∷ xs)) ≡ onto_items (front ++ x ∷ []) items
 more_items front x None = refl
 more_items front x (Some items) = ap Some (sym (append_assoc front (x ∷ []) items))
@@ -28,10 +24,6 @@ more_items front x (Some items) = ap Some (sym (append_assoc front (x ∷ []) it
 -- one item more
 pub onto_items-more : {A : Type 0} (read : List ℕ → Option A) (front : List A) (x : A) (text : List ℕ) (texts : List (List ℕ)) → read text ≡ Some x → onto_items front (all_of read (text ∷ texts)) ≡ onto_items (front ++ x ∷ []) (all_of read texts)
 onto_items-more read front x text texts e = rw e (more_items front x (all_of read texts))
-
--- a text that isn't read ends it
-pub onto_items-none : {A : Type 0} (read : List ℕ → Option A) (front : List A) (text : List ℕ) (texts : List (List ℕ)) → read text ≡ None → onto_items front (all_of read (text ∷ texts)) ≡ None
-onto_items-none read front text texts e = rw e refl
 
 -- behind a fourth comma stands a fifth text, which may be empty
 pub fifth_text : (first second third fourth rest : List ℕ) → four_texts (first ∷ second ∷ third ∷ fourth ∷ split (is 44) rest) ≡ None
@@ -41,10 +33,6 @@ fifth_text first second third fourth rest = rw (split_front (is 44) rest) refl
 abbrev pub onto_front : List Step → Result (List Step) ℕ → Result (List Step) ℕ
 onto_front front (Ok steps) = Ok (front ++ steps)
 onto_front front (Err line) = Err line
-
-pub onto_front-nil : (steps : Result (List Step) ℕ) → onto_front [] steps ≡ steps
-onto_front-nil (Ok steps) = refl
-onto_front-nil (Err line) = refl
 
 pub onto_front-more : (front : List Step) (step : Step) (steps : Result (List Step) ℕ) → onto_front front (onto_steps step steps) ≡ onto_front (front ++ step ∷ []) steps
 onto_front-more front step (Ok steps) = ap Ok (sym (append_assoc front (step ∷ []) steps))

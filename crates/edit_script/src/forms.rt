@@ -1,8 +1,8 @@
 //! The lines of a script: one function for each form, found by the first word of the line.
 ghost use Rattle.std.specs.Prelude.{IfOk};
+ghost use Rattle.map_search.specs.Words.{words_of};
 ghost use Rattle.edit_script.specs.Answers.{Gives};
 ghost use Rattle.edit_script.specs.Forms.{download, generate, import_file, confirm, resume, add_node, add_way, add_relation, set_tags, shift, place, set_nodes, set_members, delete, erase, purge, split, combine, reverse, squeeze, fuse, undo, redo, find, upload, mix, parts, choice_form, choice_of, resolve, mend_form, way_form, delete_form, change_form, add_form, send_form, look_form, group_form, form, act_of};
-ghost use Rattle.map_search.specs.Words.{words_of};
 ghost use Rattle.edit_script.specs.Order.{IsMeant};
 
 use crate::fault::Unread;

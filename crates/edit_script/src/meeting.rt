@@ -1,7 +1,7 @@
 //! The lines of meeting scripts: one function for each form, found by the first word of the line.
 ghost use Rattle.std.specs.Prelude.{IfOk};
-ghost use Rattle.edit_script.specs.Answers.{Gives};
 ghost use Rattle.map_search.specs.Words.{words_of};
+ghost use Rattle.edit_script.specs.Answers.{Gives};
 ghost use Rattle.edit_script.specs.Meeting.{serve, editor, fetch, send, meeting_form};
 ghost use Rattle.edit_script.specs.Order.{IsMeant};
 
