@@ -5,7 +5,8 @@
 //! so no step misses its tool. A box can't be handed out by the function that makes it, so the shelf and the sink come in
 //! from above, of whatever kind.
 //!
-//! To add a tool of a new verb: its two lines here, the verb in `specs/Verbs`, and the boxes' four lines among the answers.
+//! To add a tool of a new verb: its two lines here, the verb in `specs/Verbs` and `proofs/Each`, and what is answered for its
+//! four boxes.
 #![tactic(auto)]
 
 ghost use Rattle.std.specs.Prelude.{◌≡◌, ◌≤◌, ◌⊎◌, ◌++◌, None, IfSome, IfOk, OnErr, map, string_bytes};
