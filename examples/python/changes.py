@@ -3,7 +3,7 @@
 
 BEFORE is the OPL file that was downloaded, AFTER the output of the session, whose last line is a `print`. An object
 counts as changed where `count` counts it: its tags, place, nodes or members aren't those before, or it is new or
-deleted. Each change names the version that it was made from, as the API wants it. Objects that a session purged are in
+deleted here. Each change names the version that it was made from, as the API wants it. What a session purged is in
 neither part. Nothing is sent, and nothing is compared with what the server has by now.
 """
 import sys
@@ -26,7 +26,8 @@ def changes(before, after):
     things = [after[key] for key in sorted(after, key=rank)]
     content = lambda thing: (thing.tags, thing.lon, thing.lat, thing.nodes, thing.members)
     created = [thing for thing in things if thing.key[1] == '-']
-    deleted = [thing for thing in things if thing.deleted]
+    gone = {key for key, thing in before.items() if thing.deleted}
+    deleted = [thing for thing in things if thing.deleted and thing.key not in gone]
     modified = [thing for thing in things if not thing.deleted and thing.key in before and content(thing) != content(before[thing.key])]
     return created, modified, deleted
 
