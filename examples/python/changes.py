@@ -4,7 +4,8 @@
 BEFORE is the OPL file that was downloaded, AFTER the output of the session, whose last line is a `print`. An object
 counts as changed where `count` counts it: its tags, place, nodes or members aren't those before, or it is new or
 deleted here. Each change names the version that it was made from, as the API wants it. What a session purged is in
-neither part. Nothing is sent, and nothing is compared with what the server has by now.
+neither part, and what BEFORE doesn't have is compared with nothing. Nothing is sent, and nothing is compared with what the
+server has by now.
 """
 import sys
 from xml.sax.saxutils import quoteattr
@@ -27,9 +28,25 @@ def changes(before, after):
     content = lambda thing: (thing.tags, thing.lon, thing.lat, thing.nodes, thing.members)
     created = [thing for thing in things if thing.key[1] == '-']
     gone = {key for key, thing in before.items() if thing.deleted}
-    deleted = [thing for thing in things if thing.deleted and thing.key not in gone]
+    deleted = [thing for thing in things if thing.deleted and thing.key in before and thing.key not in gone]
     modified = [thing for thing in things if not thing.deleted and thing.key in before and content(thing) != content(before[thing.key])]
     return created, modified, deleted
+
+
+def behind_members(things, members):
+    """The objects as they stand, but each behind those of its members that are among them; in a ring the first comes last."""
+    by_key, seen, order = {thing.key: thing for thing in things}, set(), []
+    for first in by_key:
+        path = [] if first in seen else [(first, iter(members(first)))]
+        seen.add(first)
+        while path:
+            found = next((member for member in path[-1][1] if member in by_key and member not in seen), None)
+            if found is None:
+                order.append(by_key[path.pop()[0]])
+            else:
+                seen.add(found)
+                path.append((found, iter(members(found))))
+    return order
 
 
 def element(thing, changeset):
@@ -52,8 +69,10 @@ def attribute(text):
 
 
 def document(before, after, changeset=0):
-    """The osmChange document: first what is created, then what is modified, then what is deleted, users first."""
+    """The osmChange document: first what is created, users last, then what is modified, then what is deleted, users first."""
     created, modified, deleted = changes(before, after)
+    members_in = lambda things: lambda key: [member for member, _ in things[key].members] if key in things else []
+    created, deleted = behind_members(created, members_in(after)), behind_members(deleted, members_in(before))
     yield '<osmChange version="0.6" generator="yokeorange">'
     for name, things in [('create', created), ('modify', modified), ('delete', deleted[::-1])]:
         if things:
