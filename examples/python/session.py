@@ -364,8 +364,9 @@ def read_objects(path):
     things, replied = {}, False
     with open(path, encoding='utf-8', newline='\n') as lines:
         for line in lines:
-            if not re.match('[nwr]-?[0-9]+[ \t]', line):      # a key alone was found
+            if line[0] in DIGITS:      # a reply; comments and empty lines of a file are none
                 replied = True
+            if not re.match('[nwr]-?[0-9]+[ \t]', line):      # a key alone was found
                 continue
             if replied:
                 things, replied = {}, False
