@@ -65,6 +65,11 @@ def quote(text):
     """A text as it stands in a script and in OPL; ValueError if it is too long for the map or has U+0000."""
     if len(text) > LONGEST:
         raise ValueError('{} characters, and the map takes {}: {}...'.format(len(text), LONGEST, text[:40]))
+    return escaped(text)
+
+
+def escaped(text):
+    """A text of any length as it stands in a script, such as a file's name; ValueError if it has U+0000."""
     if '\0' in text:
         raise ValueError('a text with U+0000')
     return ''.join('%{:x}%'.format(ord(c)) if c <= ' ' or c in '%,=@' or '\x7f' <= c <= '\xa0' or c >= '\u0600' else c for c in text)
@@ -111,14 +116,14 @@ class Script:
         """A file, or of it a part: a box of west, south, east and north, and tags, where the value `*` stands for any."""
         words = ['B' + ','.join(map(degrees, box))] if box else []
         words += ['F' + tags(wanted)] if wanted else []
-        self._step('download', quote(str(name)), *words)
+        self._step('download', escaped(str(name)), *words)
 
     def generate(self, streets):
         self._step('generate', str(streets))
 
     def import_file(self, name):
         """The new objects of a file. No id is foretold behind it, since how many there are isn't known here; the reply has the keys."""
-        self.step('import', quote(str(name)))
+        self.step('import', escaped(str(name)))
 
     def node(self, lon, lat, pairs):
         self._step('node', 'x' + degrees(lon), 'y' + degrees(lat), 'T' + tags(pairs))
@@ -190,7 +195,7 @@ class Script:
 
     def confirm(self, name):
         """The answers of a server to the first changes of an upload; ids of new objects count on."""
-        self._step('confirm', quote(str(name)))
+        self._step('confirm', escaped(str(name)))
 
     def rehearse(self):
         self._step('rehearse')
@@ -214,7 +219,7 @@ class Script:
 
     def resume(self, name):
         """A saved session. No id is foretold behind it, since they count on from those of that session."""
-        self.step('resume', quote(str(name)))
+        self.step('resume', escaped(str(name)))
 
     def begin(self):
         self._step('begin')

@@ -26,6 +26,13 @@ class Texts(unittest.TestCase):
         quote('é' * 255)
         self.assertRaises(ValueError, quote, 'é' * 256)
 
+    def test_a_name_of_a_file_is_no_text_of_the_map(self):
+        name = 'a folder/' * 40 + 'town.opl'
+        script = Script()
+        for call in (script.download, script.import_file, script.confirm, script.resume):
+            call(name)
+        self.assertEqual([unquote(line.split(' ', 1)[1]) for line in script.lines], [name] * 4)
+
     def test_degrees(self):
         self.assertEqual([degrees(n) for n in (13.65, -0.00000001, 1e-7, Decimal('180'), -5)], ['13.65', '0', '0.0000001', '180', '-5'])
 
