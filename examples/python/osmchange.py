@@ -16,8 +16,18 @@ from session import parse_chunks, upload_lines
 NO_XML = re.compile('[^\t\n\r -\ud7ff\ue000-\ufffd\U00010000-\U0010ffff]')
 
 
+def carried(changes):
+    """The pairs of verb and object themselves; ValueError where a text of theirs has a character that XML can't carry."""
+    for verb, thing in changes:
+        found = NO_XML.search(' '.join([*thing.tags, *thing.tags.values(), *(role for _, role in thing.members)]))
+        if found:
+            raise ValueError('{} {}: a text has U+{:04X}, which XML can\'t carry'.format(verb, thing.key, ord(found[0])))
+    return changes
+
+
 def document(changes, changeset):
-    """The osmChange document of pairs of verb and object; neighbours with one verb share an element."""
+    """The lines of the osmChange document of pairs of verb and object; neighbours with one verb share an element."""
+    carried(changes)
     yield '<osmChange version="0.6" generator="yokeorange">'
     for verb, group in groupby(changes, key=lambda change: change[0]):
         yield '  <{}>'.format(verb)
@@ -34,11 +44,7 @@ def chunk_of(path, number):
         raise ValueError('there is no upload with changes in it')
     if number > len(chunks):
         raise ValueError('its upload has no chunk {}, only {}'.format(number, len(chunks)))
-    for verb, thing in chunks[number - 1]:
-        found = NO_XML.search(' '.join([*thing.tags, *thing.tags.values(), *(role for _, role in thing.members)]))
-        if found:
-            raise ValueError('{} {}: a text has U+{:04X}, which XML can\'t carry'.format(verb, thing.key, ord(found[0])))
-    return chunks[number - 1]
+    return carried(chunks[number - 1])
 
 
 def main(words):

@@ -22,6 +22,7 @@ answer None: the reply has the key then.
 Many new objects come better by a `Drawing`, a file for `import`: there they have keys of the file's own, and nothing is
 foretold.
 """
+import os
 import pathlib
 import re
 import subprocess
@@ -43,19 +44,19 @@ Conflict.__doc__ = """An object in conflict: why (`changed`, `held` or `withdraw
 
 
 class Stopped(Exception):
-    """The session didn't run: its status and its message, as docs/REFUSALS.md has them."""
+    """The session didn't run to its end: its status, its message, as docs/REFUSALS.md has them, and the step with status 4."""
 
-    def __init__(self, status, message):
-        super().__init__('status {}: {}'.format(status, message))
-        self.status = status
+    def __init__(self, status, message, step=None):
+        super().__init__('status {}: {}'.format(status, message) + (': ' + step if step is not None else ''))
+        self.status, self.step = status, step
 
 
 class Refused(Exception):
-    """A step was refused: the reply, and the step as it stands in the script."""
+    """A step was refused: the reply, the step as it stands in the script, and the answer with all that the session wrote."""
 
-    def __init__(self, reply, step):
+    def __init__(self, reply, step, answer):
         super().__init__('line {}: refused {}: {}'.format(reply.line, reply.rest, step))
-        self.reply, self.step = reply, step
+        self.reply, self.step, self.answer = reply, step, answer
         self.number = int(reply.rest.split(' ')[0])
 
 
@@ -263,11 +264,14 @@ class Drawing:
         return self._new('r', 'T' + tags(pairs), 'M' + ','.join('{}@{}'.format(key, quote(role)) for key, role in members))
 
     def write(self, path):
-        pathlib.Path(path).write_text(''.join(line + '\n' for line in self.lines), encoding='utf-8', newline='\n')
+        write_whole(path, ''.join(line + '\n' for line in self.lines))
 
     def named(self, reply):
-        """The session's keys by the drawing's, from the reply to the import of all of it."""
-        return dict(zip(self.keys, reply.rest.split(',')))
+        """The session's keys by the drawing's, from the reply to the import of all of it; ValueError where it is another reply."""
+        names = reply.rest.split(',') if reply.word == 'ok' and reply.rest else []
+        if reply.word != 'ok' or len(names) != len(self.keys):
+            raise ValueError('line {}: {} {}: no import of these {} objects'.format(reply.line, reply.word, reply.rest[:40], len(self.keys)))
+        return dict(zip(self.keys, names))
 
 
 # ---- a run ----
@@ -320,8 +324,22 @@ class Answer:
         """The text of the last `save`, which a file for `resume` has; empty where nothing was saved."""
         return ''.join(line + '\n' for line in self._written('save'))
 
+    def keep(self, path):
+        """Puts the text of the last `save` into a file, whole or not at all. ValueError where nothing was saved, or where a
+        `resume` was refused, since the session began from nothing then."""
+        text = self.saved()
+        if not text:
+            raise ValueError('nothing was saved')
+        for reply in self.replies:
+            if reply.word != 'ok' and self.step(reply).startswith('resume'):
+                raise ValueError('line {}: {} {}: {}'.format(reply.line, reply.word, reply.rest, self.step(reply)))
+        write_whole(path, text)
+
     def chunks(self):
-        """The chunks of the last `upload`: lists of pairs, the verb and the Object, which for `delete` has key and version alone."""
+        """The chunks of the last `upload`: lists of pairs, the verb and the Object, which for `delete` has key and version alone.
+
+        None where nothing is left to send, and none where the `upload` was refused: its reply tells which.
+        """
         return parse_chunks(self._written('upload'))
 
 
@@ -335,16 +353,29 @@ def run(script, program='yokeorange', folder='.', allow_refused=False, max_objec
     options += ['--max-file={}'.format(max_file)] if max_file is not None else []
     with tempfile.TemporaryDirectory() as place:
         path = pathlib.Path(place) / 'script'
-        path.write_text(text, encoding='utf-8', newline='\n')
+        path.write_bytes(text.encode('utf-8'))
         done = subprocess.run([program, *options, str(path)], cwd=folder, stdout=subprocess.PIPE, stderr=subprocess.PIPE)
     if done.returncode != 0:
-        raise Stopped(done.returncode, done.stderr.decode('utf-8', 'replace').strip())
+        message = done.stderr.decode('utf-8', 'replace').strip()
+        found = re.match('editor: bad script line ([0-9]+)$', message)
+        raise Stopped(done.returncode, message, text.split('\n')[int(found[1]) - 1] if found else None)
     answer = Answer(done.stdout.decode('utf-8'), text)
     if not allow_refused:
         for reply in answer.replies:
             if reply.word == 'refused':
-                raise Refused(reply, answer.step(reply))
+                raise Refused(reply, answer.step(reply), answer)
     return answer
+
+
+def write_whole(path, text):
+    """Writes a file whole or not at all: what stood there before stands there until all of the new text is on the disk."""
+    path = pathlib.Path(path)
+    new = path.with_name(path.name + '.new')
+    with open(new, 'w', encoding='utf-8', newline='\n') as file:
+        file.write(text)
+        file.flush()
+        os.fsync(file.fileno())
+    os.replace(new, path)
 
 
 # ---- objects ----

@@ -74,6 +74,7 @@ class Sessions(unittest.TestCase):
         with self.assertRaises(Refused) as seen:
             self.run_script(script)
         self.assertEqual((seen.exception.number, seen.exception.reply.line, seen.exception.step), (1, 2, 'tag n9 Tname=nowhere'))
+        self.assertEqual([reply.word for reply in seen.exception.answer.replies], ['ok', 'refused', 'refused'])
         answer = self.run_script(script, allow_refused=True)
         self.assertEqual([reply.word for reply in answer.replies], ['ok', 'refused', 'refused'])
 
@@ -82,7 +83,8 @@ class Sessions(unittest.TestCase):
         script.step('tga n1')
         with self.assertRaises(Stopped) as seen:
             self.run_script(script)
-        self.assertEqual(seen.exception.status, 4)
+        self.assertEqual((seen.exception.status, seen.exception.step), (4, 'tga n1'))
+        self.assertEqual(str(seen.exception), 'status 4: editor: bad script line 2: tga n1')
 
     def test_each_call_is_a_line_of_the_grammar(self):
         script = self.script()
@@ -137,7 +139,7 @@ class Sessions(unittest.TestCase):
         bench = script.node(13.65, 0.05, {'amenity': 'bench'})
         script.save()
         with tempfile.TemporaryDirectory() as place:
-            pathlib.Path(place, 'day.saved').write_text(self.run_script(script).saved(), encoding='utf-8', newline='\n')
+            self.run_script(script).keep(place + '/day.saved')
             again = Script()
             again.resume(place + '/day.saved')
             self.assertIsNone(again.node(13.6, 1, {}))
@@ -146,6 +148,25 @@ class Sessions(unittest.TestCase):
             answer = self.run_script(again)
         self.assertEqual([reply.rest for reply in answer.replies], ['', 'n-2', '', ''])
         self.assertEqual(answer.saved().split('\n')[0], 'session 1 3')
+
+    def test_keeps_a_session_whole_or_not_at_all(self):
+        with tempfile.TemporaryDirectory() as place:
+            kept = pathlib.Path(place, 'day.saved')
+            script = self.script()
+            script.save()
+            self.run_script(script).keep(kept)
+            before = kept.read_bytes()
+            self.assertEqual(before.decode(), self.run_script(script).saved())
+            skipped, nothing = self.script(), Script()
+            for step in ('begin', 'tag n9 Tref=7', 'save', 'end'):
+                skipped.step(step)
+            nothing.resume(place + '/there-is-none')
+            nothing.save()
+            for other, words in [(self.script(), 'nothing was saved'), (skipped, 'nothing was saved'), (nothing, 'line 1: refused 19: resume ')]:
+                with self.assertRaisesRegex(ValueError, words):
+                    self.run_script(other, allow_refused=True).keep(kept)
+                self.assertEqual(kept.read_bytes(), before)
+            self.assertEqual([path.name for path in pathlib.Path(place).iterdir()], ['day.saved'])
 
     def test_a_part_of_a_file(self):
         script = Script()
@@ -185,6 +206,8 @@ class Sessions(unittest.TestCase):
         self.assertEqual(things[names[bench]].tags, {'amenity': 'bench', 'note': 'a, b = c'})
         self.assertEqual(things[names[path]].nodes, ['n2', names[bench]])
         self.assertEqual(things['r-4'].members, [(names[path], 'a role'), ('w5', '')])
+        for reply in (answer.replies[1], answer.replies[2]._replace(word='refused', rest='7 n-2'), answer.replies[2]._replace(word='skipped', rest='')):
+            self.assertRaisesRegex(ValueError, 'no import of these 3 objects', drawing.named, reply)
 
     def test_foretells_no_key_that_it_cannot_know(self):
         script = self.script()
@@ -294,6 +317,13 @@ class Uploads(unittest.TestCase):
         self.assertIn('<tag k="name" v=\'a &amp; "b"&#10;\'/>', text)
         text = '\n'.join(osmchange.document(changes[2:] + changes[:2] + changes[2:], '77'))
         self.assertEqual([text.count('<{}>'.format(verb)) for verb in ('create', 'modify', 'delete')], [1, 2, 2])
+
+    def test_makes_no_document_of_what_xml_cannot_carry(self):
+        script = self.settled()
+        script.tag(['n1'], {'note': 'a\x01b'})
+        script.upload(10)
+        with self.assertRaisesRegex(ValueError, r'modify n1: a text has U\+0001'):
+            '\n'.join(osmchange.document(run(script, PROGRAM).chunks()[0], '77'))
 
     def test_says_what_is_wrong_with_an_output(self):
         for steps, number, words in [
