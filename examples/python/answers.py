@@ -5,11 +5,17 @@ OUTPUT is what a session wrote, of which the last `upload` counts; CHUNK is the 
 RESULT is the `diffResult` document that the API answered when the chunk was uploaded. The answers stand in the order of
 the upload, so those to chunk 1 are an answer file; behind them may stand those to chunk 2, and so on.
 
-Where the document isn't one, or doesn't answer each change of the chunk and no other, it says so, writes nothing and
-ends with 1.
+Where that document never came RESULT may be the osmChange document of the changeset, as `GET changeset/ID/download` gives
+it. A new object is then the one in it with the same tags and the same place, nodes or members; where several are alike, those
+of earlier chunks among them, the last ids are those of this chunk.
+
+Where the document is neither, or doesn't answer each change of the chunk, or a `diffResult` has another result beside, it
+says so, writes nothing and ends with 1.
 """
 import re
 import sys
+from collections import Counter
+from decimal import Decimal
 from xml.etree import ElementTree
 
 from osmchange import chunk_of
@@ -17,14 +23,19 @@ from osmchange import chunk_of
 KEYS = {'node': 'n', 'way': 'w', 'relation': 'r'}
 
 
-def results(text):
-    """The lines of a diffResult by key and by whether it went; ValueError where the text is none."""
+def document(text):
+    """The root of a diffResult or of an osmChange document; ValueError where the text is neither."""
     try:
         root = ElementTree.fromstring(text)
     except ElementTree.ParseError:
         raise ValueError('it is no diffResult: ' + text.decode('utf-8', 'replace').strip().split('\n')[0][:200])
-    if root.tag != 'diffResult':
+    if root.tag not in ('diffResult', 'osmChange'):
         raise ValueError('it is no diffResult: <{}>'.format(root.tag))
+    return root
+
+
+def results(root):
+    """The lines of a diffResult by key and by whether it went."""
     found = {}
     for line in root:
         if line.tag not in KEYS or not line.get('old_id'):
@@ -71,6 +82,56 @@ def answers(changes, found):
     return lines
 
 
+def content(letter, element):
+    """What an object of a changeset has but for its id: tags, place, nodes and members."""
+    place = tuple(Decimal(element.get(name)) for name in ('lon', 'lat')) if letter == 'n' else None
+    return (letter, tuple(sorted((tag.get('k'), tag.get('v')) for tag in element.iter('tag'))), place, tuple('n' + node.get('ref') for node in element.iter('nd')),
+            tuple((KEYS[member.get('type')] + member.get('ref'), member.get('role') or '') for member in element.iter('member')))
+
+
+def wanted(thing, names):
+    """The same of an object of the chunk, with the names that new objects before it got."""
+    place = (thing.lon, thing.lat) if thing.key[0] == 'n' else None
+    return (thing.key[0], tuple(sorted(thing.tags.items())), place, tuple(names.get(node, node) for node in thing.nodes),
+            tuple((names.get(key, key), role) for key, role in thing.members))
+
+
+def looked_up(changes, root):
+    """The answers to pairs of verb and object by what a changeset has; ValueError where one of them isn't in it."""
+    made, there, lines, names = {}, set(), [], {}
+    alike = Counter(wanted(thing, {}) for verb, thing in changes if verb == 'create')
+    for part in root:
+        for element in part:
+            letter = KEYS[element.tag]
+            there.add((part.tag, letter + element.get('id'), int(element.get('version'))))
+            if part.tag == 'create':
+                made.setdefault(content(letter, element), []).append(letter + element.get('id'))
+    for keys in made.values():
+        keys.sort(key=lambda key: int(key[1:]))
+    for verb, thing in changes:
+        keys, left = made.get(wanted(thing, names), []), wanted(thing, {})
+        if verb == 'create' and len(keys) >= alike[left]:
+            names[thing.key] = keys.pop(-alike[left])
+            alike[left] -= 1
+            lines.append('create {} {} v1'.format(thing.key, names[thing.key]))
+        elif verb != 'create' and (verb, thing.key, thing.version + 1) in there:
+            lines.append('{} {} v{}'.format(verb, thing.key, thing.version + 1))
+        else:
+            raise ValueError('{} {} isn\'t in the changeset'.format(verb, thing.key))
+    return lines
+
+
+def answers_of(changes, text):
+    """The answers to pairs of verb and object by the bytes of either document; ValueError where it doesn't answer each of them."""
+    root = document(text)
+    if root.tag == 'diffResult':
+        return answers(changes, results(root))
+    try:
+        return looked_up(changes, root)
+    except (ArithmeticError, KeyError, TypeError):
+        raise ValueError('it is no document of a changeset')
+
+
 def main(words):
     if len(words) != 3 or not re.fullmatch('[1-9][0-9]*', words[1]):
         sys.exit('answers.py OUTPUT CHUNK RESULT, of which CHUNK is a number from 1 on')
@@ -79,7 +140,7 @@ def main(words):
         changes = chunk_of(words[0], int(words[1]))
         path = words[2]
         with open(path, 'rb') as result:
-            lines = answers(changes, results(result.read()))
+            lines = answers_of(changes, result.read())
     except OSError as error:
         sys.exit('answers.py: {}'.format(error))
     except ValueError as error:

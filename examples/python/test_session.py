@@ -371,12 +371,38 @@ class Answers(unittest.TestCase):
             kept.write(self.CHUNK)
             kept.flush()
             result = text or '<?xml version="1.0" encoding="UTF-8"?>\n<diffResult version="0.6">' + ''.join(lines) + '</diffResult>'
-            return answers.answers(osmchange.chunk_of(kept.name, 1), answers.results(result.encode()))
+            return answers.answers_of(osmchange.chunk_of(kept.name, 1), result.encode())
 
     def test_each_change_has_its_answer(self):
         want = ['create n-1 n50 v1', 'create w-2 w60 v1', 'modify w7 v10', 'modify r3 v2', 'delete r3 v3']
         self.assertEqual(self.answered(self.LINES), want)
         self.assertEqual(self.answered(self.LINES[::-1]), want)
+
+    CHANGESET = ('<osmChange version="0.6">{}'
+                 '<modify><way id="7" version="10"><nd ref="1"/></way><relation id="3" version="2"/></modify>'
+                 '<delete><relation id="3" version="3"/></delete></osmChange>')
+    MADE = '<create><way id="60" version="1"><nd ref="50"/></way></create><create><node id="50" version="1" lat="1.0000000" lon="1.0"/></create>'
+
+    def test_a_changeset_answers_where_no_result_came(self):
+        want = ['create n-1 n50 v1', 'create w-2 w60 v1', 'modify w7 v10', 'modify r3 v2', 'delete r3 v3']
+        self.assertEqual(self.answered([], self.CHANGESET.format(self.MADE)), want)
+        earlier = '<create><node id="49" version="1" lat="1" lon="1"/><node id="51" version="1" lat="1" lon="1"><tag k="a" v="b"/></node></create>'
+        self.assertEqual(self.answered([], self.CHANGESET.format(earlier + self.MADE)), want)
+        for text, words in [
+                (self.CHANGESET.format(''), "create n-1 isn't in the changeset"),
+                (self.CHANGESET.format(self.MADE.replace('lat="1.0000000"', 'lat="1.0000001"')), "create n-1 isn't"),
+                (self.CHANGESET.format(self.MADE.replace('ref="50"', 'ref="49"')), "create w-2 isn't"),
+                (self.CHANGESET.format(self.MADE).replace('version="10"', 'version="11"'), "modify w7 isn't"),
+                (self.CHANGESET.format(self.MADE).replace('<delete><relation id="3"', '<delete><relation id="4"'), "delete r3 isn't"),
+                ('<osmChange><modify><area id="1" version="2"/></modify></osmChange>', 'no document of a changeset'),
+                ('<osmChange><create><node id="1" version="1"/></create></osmChange>', 'no document of a changeset')]:
+            with self.assertRaisesRegex(ValueError, words):
+                self.answered([], text)
+
+    def test_objects_alike_have_the_ids_in_their_order(self):
+        changes = [('create', parse_object('n-{} v0 dV c0 t i0 u Taddr:housenumber=7 x1 y1'.format(number))) for number in (1, 2)]
+        made = ''.join('<create><node id="{}" version="1" lat="1" lon="1"><tag k="addr:housenumber" v="7"/></node></create>'.format(number) for number in (9, 10, 8))
+        self.assertEqual(answers.answers_of(changes, '<osmChange>{}</osmChange>'.format(made).encode()), ['create n-1 n9 v1', 'create n-2 n10 v1'])
 
     def test_says_what_is_wrong_with_a_result(self):
         for at, line, words in [
