@@ -23,6 +23,10 @@ from osmchange import chunk_of
 KEYS = {'node': 'n', 'way': 'w', 'relation': 'r'}
 
 
+class Missing(ValueError):
+    """None of a chunk's changes is in a changeset: it wasn't taken."""
+
+
 def document(text):
     """The root of a diffResult or of an osmChange document; ValueError where the text is neither."""
     try:
@@ -97,8 +101,8 @@ def wanted(thing, names):
 
 
 def looked_up(changes, root):
-    """The answers to pairs of verb and object by what a changeset has; ValueError where one of them isn't in it."""
-    made, there, lines, names = {}, set(), [], {}
+    """The answers to pairs of verb and object by what a changeset has; Missing where it has none of them, ValueError where it has some."""
+    made, there, lines, names, missing = {}, set(), [], {}, []
     alike = Counter(wanted(thing, {}) for verb, thing in changes if verb == 'create')
     for part in root:
         for element in part:
@@ -117,7 +121,11 @@ def looked_up(changes, root):
         elif verb != 'create' and (verb, thing.key, thing.version + 1) in there:
             lines.append('{} {} v{}'.format(verb, thing.key, thing.version + 1))
         else:
-            raise ValueError('{} {} isn\'t in the changeset'.format(verb, thing.key))
+            missing.append('{} {} isn\'t in the changeset'.format(verb, thing.key))
+    if missing and lines:
+        raise ValueError('{}, and this is: {}'.format(missing[0], lines[0]))
+    if missing:
+        raise Missing(missing[0])
     return lines
 
 

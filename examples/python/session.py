@@ -25,6 +25,7 @@ foretold.
 import os
 import pathlib
 import re
+import shutil
 import subprocess
 import tempfile
 from collections import namedtuple
@@ -344,17 +345,20 @@ class Answer:
 
 
 def run(script, program='yokeorange', folder='.', allow_refused=False, max_objects=None, max_file=None):
-    """Runs a script over the files of the folder, with other limits where they are given.
+    """Runs a script over the files of the folder, with other limits where they are given. The program is on the path, or
+    named as seen from where Python runs.
 
     Raises `Stopped` where the status isn't 0, and `Refused` at the first refused step, unless refusals are allowed.
     """
-    text = str(script)
+    text, found = str(script), shutil.which(program)
+    if found is None:
+        raise FileNotFoundError('there is no program {}: README, "Try it", puts it on the path'.format(program))
     options = ['--max-objects={}'.format(max_objects)] if max_objects is not None else []
     options += ['--max-file={}'.format(max_file)] if max_file is not None else []
     with tempfile.TemporaryDirectory() as place:
         path = pathlib.Path(place) / 'script'
         path.write_bytes(text.encode('utf-8'))
-        done = subprocess.run([program, *options, str(path)], cwd=folder, stdout=subprocess.PIPE, stderr=subprocess.PIPE)
+        done = subprocess.run([os.path.abspath(found), *options, str(path)], cwd=folder, stdout=subprocess.PIPE, stderr=subprocess.PIPE)
     if done.returncode != 0:
         message = done.stderr.decode('utf-8', 'replace').strip()
         found = re.match('editor: bad script line ([0-9]+)$', message)

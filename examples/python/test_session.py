@@ -1,14 +1,20 @@
 #!/usr/bin/env python3
 """test_session.py [PROGRAM]: tries the driver on the example town. Run it in the folder examples/; bench/pages does."""
+import os
 import pathlib
+import shutil
 import sys
 import tempfile
 import unittest
 from decimal import Decimal
+from xml.etree import ElementTree
 
 import answers
 import changes
+import keeper
 import osmchange
+import session
+from keeper import Keeper, NotTaken, Unknown
 from session import Answer, Drawing, Refused, Script, Stopped, degrees, parse_object, quote, read_objects, run, tags, unquote, upload_lines
 
 PROGRAM = sys.argv.pop() if len(sys.argv) > 1 else 'yokeorange'
@@ -85,6 +91,15 @@ class Sessions(unittest.TestCase):
             self.run_script(script)
         self.assertEqual((seen.exception.status, seen.exception.step), (4, 'tga n1'))
         self.assertEqual(str(seen.exception), 'status 4: editor: bad script line 2: tga n1')
+
+    def test_the_program_is_named_from_where_python_runs(self):
+        with tempfile.TemporaryDirectory() as place:
+            named = pathlib.Path(place, 'named')
+            named.symlink_to(shutil.which(PROGRAM))
+            script = Script()
+            script.count()
+            self.assertEqual(run(script, os.path.relpath(named), place).counts()['nodes'], 0)
+            self.assertRaisesRegex(FileNotFoundError, 'there is no program', run, script, 'named', place)
 
     def test_each_call_is_a_line_of_the_grammar(self):
         script = self.script()
@@ -423,6 +438,139 @@ class Answers(unittest.TestCase):
         for text, words in [('Version mismatch: Provided 9, server had: 10 of Way 7', 'no diffResult: Version mismatch'), ('<osm/>', 'no diffResult: <osm>')]:
             with self.assertRaisesRegex(ValueError, words):
                 self.answered([], text)
+
+
+class Server:
+    """A server that takes a document whole or not at all, and has a changeset's document."""
+
+    def __init__(self, versions):
+        self.versions, self.took, self.tags = dict(versions), {}, {}
+
+    def send(self, text):
+        versions, took, lines = dict(self.versions), [], []
+        root = ElementTree.fromstring(text)
+        for part in root:
+            for thing in part:
+                key, version = (thing.tag, thing.get('id')), int(thing.get('version'))
+                if part.tag == 'create':
+                    given = str(max([500] + [int(number) for _, number in versions]) + 1)
+                    lines.append('<{} old_id="{}" new_id="{}" new_version="1"/>'.format(thing.tag, thing.get('id'), given))
+                    thing.set('id', given)
+                elif versions.get(key) != version:
+                    raise NotTaken('Version mismatch: Provided {}, server had: {} of {}'.format(version, versions.get(key), key))
+                else:
+                    new = '' if part.tag == 'delete' else ' new_id="{}" new_version="{}"'.format(thing.get('id'), version + 1)
+                    lines.append('<{} old_id="{}"{}/>'.format(thing.tag, thing.get('id'), new))
+                versions[thing.tag, thing.get('id')] = version + 1
+                thing.set('version', str(version + 1))
+                took.append('<{0}>{1}</{0}>'.format(part.tag, ElementTree.tostring(thing, 'unicode')))
+                self.tags[thing.tag, thing.get('id')] = [(tag.get('k'), tag.get('v')) for tag in thing.iter('tag')]
+        self.versions = versions
+        self.took.setdefault(root[0][0].get('changeset'), []).extend(took)
+        return '<diffResult version="0.6">{}</diffResult>'.format(''.join(lines))
+
+    def look(self, changeset):
+        return '<osmChange version="0.6">{}</osmChange>'.format(''.join(self.took.get(changeset, [])))
+
+
+class Stop(Exception):
+    """The program ends here, as where the power fails."""
+
+
+class Keeping(unittest.TestCase):
+    def setUp(self):
+        holder = tempfile.TemporaryDirectory()
+        self.addCleanup(holder.cleanup)
+        self.place = pathlib.Path(holder.name)
+        self.moments, self.stop = 0, None
+        for module in (session, keeper):
+            self.addCleanup(setattr, module, 'write_whole', module.write_whole)
+            module.write_whole = self.around(module.write_whole)
+
+    def moment(self):
+        self.moments += 1
+        if self.moments == self.stop:
+            raise Stop()
+
+    def around(self, work):
+        def done(*words):
+            self.moment()
+            found = work(*words)
+            self.moment()
+            return found
+        return done
+
+    def job(self, folder, server, changeset):
+        """All of a job, from wherever it stopped before; six changes, in chunks of two."""
+        kept = Keeper(folder, PROGRAM, 2)
+        if not kept.last():
+            script = Script()
+            script.download(pathlib.Path('monday.opl').resolve())
+            kept.start(script)
+        if kept.last() == 1:
+            drawing = Drawing()
+            drawing.way([drawing.node(13.004, 52, {'name': 'a'}), drawing.node(13.004, 52, {'name': 'a'}), 'n3'], {'highway': 'path'})
+            drawing.write(folder / 'new.opl')
+            nowhere = lambda script: (script.tag(['n1'], {'name': 'no'}), script.tag(['n9'], {'name': 'no'}))
+            outcomes = kept.edit([lambda script: script.import_file('new.opl'), nowhere, lambda script: script.tag(['w5'], {'surface': 'asphalt'}),
+                                 lambda script: script.delete(['n8']), lambda script: script.tag(['n2'], {'note': 'x'})])
+            self.assertEqual([found.refused and found.refused.rest for found in outcomes], [None, '1 n9', None, None, None])
+            self.assertEqual([[reply.word for reply in found.replies] for found in outcomes[:2]], [['ok'], ['ok', 'refused']])
+            self.assertEqual(sorted(drawing.named(outcomes[0].replies[0])), ['n-1', 'n-2', 'w-3'])
+        kept.upload(changeset, self.around(server.send), server.look)
+
+    def test_nothing_is_lost_and_nothing_sent_twice_wherever_it_stops(self):
+        versions = {('node', '1'): 1, ('node', '2'): 1, ('node', '3'): 1, ('node', '8'): 2, ('way', '5'): 3}
+        want = dict(versions)
+        want.update({('node', '501'): 1, ('node', '502'): 1, ('way', '503'): 1, ('node', '2'): 2, ('node', '8'): 3, ('way', '5'): 4})
+        for self.stop in range(0, 200):
+            server, self.moments = Server(versions), 0
+            folder = self.place / str(self.stop)
+            folder.mkdir()
+            try:
+                self.job(folder, server, '1')
+                stopped = False
+            except Stop:
+                stopped = True
+                self.job(folder, server, '2')
+            self.assertEqual((self.stop, server.versions), (self.stop, want))
+            self.assertEqual(Keeper(folder).last(), 5)
+            if self.stop and not stopped:
+                break
+        self.assertGreater(self.stop, 30)
+
+    def test_somebody_was_faster(self):
+        server = Server({('way', '5'): 4})
+        kept = Keeper(self.place, PROGRAM)
+        script = Script()
+        script.download(pathlib.Path('monday.opl').resolve())
+        kept.start(script)
+        self.assertRaises(ValueError, kept.start, script)
+        kept.edit([lambda script: script.tag(['w5'], {'surface': 'asphalt', 'name': 'Old Street'})])
+        self.assertRaises(NotTaken, kept.upload, '1', server.send, server.look)
+        self.assertEqual(kept.edit([lambda script: script.download(pathlib.Path('tuesday.opl').resolve())])[0].refused, None)
+        self.assertRaises(Refused, kept.upload, '1', server.send, server.look)
+        conflict, = kept.ask(lambda script: script.conflicts()).conflicts()
+        self.assertEqual((conflict.key, conflict.theirs.tags['name']), ('w5', 'Main Street'))
+        self.assertEqual(kept.edit([lambda script: script.resolve_parts('w5', 'mine', ['name'])])[0].refused, None)
+        kept.upload('1', server.send, server.look)
+        self.assertEqual((server.versions, server.tags['way', '5'][1:]), ({('way', '5'): 5}, [('name', 'Main Street'), ('surface', 'asphalt')]))
+
+    def test_edits_nothing_while_it_is_unknown_what_was_taken(self):
+        kept = Keeper(self.place, PROGRAM)
+        script = Script()
+        script.generate(1)
+        kept.start(script)
+        wish = lambda script: script.tag(['w1'], {'surface': 'asphalt'})
+        kept.edit([wish])
+        for said in ('<html>', '<diffResult version="0.6"/>'):
+            self.assertRaises(ValueError, kept.upload, '1', lambda text: said, lambda changeset: '<osmChange/>')
+            self.assertRaises(Unknown, kept.edit, [wish])
+        self.assertRaisesRegex(ValueError, 'no diffResult', kept.upload, '1', self.fail, lambda changeset: 'Bad Gateway')
+        self.assertRaises(Unknown, kept.edit, [wish])
+        server = Server({('way', '1'): 1})
+        kept.upload('2', server.send, server.look)
+        self.assertEqual((server.versions, kept.last()), ({('way', '1'): 2}, 3))
 
 
 class Objects(unittest.TestCase):
