@@ -1,6 +1,7 @@
 pub mod Looked
 pub mod Laws
 pub mod Exactness
+pub mod Ids
 pub mod Listed
 pub mod SideLaws
 pub mod LeadLaws
