@@ -6,6 +6,7 @@ pub mod Listed
 pub mod SideLaws
 pub mod LeadLaws
 pub mod Drafted
+pub mod Arrivals
 pub mod Differs
 pub mod Kept
 pub mod Changes

@@ -9,17 +9,18 @@ ghost use Rattle.dataset.specs.Sound.{IsSound};
 ghost use Rattle.dataset.specs.Patch.{IsDiff, in_order, StandsBefore, StandsAfter, after_of, before_of};
 ghost use Rattle.dataset.specs.Diff.{diff};
 ghost use Rattle.dataset.specs.Draft.{drafted};
+ghost use Rattle.dataset.specs.Arrivals.{arrivals};
 ghost use Rattle.dataset.specs.Exact.{IsExact};
 ghost use Rattle.dataset.specs.Sides.{side, led};
 
-use crate::difference::edits_over;
+use crate::difference::{edits_of_told, edits_over};
 use crate::draft::Draft;
 use crate::edit::Edit;
 use crate::pairs::pairs;
 use crate::patch::Patch;
 use crate::writes::{drop_keys, put_keys, write_all, writes_of};
 use osm_base::{Key, Keys};
-use osm_table::{SharedEntry, Table};
+use osm_table::{SharedEntry, Table, ToldMap};
 use ref_index::RefIndex;
 use std::alloc::{AllocError, Global};
 use std::marker::Model;
@@ -138,6 +139,24 @@ impl DataSet {
         let keys = draft.ordered()?;
         let edits = edits_over(*keys.allocator(), &self.table, draft, &keys)?;
         Ok(Patch::new(edits, self.table.next(), draft.next()))
+    }
+
+    /// The difference between the table and the one where all that is told has come. Keys whose
+    /// entries stay are left out. Costs what is told and one sort of its keys, which is one pass where
+    /// they were told by rank; no look-up in what is told then, nor in the table where its keys came
+    /// by rank too. The entries are shared, none is copied.
+    ///
+    /// # Errors
+    ///
+    /// Where no memory is found.
+    pub fn patch_of_told(&self, told: &ToldMap) -> Result<Patch, AllocError>
+        ensures value { IfOk result (λ patch. patch ≡ diff self.now (drafted (arrivals told.now.told self.now.next) self.now)) }
+        ensures differs { IfOk result (λ patch. IsDiff self.now (drafted (arrivals told.now.told self.now.next) self.now) patch) }
+    {
+        let keys = told.ordered()?;
+        let next = self.table.next();
+        let edits = edits_of_told(self.table.alloc(), &self.table, told, keys.as_slice())?;
+        Ok(Patch::new(edits, next, next))
     }
 
     /// Leads the table on, from what the patch has before to what it has after. Costs the edited
