@@ -23,12 +23,12 @@ pub fn get_near(
 {
     if let Some((there, entry)) = entries.get_index(near) {
         if *there == key {
-            return Some((near + 1, entry));
+            return Some((near.saturating_add(1), entry));
         }
     }
     match entries.get_full(&key) {
         None => None,
-        Some((place, _, entry)) => Some((place + 1, entry)),
+        Some((place, _, entry)) => Some((place.saturating_add(1), entry)),
     }
 }
 
