@@ -129,6 +129,10 @@ pub push_step : (d : DraftValue) (t : TableValue) (k : Key) (after : Option Entr
 push_step d t k after o e ks es fs there is some items over =
     subst (λ (gs : List Edit). DiffOver t (drafted d t) (ks ++ k ∷ []) gs) (sym items) (edit_step d t k after (Some e) ks es there (subst (IsEditOf (entry_of t k) k after) some is) over)
 
+-- an edit to what is the same
+pub edit_to : (before : Option Entry) (k : Key) (after new : Option Entry) (o : Option Edit) → after ≡ new → IsEditOf before k after o → IsEditOf before k new o
+edit_to before k after new o e is = subst (λ (a : Option Entry). IsEditOf before k a o) e is
+
 pub whole_at : (d : DraftValue) (t t₀ : TableValue) (ks : List Key) (es : List Edit) (n m : ℕ) → t ≡ t₀ → ks ≡ fin.keys d.puts → DiffOver t (drafted d t) ks es → n ≡ t.next → m ≡ d.next → IsDiff t₀ (drafted d t₀) (record { edits = es; next_before = n; next_after = m })
 whole_at d t t₀ ks es n m same keys over is_n is_m =
     subst (λ (x : TableValue). IsDiff x (drafted d x) (record { edits = es; next_before = n; next_after = m })) same

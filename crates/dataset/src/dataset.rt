@@ -154,9 +154,9 @@ impl DataSet {
         ensures differs { IfOk result (λ patch. IsDiff self.now (drafted (arrivals told.now.told self.now.next) self.now) patch) }
     {
         let keys = told.ordered()?;
-        let next = self.table.next();
-        let edits = edits_of_told(self.table.alloc(), &self.table, told, keys.as_slice())?;
-        Ok(Patch::new(edits, next, next))
+        let edits = edits_of_told(self.alloc(), &self.table, told, keys.as_slice())?;
+        let number = self.table.next();
+        Ok(Patch::new(edits, number, number))
     }
 
     /// Leads the table on, from what the patch has before to what it has after. Costs the edited
