@@ -55,7 +55,7 @@ told_all (o ∷ os) m k =
     ∙ ap (option_or (telling os k)) (fin.get-insert rank_total m.told o.key (told_of_object o) k ∙ cond_or (is_key k o.key) (told_of_object o) (told_at m k))
     ∙ or_assoc (telling os k) (cond (is_key k o.key) (Some (told_of_object o)) None) (told_at m k)
 
-abbrev mention_if : Bool → Option Told
+abbrev pub mention_if : Bool → Option Told
 mention_if b = cond b (Some Mentioned) None
 
 -- a mention tells nothing beside what is told already
@@ -67,7 +67,8 @@ mentioned_new : (m : ToldValue) (r k : Key) (b : Bool) → is_key k r ≡ b → 
 mentioned_new m r k true is none = rw (ap (told_at m) (one_key k r is) ∙ none) refl
 mentioned_new m r k false is none = elim (told_at m k) as (λ o. o ≡ option_or o None) [ None ↦ refl | Some u ↦ refl ]
 
-mention_cases : (m : ToldValue) (r k : Key) (o : Option Told) → told_at m r ≡ o
+-- what a mention leaves told of a key
+pub mention_cases : (m : ToldValue) (r k : Key) (o : Option Told) → told_at m r ≡ o
     → told_at (cond (is_some o) m (with_told m r Mentioned)) k ≡ option_or (told_at m k) (mention_if (is_key k r))
 mention_cases m r k None none = fin.get-insert rank_total m.told r Mentioned k ∙ mentioned_new m r k (is_key k r) refl none
 mention_cases m r k (Some t) has = mentioned_there m r k t (is_key k r) refl has
