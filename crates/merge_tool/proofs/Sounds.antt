@@ -35,7 +35,7 @@ use Rattle.merge_tool.proofs.Outcome.{merged_at, merged_closed}
 use Rattle.merge_tool.proofs.Places.{SoundAt, IfTold, staged_sound, candidate_sound, back_sound, bared_sound}
 
 -- what holds of all references holds of one
-each_ref : (P : Key → Type 0) (rs : List Key) (q : Key) → AllByRecursion P rs → list_any (is_key q) rs ≡ true → P q
+pub each_ref : (P : Key → Type 0) (rs : List Key) (q : Key) → AllByRecursion P rs → list_any (is_key q) rs ≡ true → P q
 each_ref P [] q all h = absurd (true≢false (sym h))
 each_ref P (r ∷ rs) q all h = by (or_cases (is_key q r) (list_any (is_key q) rs) h) (each_ref P rs q all.1)
   where
