@@ -138,10 +138,7 @@ fn with_four(
 ) -> Result<Vec<Box<dyn Tool>>, AllocError>
     requires dones { KeepNothing (map (λ b. done b) tools.items) }
     requires undones { KeepNothing (map (λ b. undone b) tools.items) }
-    requires first { IsNew verb (kind first) (done first) (undone first) }
-    requires second { IsNew verb (kind second) (done second) (undone second) }
-    requires third { IsNew verb (kind third) (done third) (undone third) }
-    requires fourth { IsNew verb (kind fourth) (done fourth) (undone fourth) }
+    requires new { IsNew verb (kind first) (done first) (undone first) × IsNew verb (kind second) (done second) (undone second) × IsNew verb (kind third) (done third) (undone third) × IsNew verb (kind fourth) (done fourth) (undone fourth) }
     ensures dones { IfOk result (λ more. KeepNothing (map (λ b. done b) more.items)) }
     ensures undones { IfOk result (λ more. KeepNothing (map (λ b. undone b) more.items)) }
     ensures kinds { IfOk result (λ more. map (λ b. kind b) more.items ≡ map (λ b. kind b) tools.items ++ four_of verb) }

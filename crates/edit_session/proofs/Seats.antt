@@ -50,6 +50,7 @@ use Rattle.edit_session.specs.MeetAsked.{IsSeated, MayStep, MovedSeat, job_step,
 use Rattle.edit_session.specs.Planned.{IsSized}
 use Rattle.edit_session.specs.Turn as turns
 use Rattle.edit_session.specs.Turn.{Turn, turn, act_turn, job_turn, reply_alone, skipped_turn, still_turn}
+use Rattle.edit_session.proofs.Opens.{given_up_open}
 
 -- One editor is changed.
 
@@ -165,12 +166,6 @@ going_turn limits found a s going = ap (λ given_up. if given_up then skipped_tu
 
 pub skipped : (limits : Limits) (found : Found) (a : Act) (s : State) → is_given_up s.group ≡ true → turn limits found a s ≡ skipped_turn a s
 skipped limits found a s given_up = ap (λ given. if given then skipped_turn a s else act_turn limits found a s) given_up
-
--- What is sized.
-pub response_sized : (r : MeetReply) → IsSized (met_response r).behind
-response_sized (met_reply.Done made) = tt
-response_sized (met_reply.Sent count refused) = tt
-response_sized (met_reply.Refused why) = tt
 
 -- A step that was taken for one turn was taken for each that comes to the same.
 pub moved_as : {X : Type 0} {F : X → Type 0} {E : Type 0} (done undone : DynBox X Global F → List PatchValue) (kind : DynBox X Global F → Verb) (old new : declared.Meeting X F) (editor : ℕ) (result : Result MetTurn E) (a b : Seat → MeetTurn)
@@ -324,11 +319,6 @@ pub skip_still : (a : Act) (seat : Seat) → (a ≡ act.End → ⊥) → skip_tu
 skip_still act.End seat other = absurd (other refl)
 skip_still a seat other = own_still (reply_alone reply_of.Skipped) seat
 
-given_up_open : (g : Group) → is_given_up g ≡ true → is_open g ≡ true
-given_up_open group.Outside e = absurd cc
-given_up_open group.Running e = refl
-given_up_open group.Refused e = refl
-
 skipped_by : (limits : Limits) (found : Found) (a : Act) (seat : Seat) → is_given_up (own seat).state.group ≡ true → skip_turn a seat ≡ own_turn (turn limits found a (own seat).state) seat
 skipped_by limits found a seat given_up = ap (λ x. own_turn x seat) (sym (skipped limits found a (own seat).state given_up))
 
@@ -352,19 +342,6 @@ refuse_by why seat group.Refused is other = ap (λ g. record { answer = reply_al
 
 pub refuse_still : (why : StepRefusal) (seat : Seat) (g : Group) → (own seat).state.group ≡ g → (g ≡ group.Running → ⊥) → refuse_turn why seat ≡ still (reply_alone (reply_of.Refused why)) seat
 refuse_still why seat g is other = ap (λ t. own_turn t seat) (refuse_by why seat g is other) ∙ own_still (reply_alone (reply_of.Refused why)) seat
-
--- The group is given up.
-pub moved_machine : {X : Type 0} {F : X → Type 0} {E : Type 0} (done undone : DynBox X Global F → List PatchValue) (kind : DynBox X Global F → Verb) (old new : declared.Meeting X F) (editor : ℕ) (response : Response) (step : EditStep) (to : Seat → MeetTurn) (m : Met) (answer : MeetReply)
-    → ValidMeeting done undone new → verbs_met kind new ≡ verbs_met kind old → shown_meeting done undone new ≡ m.meeting
-    → m ≡ machine_met editor answer step (shown_meeting done undone old)
-    → to (record { editor = editor; meeting = shown_meeting done undone old }) ≡ goes_on response (at_editor editor (stepped step) (shown_meeting done undone old)) (record { editor = editor; meeting = shown_meeting done undone old })
-    → MovedSeat {E = E} done undone kind old new editor (Ok (record { response = response; editor = editor })) to
-moved_machine done undone kind old new editor response step to m answer valid verbs now is leads = record {
-  valid = valid;
-  verbs = verbs;
-  answer = sym (ap (λ (t : MeetTurn). t.answer) leads);
-  seat = ap (λ x. record { editor = editor; meeting = x }) (now ∙ ap (λ (x : Met). x.meeting) is) ∙ sym (ap (λ (t : MeetTurn). t.seat) leads);
-}
 
 pub end_skipped : (seat : Seat) → skip_turn act.End seat ≡ goes_on (reply_alone reply_of.Skipped) (at_editor seat.editor (stepped steps.End) seat.meeting) seat
 end_skipped seat = own_turn_is _ (stepped steps.End) seat refl
