@@ -1,7 +1,7 @@
 //! A sound table with an exact index.
 ghost use Rattle.std.specs.Prelude.{◌≡◌, not, neg_ℤ, pos, T, OnOk, OnErr, IfOk};
 ghost use Rattle.std.specs.List.{AllByRecursion};
-ghost use Rattle.std.specs.Option.{option_copied};
+ghost use Rattle.std.specs.Option.{option_copied, option_map};
 ghost use Rattle.std.specs.FinMap as fin;
 ghost use Rattle.osm_base.specs.RisingKeys.{is_in};
 ghost use Rattle.osm_table.specs.Table.{entry_of, keys_by_rank, users};
@@ -63,6 +63,15 @@ impl DataSet {
         ensures { option_copied result ≡ entry_of self.now key }
     {
         self.table.get(key)
+    }
+
+    /// As `entry`, with a place to look at first, and with the place behind the one where the key
+    /// stands. Who goes over keys in the order in which they came in, each time from the place that
+    /// the last gave, pays no look-up; a key that isn't at the place costs one.
+    pub fn entry_near(&self, near: usize, key: Key) -> Option<(usize, &SharedEntry)>
+        ensures { option_map (λ found. found.1.now) result ≡ entry_of self.now key }
+    {
+        self.table.get_near(near, key)
     }
 
     /// The living entries that refer to the key, by rank, each once. Costs one look-up and takes no
