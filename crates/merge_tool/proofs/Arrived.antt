@@ -37,7 +37,7 @@ use Rattle.tool_api.proofs.Looks.{next_changed}
 use Rattle.merge_tool.proofs.Outcome.{merged_at}
 use Rattle.merge_tool.proofs.Rows.{theirs_by, verdict_by}
 use Rattle.merge_tool.proofs.Stand.{bared_kept, bared_none, namer, settled, wanted_lost}
-use Rattle.merge_tool.proofs.Sounds.{each_ref}
+use Rattle.osm_base.proofs.Lists.{all_at}
 use Rattle.merge_tool.proofs.Plans.{drafted_is, drafted_sound, no_room, taken_in}
 
 -- One object of which nothing was known.
@@ -81,7 +81,7 @@ there_as_told (Some (told.Gone v meta)) h = absurd (true≢false (sym h))
 told_names : (m : ToldEntries) → IsClosed m → (j k : Key) (s : Option Told) → fin.get m j ≡ s → refers_by (mine_at (option_map entry_told s)) k ≡ true → is_told_there (fin.get m k) ≡ true
 told_names m closed j k None e h = absurd (true≢false (sym h))
 told_names m closed j k (Some told.Mentioned) e h = absurd (true≢false (sym h))
-told_names m closed j k (Some (told.Live v c meta)) e h = each_ref (λ r. is_told_there (fin.get m r) ≡ true) (refs_of c) k (closed j v c meta e) h
+told_names m closed j k (Some (told.Live v c meta)) e h = all_at (λ r. is_told_there (fin.get m r) ≡ true) (refs_of c) k (closed j v c meta e) h
 told_names m closed j k (Some (told.Gone v meta)) e h = absurd (true≢false (sym h))
 
 find_none : (p : Key → Bool) (ks : List Key) → ((k : Key) → p k ≡ false) → find p ks ≡ None
