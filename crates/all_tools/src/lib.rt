@@ -17,7 +17,7 @@ ghost use Rattle.edit_history.specs.Trail.{KeepNothing};
 ghost use Rattle.edit_session.specs.Met.{AreMetOf};
 ghost use Rattle.edit_session.specs.Session.{outcome, Agrees, IsAsked, IsEarly};
 ghost use Rattle.edit_session.specs.Uploads.{AreUploadsOf};
-ghost use Rattle.all_tools.specs.Verbs.{IsNew, four_of, four_of_each};
+ghost use Rattle.all_tools.specs.Verbs.{IsNew, IsOfFour, four_of, four_of_each};
 
 use conflict::ResolveTool;
 use edit_history::{no_boxes, with_box};
@@ -138,10 +138,7 @@ fn with_four(
 ) -> Result<Vec<Box<dyn Tool>>, AllocError>
     requires dones { KeepNothing (map (λ b. done b) tools.items) }
     requires undones { KeepNothing (map (λ b. undone b) tools.items) }
-    requires first { IsNew verb (kind first) (done first) (undone first) }
-    requires second { IsNew verb (kind second) (done second) (undone second) }
-    requires third { IsNew verb (kind third) (done third) (undone third) }
-    requires fourth { IsNew verb (kind fourth) (done fourth) (undone fourth) }
+    requires new { IsOfFour (λ b. IsNew verb (kind b) (done b) (undone b)) first second third fourth }
     ensures dones { IfOk result (λ more. KeepNothing (map (λ b. done b) more.items)) }
     ensures undones { IfOk result (λ more. KeepNothing (map (λ b. undone b) more.items)) }
     ensures kinds { IfOk result (λ more. map (λ b. kind b) more.items ≡ map (λ b. kind b) tools.items ++ four_of verb) }

@@ -1,5 +1,5 @@
 -- The line of an answer is read back.
-use Rattle.std.proofs.Common.{◌≡◌, ℕ, ℤ, zero, suc, ◌-◌, ◌<◌, ◌≤◌, ◌^◌, ◌==◌, Bool, true, false, get_or, List, [], ◌∷◌, ◌++◌, length, filter, Some, refl, sym, ap, subst, ◌∙◌, arith}
+use Rattle.std.proofs.Common.{◌≡◌, ℕ, ℤ, suc, ◌-◌, ◌<◌, ◌≤◌, ◌^◌, ◌==◌, Bool, true, false, List, [], ◌∷◌, ◌++◌, length, filter, Some, refl, sym, ap, subst, ◌∙◌, arith}
 use Rattle.std.specs.Prelude.{codes, decimal, slice_index, nat_lt}
 use Rattle.std.specs.Fmt.{signed_decimal}
 use Rattle.std.proofs.lemmas.Fmt.{first_decimal}
@@ -11,7 +11,7 @@ use Rattle.osm_base.proofs.RisingKeys.{key_itself}
 use Rattle.opl_line.specs.Field.{is}
 use Rattle.opl_line.specs.Line.{is_blank, freed}
 use Rattle.opl_line.specs.Written.{spaced}
-use Rattle.opl_line.proofs.Unbroken.{Unbroken, AllUnbroken, SparesAbove, unbroken_append, unbroken_spaced, cut_spaced, freed_same, decimal_unbroken, key_unbroken}
+use Rattle.opl_line.proofs.Unbroken.{Unbroken, AllUnbroken, SparesAbove, unbroken_append, unbroken_spaced, cut_spaced, freed_same, decimal_unbroken, key_unbroken, unbroken_at}
 use Rattle.opl_file.specs.Cut.{has_lf}
 use Rattle.edit_script.specs.Items.{has_byte, words_of}
 use Rattle.edit_script.specs.Script.{is_skipped, has_outer_blank}
@@ -101,11 +101,6 @@ words_again a =
 record EndsApart (ends : ℕ → Bool) (bytes : List ℕ) : Type 0 where
   some : 0 < length bytes
   last : ends (slice_index bytes (length bytes - 1)) ≡ false
-
-unbroken_at : (ends : ℕ → Bool) (bytes : List ℕ) (k : ℕ) → Unbroken ends bytes → k < length bytes → ends (get_or bytes k 0) ≡ false
-unbroken_at ends [] k h below = absurd (omega arith)
-unbroken_at ends (b ∷ bytes) zero h below = h.0
-unbroken_at ends (b ∷ bytes) (suc k) h below = unbroken_at ends bytes k h.1 (omega arith)
 
 ends_unbroken : (ends : ℕ → Bool) (byte : ℕ) (bytes : List ℕ) → Unbroken ends (byte ∷ bytes) → EndsApart ends (byte ∷ bytes)
 ends_unbroken ends byte bytes h = record { some = omega arith; last = unbroken_at ends (byte ∷ bytes) (length (byte ∷ bytes) - 1) h (omega arith) }

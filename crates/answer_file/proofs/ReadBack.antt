@@ -1,8 +1,8 @@
 -- The text of answers is read back.
 use Rattle.std.proofs.Common.{◌≡◌, ℕ, ◌+◌, List, [], ◌∷◌, Some, None, refl, ap, ◌∙◌}
 use Rattle.opl_file.specs.Cut.{lines_of}
+use Rattle.opl_file.proofs.Cutting.{lines_of-line}
 use Rattle.edit_script.specs.Script.{is_skipped}
-use Rattle.edit_script.proofs.Cutting.{lines_of-line}
 use Rattle.placeholder.specs.declared.answer.Answer.{Answer}
 use Rattle.answer_file.specs.Lines.{answer_of}
 use Rattle.answer_file.specs.Answers.{before_others, answers_from, answers_of}

@@ -1,15 +1,15 @@
 -- A server's answers to the first changes of a plan, as a text, are taken.
-use Rattle.std.proofs.Common.{◌≡◌, ℕ, ◌≤◌, ◌^◌, ℤ, pos, negsuc, List, [], ◌∷◌, ◌++◌, Some, None, Ok, ap, subst, ◌∙◌, inl, inr, arith}
-use Rattle.std.proofs.lemmas.Bool.Decides.{nat_tests}
+use Rattle.std.proofs.Common.{◌≡◌, ℕ, ◌≤◌, ◌^◌, ℤ, List, [], ◌∷◌, ◌++◌, Some, None, Ok, ap, subst, ◌∙◌, inl, inr, arith}
 use Rattle.osm_base.specs.Number.{IsId}
 use Rattle.osm_base.specs.declared.key.Key.{Key}
 use Rattle.osm_base.specs.declared.content.Content.{Content}
 use Rattle.osm_table.specs.declared.entry.Base.TheVariants.{New, Live, Gone}
 use Rattle.osm_table.specs.declared.entry.Entry.{Entry}
 use Rattle.osm_table.specs.declared.entry.Entry.TheVariants.{Incomplete, Known}
-use Rattle.osm_table.specs.Table.{TableValue, entry_of, IsPositive}
+use Rattle.osm_table.specs.Table.{TableValue, entry_of}
 use Rattle.dataset.specs.Diff.{diff}
-use Rattle.dataset.specs.Sound.{IdFits, IsGiven, IsSound}
+use Rattle.dataset.specs.Sound.{IdFits, IsSound}
+use Rattle.dataset.proofs.Ids.{positive_id, given_id}
 use Rattle.upload_order.specs.declared.change.Change.{Change}
 use Rattle.upload_order.specs.declared.change.Change.TheVariants.{Create, Modify, Delete}
 use Rattle.upload_order.specs.Plan.{plan}
@@ -24,14 +24,6 @@ use Rattle.answer_file.specs.Answers as file
 use Rattle.answer_file.specs.Text.{text_of}
 use Rattle.answer_file.proofs.ReadBack.{AreTold, numbers_from, text_again}
 use Rattle.answer_file.proofs.SoFar.{ended}
-
-positive_id : (id : ℤ) → IsPositive id → IsId id
-positive_id (pos n) h = grind (arith, nat_tests, h.0, h.1)
-positive_id (negsuc n) h = absurd h
-
-given_id : (next : ℕ) (id : ℤ) → next ≤ 10 ^ 18 → IsGiven next id → IsId id
-given_id next (pos n) most h = absurd h
-given_id next (negsuc n) most h = grind (arith, nat_tests)
 
 id_of : (next : ℕ) (k : Key) (e : Entry) → next ≤ 10 ^ 18 → IdFits next k e → IsId k.id
 id_of next k Incomplete most h = positive_id k.id h

@@ -4,9 +4,9 @@ use Rattle.std.specs.Cmp.{both_ways}
 use Rattle.indexmap.specs.IndexSet.{insert_all}
 use Rattle.osm_base.specs.declared.key.Key.{Key}
 use Rattle.osm_base.specs.Rank.{is_key}
-use Rattle.osm_base.specs.RankLaws.{rank_ties}
+use Rattle.osm_base.specs.RankLaws.{rank_ties, eq_decides}
 use Rattle.osm_base.specs.KeyEq.{eq}
-use Rattle.osm_base.proofs.RisingKeys.{one_key, key_itself}
+use Rattle.osm_base.proofs.RisingKeys.{key_itself}
 use Rattle.closure.specs.Closure.{has, Chain}
 use Rattle.closure.proofs.Chains.{chain_maps}
 use Rattle.closure.proofs.Walk.{adds}
@@ -15,7 +15,7 @@ pub eq_self : (k : Key) → eq k k ≡ true
 eq_self k = rank_ties k k ∙ key_itself k
 
 pub eq_one : (j k : Key) → eq j k ≡ true → j ≡ k
-eq_one j k e = one_key j k (sym (rank_ties j k) ∙ e)
+eq_one j k e = (eq_decides j k).0 e
 
 -- `==` and the order find the same keys
 pub has_same : (ks : List Key) (k : Key) → has eq ks k ≡ has is_key ks k

@@ -1,7 +1,7 @@
 -- The least set that a monotone rule adds nothing to: what it has, and that it is closed.
 use Rattle.std.proofs.Common.{◌≡◌, ℕ, zero, suc, ◌≤◌, ◌<◌, Bool, true, false, ◌||◌, List, [], ◌∷◌, length, cond, refl, sym, ◌∙◌, ap, subst, arith, inl, inr, ◌⊎◌, filter}
 use Rattle.std.proofs.lemmas.Bool.{or_cases, or_left, or_right, true≢false}
-use Rattle.std.proofs.lemmas.List.Sums.{length-filter, count_by-le-length}
+use Rattle.osm_base.proofs.Lists.{length-filter_le}
 use Rattle.closure.specs.Closure.{has, grown, rounds, least}
 
 module _ {K : Type 0} (eq : K → K → Bool) (self : (k : K) → eq k k ≡ true) (one : (j k : K) → eq j k ≡ true → j ≡ k) where
@@ -30,9 +30,6 @@ module _ {K : Type 0} (eq : K → K → Bool) (self : (k : K) → eq k k ≡ tru
       step : (has eq (filter p xs) k ≡ true → (has eq xs k ≡ true) × (p k ≡ true)) → (b : Bool) → p x ≡ b → has eq (cond b (x ∷ filter p xs) (filter p xs)) k ≡ true → (has eq (x ∷ xs) k ≡ true) × (p k ≡ true)
       step more true t g = by more t (or_cases (eq k x) (has eq (filter p xs) k) g)
       step more false t g = wider (more g)
-
-  pub no_longer : (p : K → Bool) (all : List K) → length (filter p all) ≤ length all
-  no_longer p all = let e = length-filter p all in let f = count_by-le-length p all in omega (arith, e, f)
 
   -- a weaker test keeps more, or just the same
   pub stalls : (p q : K → Bool) (all : List K) → ((k : K) → has eq all k ≡ true → p k ≡ true → q k ≡ true)
@@ -130,5 +127,5 @@ module _ {K : Type 0} (eq : K → K → Bool) (self : (k : K) → eq k k ≡ tru
       least_closed k i h = by (settled (suc (length all)))
         where
           by : (suc (length all) ≤ length (least eq rule all)) ⊎ Stops (suc (length all)) → has eq (least eq rule all) k ≡ true
-          by (inl l) = absurd (let m = no_longer (λ j. has eq (rounds eq rule all (length all)) j || rule (rounds eq rule all (length all)) j) all in omega (arith, l, m))
+          by (inl l) = absurd (let m = length-filter_le (λ j. has eq (rounds eq rule all (length all)) j || rule (rounds eq rule all (length all)) j) all in omega (arith, l, m))
           by (inr s) = s k i (or_right (has eq (least eq rule all) k) (rule (least eq rule all) k) h)

@@ -1,14 +1,16 @@
 -- A conflict that is resolved leaves the table sound.
-use Rattle.std.proofs.Common.{◌≡◌, ◌||◌, ℕ, Bool, true, false, cond, not, is_some, List, [], ◌∷◌, Option, Some, None, refl, sym, ap, ◌∙◌, subst, arith}
+use Rattle.std.proofs.Common.{◌≡◌, ◌||◌, ℕ, Bool, true, false, cond, not, is_some, [], ◌∷◌, Option, Some, None, refl, sym, ap, ◌∙◌, subst, arith}
 use mathlib.Core.Logic.{◌⊎◌, inl, inr}
-use Rattle.std.specs.List.{AllByRecursion, find, list_any}
-use Rattle.std.specs.Option.{option_map_or, option_or}
-use Rattle.std.proofs.lemmas.Bool.{true≢false, or_cases, not-false}
+use Rattle.std.specs.List.{find}
+use Rattle.std.specs.Option.{option_or}
+use Rattle.std.proofs.lemmas.Bool.{true≢false, not-false}
+use Rattle.std.proofs.lemmas.Option.{same_Some}
 use Rattle.osm_base.specs.Rank.{is_key}
 use Rattle.osm_base.specs.Content.{fits, kind_of_content, refs_of}
 use Rattle.osm_base.proofs.RisingKeys.{one_key, key_turned}
 use Rattle.osm_base.specs.declared.key.Key.{Key}
 use Rattle.osm_base.specs.declared.content.Content.{Content}
+use Rattle.osm_base.proofs.Lists.{all_at}
 use Rattle.osm_table.specs.declared.entry.Base.{Base}
 use Rattle.osm_table.specs.declared.entry.Base.TheVariants.{New, Live, Gone}
 use Rattle.osm_table.specs.declared.entry.Conflict.{Conflict}
@@ -19,24 +21,21 @@ use Rattle.osm_table.specs.declared.entry.Entry.TheVariants.{Incomplete, Known}
 use Rattle.osm_table.specs.Same.{same_mine}
 use Rattle.osm_table.specs.Table.{TableValue, entry_of, mine_of, held_by, is_new, is_changed, uses, users, Each, IsThere, IsPositive, IfContent}
 use Rattle.osm_table.proofs.SameLaws.{same_mine_decides}
-use Rattle.dataset.specs.Sound.{IsSound, IsSoundEntry, IsNumber, BaseFits, WhyFits, IsLive, FromTheServer}
+use Rattle.dataset.specs.Sound.{IsSound, IsSoundEntry, IsNumber, WhyFits, IsLive, FromTheServer}
 use Rattle.dataset.proofs.Changes.{incomplete_entry}
-use Rattle.dataset.proofs.Listed.{user_uses}
+use Rattle.dataset.proofs.Ids.{told_id, base_fits}
 use Rattle.resolution.specs.declared.choice.Choice.{Choice}
 use Rattle.resolution.specs.Resolve.{resolved}
-use Rattle.tool_api.specs.declared.refusal.Refusal.{Refusal}
 use Rattle.tool_api.specs.declared.refusal.Refusal.TheVariants.{InUse, Unfit}
-use Rattle.tool_api.specs.Checks.{is_named, when}
+use Rattle.tool_api.specs.Checks.{is_named}
 use Rattle.tool_api.specs.Closing.{makes_unfit}
 use Rattle.tool_api.specs.Resolve.{choice_test, unused_test, gone_test, references_gone_test, settled_fit_test, settled_table}
 use Rattle.tool_api.specs.Staged.{refers_by, refs_by}
-use Rattle.tool_api.proofs.Passed.{both_none, passes, none_passes, none_in, fits_or_stays}
+use Rattle.tool_api.proofs.Passed.{both_none, passes, none_passes, none_in, fits_or_stays, some_when}
+use Rattle.tool_api.proofs.Named.{is_user}
 use Rattle.conflict.specs.Settled.{settled_tests, entered}
 use Rattle.conflict.proofs.Chosen.{Stems, chosen_stems}
 use Rattle.conflict.proofs.Settled.{settled_at, settled_next}
-
-some_is : {A : Type 0} (x y : A) → Some x ≡ Some y → x ≡ y
-some_is x y e = cc
 
 -- The entry by itself.
 
@@ -47,16 +46,6 @@ not_new why (Gone version meta) base mine h = refl
 not_new Changed New base mine h = absurd (omega (arith, h.0))
 not_new Held New base mine h = absurd h.2
 not_new Withdrawn New base mine h = absurd (subst IsLive (sym h.2) h.0)
-
-positive : (n : ℕ) (k : Key) (base : Base) (mine : Option Content) (conflict : Conflict) → BaseFits n k base mine (Some conflict) → IsPositive k.id
-positive n k New mine conflict h = let e : Some conflict ≡ None = h.2 in cc
-positive n k (Live version content meta) mine conflict h = h
-positive n k (Gone version meta) mine conflict h = h
-
-known_id : (n : ℕ) (k : Key) (theirs : Base) (mine : Option Content) → is_new theirs ≡ false → IsPositive k.id → BaseFits n k theirs mine None
-known_id n k New mine new h = absurd (true≢false new)
-known_id n k (Live version content meta) mine new h = h
-known_id n k (Gone version meta) mine new h = h
 
 of_kind : (k : Key) (mine theirs o : Option Content) → IfContent o (Stems k mine theirs) → IfContent o (λ c. kind_of_content c ≡ k.kind)
 of_kind k mine theirs None s = tt
@@ -71,24 +60,12 @@ limits theirs (Some c) new fine changed = by (fits_or_stays (held_by theirs) c f
     by (inl fit) = fit
     by (inr same) = absurd (true≢false (sym changed ∙ (λ i. new i || not (same_mine (Some c) (same i))) ∙ ap not ((same_mine_decides (Some c) (Some c)).1 refl)))
 
-none_when : (b : Bool) (r : Refusal) → when b r ≡ None → b ≡ false
-none_when true r e = cc
-none_when false r e = refl
-
 -- References.
-
-each_ref : (P : Key → Type 0) (rs : List Key) (q : Key) → AllByRecursion P rs → list_any (is_key q) rs ≡ true → P q
-each_ref P [] q all h = absurd (true≢false (sym h))
-each_ref P (r ∷ rs) q all h = by (or_cases (is_key q r) (list_any (is_key q) rs) h) (each_ref P rs q all.1)
-  where
-    by : (is_key q r ≡ true) ⊎ (list_any (is_key q) rs ≡ true) → (list_any (is_key q) rs ≡ true → P q) → P q
-    by (inl e) more = subst P (sym (one_key q r e)) all.0
-    by (inr e) more = more e
 
 -- what a server told refers to positive ids
 server_positive : (o : Option Content) (q : Key) → FromTheServer o → refers_by o q ≡ true → IsPositive q.id
 server_positive None q s h = absurd (true≢false (sym h))
-server_positive (Some c) q s h = each_ref (λ r. IsPositive r.id) (refs_of c) q s h
+server_positive (Some c) q s h = all_at (λ r. IsPositive r.id) (refs_of c) q s h
 
 named_refers : (o : Option Content) (q : Key) → is_named (refs_by o) q ≡ true → refers_by o q ≡ true
 named_refers None q h = h
@@ -117,10 +94,6 @@ ref_there r (Some Incomplete) e = tt
 ref_there r (Some (Known base None conflict)) e = cc
 ref_there r (Some (Known base (Some mine) conflict)) e = refl
 
--- an entry that uses a key is one of its users
-is_user : (t : TableValue) (k r : Key) (e : Entry) → entry_of t k ≡ Some e → uses e r ≡ true → is_named (users t r) k ≡ true
-is_user t k r e has used = user_uses t r k ∙ ap (λ (o : Option Entry). option_map_or (λ e. uses e r) o false) has ∙ used
-
 module _ (t : TableValue) (sound : IsSound t) (k : Key) (base : Base) (mine : Option Content) (conflict : Conflict) (at : entry_of t k ≡ Some (Known base mine (Some conflict)))
     (m : Option Content) (stems : IfContent m (Stems k mine (held_by conflict.theirs)))
     (unused : unused_test t k m ≡ None) (kept : references_gone_test t k m ≡ None) (fine : settled_fit_test k (Some (Known conflict.theirs m None)) ≡ None) where
@@ -133,11 +106,11 @@ module _ (t : TableValue) (sound : IsSound t) (k : Key) (base : Base) (mine : Op
   -- the settled entry is sound by itself
   own_sound : IsSoundEntry t.next k (Known conflict.theirs m None)
   own_sound = record {
-    id = known_id t.next k conflict.theirs m new (positive t.next k base mine conflict old.id);
+    id = base_fits t.next k conflict.theirs m new (told_id t.next k base mine conflict old.id);
     kinds = (old.kinds.2, of_kind k mine (held_by conflict.theirs) m stems, tt);
     server = (old.server.1, tt);
     versions = (old.versions.1, tt);
-    limits = limits conflict.theirs m new (none_when (makes_unfit (held_by conflict.theirs) m) (Unfit k) fine);
+    limits = limits conflict.theirs m new (some_when (makes_unfit (held_by conflict.theirs) m) (Unfit k) fine);
     conflict = tt;
   }
 
@@ -150,10 +123,10 @@ module _ (t : TableValue) (sound : IsSound t) (k : Key) (base : Base) (mine : Op
       by (inr told) = server_positive (held_by conflict.theirs) q old.server.1 told
 
   at_key : (q : Key) (f : Entry) (a b : Bool) (o : Option Entry) → is_key q k ≡ a → is_named (refs_by m) q ≡ b → entry_of t q ≡ o → entered b (cond a (Some (Known conflict.theirs m None)) o) ≡ Some f → IsSoundEntry t.next q f
-  at_key q f true b o is named has i = subst (λ (x : Entry). IsSoundEntry t.next q x) (some_is (Known conflict.theirs m None) f i) (subst (λ (j : Key). IsSoundEntry t.next j (Known conflict.theirs m None)) (sym (one_key q k is)) own_sound)
-  at_key q f false true None is named has i = subst (λ (x : Entry). IsSoundEntry t.next q x) (some_is Incomplete f i) (incomplete_entry t.next q (absent_positive q named has))
+  at_key q f true b o is named has i = subst (λ (x : Entry). IsSoundEntry t.next q x) (same_Some (Known conflict.theirs m None) f i) (subst (λ (j : Key). IsSoundEntry t.next j (Known conflict.theirs m None)) (sym (one_key q k is)) own_sound)
+  at_key q f false true None is named has i = subst (λ (x : Entry). IsSoundEntry t.next q x) (same_Some Incomplete f i) (incomplete_entry t.next q (absent_positive q named has))
   at_key q f false false None is named has i = cc
-  at_key q f false b (Some x) is named has i = subst (λ (y : Entry). IsSoundEntry t.next q y) (some_is x f i) (sound.entries q x has)
+  at_key q f false b (Some x) is named has i = subst (λ (y : Entry). IsSoundEntry t.next q y) (same_Some x f i) (sound.entries q x has)
 
   -- what the settled entry refers to is there
   mine_there : (r : Key) → refers_by m r ≡ true → IsThere (entry_of (settled_table t k (Some (Known conflict.theirs m None))) r)
@@ -179,10 +152,10 @@ module _ (t : TableValue) (sound : IsSound t) (k : Key) (base : Base) (mine : Op
       by false b is = entered_there b (entry_of t r) (sound.closed q x has r used)
 
   refs_at : (q : Key) (f : Entry) (r : Key) (a b : Bool) (o : Option Entry) → is_key q k ≡ a → entry_of t q ≡ o → entered b (cond a (Some (Known conflict.theirs m None)) o) ≡ Some f → uses f r ≡ true → IsThere (entry_of (settled_table t k (Some (Known conflict.theirs m None))) r)
-  refs_at q f r true b o is has i used = mine_there r (ap (λ (x : Entry). uses x r) (some_is (Known conflict.theirs m None) f i) ∙ used)
-  refs_at q f r false true None is has i used = absurd (true≢false (sym used ∙ sym (ap (λ (x : Entry). uses x r) (some_is Incomplete f i))))
+  refs_at q f r true b o is has i used = mine_there r (ap (λ (x : Entry). uses x r) (same_Some (Known conflict.theirs m None) f i) ∙ used)
+  refs_at q f r false true None is has i used = absurd (true≢false (sym used ∙ sym (ap (λ (x : Entry). uses x r) (same_Some Incomplete f i))))
   refs_at q f r false false None is has i used = cc
-  refs_at q f r false b (Some x) is has i used = old_there q x r has is (ap (λ (y : Entry). uses y r) (some_is x f i) ∙ used)
+  refs_at q f r false b (Some x) is has i used = old_there q x r has is (ap (λ (y : Entry). uses y r) (same_Some x f i) ∙ used)
 
   settled_sound : IsSound (settled_table t k (Some (Known conflict.theirs m None)))
   settled_sound = record {

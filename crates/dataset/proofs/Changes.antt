@@ -65,7 +65,7 @@ deleted_entry n k base mine conflict known s = record {
 
 -- Tables.
 
-either_there : (b : Bool) (x y : Option Entry) → IsThere x → IsThere y → IsThere (cond b x y)
+pub either_there : (b : Bool) (x y : Option Entry) → IsThere x → IsThere y → IsThere (cond b x y)
 either_there true x y h g = h
 either_there false x y h g = g
 

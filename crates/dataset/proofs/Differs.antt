@@ -13,11 +13,12 @@ use Rattle.osm_base.proofs.ByRank.{rises_keys}
 use Rattle.osm_table.specs.declared.entry.Entry.{Entry}
 use Rattle.osm_table.specs.Table.{TableValue, entry_of}
 use Rattle.osm_base.specs.RisingKeys.{rises, is_in}
+use Rattle.osm_base.proofs.Tests.{by_bool, none_from_test}
 use Rattle.dataset.specs.Edit.{Edit}
 use Rattle.dataset.specs.Patch.{PatchValue, IsDiff}
 use Rattle.dataset.specs.Draft.{DiffOver}
 use Rattle.dataset.specs.Diff.{same_at, keys_of_both, edits_over, diff}
-use Rattle.dataset.proofs.Drafted.{order_over, changes_over, before_over, after_over, rest_over, none_at, by_bool}
+use Rattle.dataset.proofs.Drafted.{order_over, changes_over, before_over, after_over, rest_over}
 use Rattle.dataset.proofs.Laws.{one_diff}
 
 pub same_at_decides : (a b : Option Entry) → Decides (same_at a b) (a ≡ b)
@@ -42,7 +43,7 @@ both_case true v o f w h e = let z : true ≡ false = e in cc
 both_case false v o f w h e = h e
 
 find_both : (q : Key) (es fs : List (Key × Entry)) → is_some (find rank_cmp q (es ++ fs)) ≡ false → (find rank_cmp q es ≡ None) × (find rank_cmp q fs ≡ None)
-find_both q [] fs e = (refl, none_at (find rank_cmp q fs) e)
+find_both q [] fs e = (refl, none_from_test (find rank_cmp q fs) e)
 find_both q (x ∷ es) fs e = both_case (is_key q x.0) x.1 _ _ _ (find_both q es fs) e
 
 -- The difference is one, and no other.
@@ -53,7 +54,7 @@ diff_is t u =
       patch = record { by_rank = order_over t u (keys_of_both t u) _ (over t u (keys_of_both t u)) order; changes = changes_over t u (keys_of_both t u) _ (over t u (keys_of_both t u)) };
       before = record { entries = before_over t u (keys_of_both t u) _ (over t u (keys_of_both t u)); number = refl };
       after = record { entries = after_over t u (keys_of_both t u) _ (over t u (keys_of_both t u)); number = refl };
-      rest = λ q none. by_bool _ (is_in q (keys_of_both t u)) (rest_over t u (keys_of_both t u) _ (over t u (keys_of_both t u)) q none)
+      rest = λ q none. by_bool (is_in q (keys_of_both t u)) (rest_over t u (keys_of_both t u) _ (over t u (keys_of_both t u)) q none)
           (λ out.
           let p = find_both q (fin.entries t.entries) (fin.entries u.entries) (ap is_some (sym (fin.get-from_entries rank_total (fin.entries t.entries ++ fin.entries u.entries) q)) ∙ fin.contains_key-keys (fin.from_entries {R = rank_cmp} (fin.entries t.entries ++ fin.entries u.entries)) q ∙ out) in
           fin.get-entries t.entries q ∙ p.0 ∙ sym (fin.get-entries u.entries q ∙ p.1));

@@ -1,5 +1,5 @@
 -- The difference over the keys of a draft is the difference of the tables.
-use Rattle.std.proofs.Common.{◌≡◌, ◌≢◌, ℕ, ◌&&◌, ◌||◌, Bool, true, false, cond, is_some, Option, Some, None, List, [], ◌∷◌, ◌++◌, refl, sym, ◌∙◌, ap, subst}
+use Rattle.std.proofs.Common.{◌≡◌, ◌≢◌, ℕ, ◌||◌, Bool, true, false, cond, is_some, Option, Some, None, List, [], ◌∷◌, ◌++◌, refl, sym, ◌∙◌, ap, subst}
 use Rattle.std.specs.Option.{unwrap_or, option_to_list}
 use Rattle.std.specs.Prelude.{T}
 use Rattle.std.specs.Ordering.{is_lt}
@@ -16,11 +16,8 @@ use Rattle.dataset.specs.Edit.{Edit}
 use Rattle.dataset.specs.Patch.{Entries, PatchValue, IsDiff, keyed, in_order, edit_at}
 use Rattle.dataset.specs.Draft.{DraftValue, DiffOver, IsEditOf, overlaid, drafted}
 use Rattle.osm_base.proofs.RisingKeys.{one_key}
-use Rattle.dataset.proofs.Looked.{get_placed, fore, aft}
-
-both : (a b : Bool) → T a → T b → T (a && b)
-both true b p q = q
-both false b p q = p
+use Rattle.osm_base.proofs.Tests.{both_T, first_T, second_T, none_from_test, by_bool}
+use Rattle.dataset.proofs.Looked.{get_placed}
 
 over_case : (b : Bool) (o : Option Entry) (f : Option (Option Entry)) (x : Option Entry) → cond b o (unwrap_or f x) ≡ unwrap_or (cond b (Some o) f) x
 over_case true o f x = refl
@@ -47,13 +44,13 @@ more_other t u ks es k (DiffOver.other j js fs f d) e = DiffOver.other j (js ++ 
 -- what it is at the end
 below_over : (t u : TableValue) (k : Key) (ks : List Key) (es : List Edit) → DiffOver t u ks es → T (below_all rank_cmp k (marked ks)) → T (below_all rank_cmp k (keyed es))
 below_over t u k ks es DiffOver.done h = tt
-below_over t u k ks es (DiffOver.alike j js fs f d) h = below_over t u k js fs d (aft (is_lt (rank_cmp k j)) _ h)
-below_over t u k ks es (DiffOver.other j js fs f d) h = both _ _ (fore (is_lt (rank_cmp k j)) _ h) (below_over t u k js fs d (aft (is_lt (rank_cmp k j)) _ h))
+below_over t u k ks es (DiffOver.alike j js fs f d) h = below_over t u k js fs d (second_T (is_lt (rank_cmp k j)) _ h)
+below_over t u k ks es (DiffOver.other j js fs f d) h = both_T _ _ (first_T (is_lt (rank_cmp k j)) _ h) (below_over t u k js fs d (second_T (is_lt (rank_cmp k j)) _ h))
 
 pub order_over : (t u : TableValue) (ks : List Key) (es : List Edit) → DiffOver t u ks es → T (rises ks) → T (in_order es)
 order_over t u ks es DiffOver.done h = tt
-order_over t u ks es (DiffOver.alike j js fs f d) h = order_over t u js fs d (aft (below_all rank_cmp j (marked js)) _ h)
-order_over t u ks es (DiffOver.other j js fs f d) h = both _ _ (below_over t u j js fs d (fore (below_all rank_cmp j (marked js)) _ h)) (order_over t u js fs d (aft (below_all rank_cmp j (marked js)) _ h))
+order_over t u ks es (DiffOver.alike j js fs f d) h = order_over t u js fs d (second_T (below_all rank_cmp j (marked js)) _ h)
+order_over t u ks es (DiffOver.other j js fs f d) h = both_T _ _ (below_over t u j js fs d (first_T (below_all rank_cmp j (marked js)) _ h)) (order_over t u js fs d (second_T (below_all rank_cmp j (marked js)) _ h))
 
 pub changes_over : (t u : TableValue) (ks : List Key) (es : List Edit) → DiffOver t u ks es → AllByRecursion (λ e. e.before ≢ e.after) es
 changes_over t u ks es DiffOver.done = tt
@@ -83,14 +80,6 @@ rest_over t u ks es DiffOver.done q n h = cc
 rest_over t u ks es (DiffOver.alike j js fs f d) q n h = alike_case t u q j (is_key q j) (is_in q js) refl f (rest_over t u js fs d q n) h
 rest_over t u ks es (DiffOver.other j js fs f d) q n h = other_case _ (is_key q j) (is_in q js) (record { key = j; before = entry_of t j; after = entry_of u j }) (edit_at q fs) n h (rest_over t u js fs d q)
 
-pub none_at : {A : Type 0} (o : Option A) → is_some o ≡ false → o ≡ None
-none_at None e = refl
-none_at (Some v) e = cc
-
-pub by_bool : (P : Type 0) (b : Bool) → (b ≡ true → P) → (b ≡ false → P) → P
-by_bool P true f g = f refl
-by_bool P false f g = g refl
-
 -- the difference over all keys of the draft
 pub whole : (d : DraftValue) (t : TableValue) (ks : List Key) (es : List Edit) → ks ≡ fin.keys d.puts → DiffOver t (drafted d t) ks es → IsDiff t (drafted d t) (record { edits = es; next_before = t.next; next_after = d.next })
 whole d t ks es keys over =
@@ -99,8 +88,8 @@ whole d t ks es keys over =
       patch = record { by_rank = order_over t (drafted d t) ks es over order; changes = changes_over t (drafted d t) ks es over };
       before = record { entries = before_over t (drafted d t) ks es over; number = refl };
       after = record { entries = after_over t (drafted d t) ks es over; number = refl };
-      rest = λ q none. by_bool _ (is_in q ks) (rest_over t (drafted d t) ks es over q none)
-          (λ out. sym (get_drafted d t q ∙ ap (λ (o : Option (Option Entry)). unwrap_or o (entry_of t q)) (none_at (fin.get d.puts q) (fin.contains_key-keys d.puts q ∙ sym (ap (is_in q) keys) ∙ out))));
+      rest = λ q none. by_bool (is_in q ks) (rest_over t (drafted d t) ks es over q none)
+          (λ out. sym (get_drafted d t q ∙ ap (λ (o : Option (Option Entry)). unwrap_or o (entry_of t q)) (none_from_test (fin.get d.puts q) (fin.contains_key-keys d.puts q ∙ sym (ap (is_in q) keys) ∙ out))));
     }
 
 append_nil : {A : Type 0} (xs : List A) → xs ++ [] ≡ xs
@@ -128,6 +117,10 @@ same_step d t k after o ks es there is none over =
 pub push_step : (d : DraftValue) (t : TableValue) (k : Key) (after : Option Entry) (o : Option Edit) (e : Edit) (ks : List Key) (es fs : List Edit) → fin.get d.puts k ≡ Some after → IsEditOf (entry_of t k) k after o → o ≡ Some e → fs ≡ es ++ e ∷ [] → DiffOver t (drafted d t) ks es → DiffOver t (drafted d t) (ks ++ k ∷ []) fs
 push_step d t k after o e ks es fs there is some items over =
     subst (λ (gs : List Edit). DiffOver t (drafted d t) (ks ++ k ∷ []) gs) (sym items) (edit_step d t k after (Some e) ks es there (subst (IsEditOf (entry_of t k) k after) some is) over)
+
+-- an edit to what is the same
+pub edit_to : (before : Option Entry) (k : Key) (after new : Option Entry) (o : Option Edit) → after ≡ new → IsEditOf before k after o → IsEditOf before k new o
+edit_to before k after new o e is = subst (λ (a : Option Entry). IsEditOf before k a o) e is
 
 pub whole_at : (d : DraftValue) (t t₀ : TableValue) (ks : List Key) (es : List Edit) (n m : ℕ) → t ≡ t₀ → ks ≡ fin.keys d.puts → DiffOver t (drafted d t) ks es → n ≡ t.next → m ≡ d.next → IsDiff t₀ (drafted d t₀) (record { edits = es; next_before = n; next_after = m })
 whole_at d t t₀ ks es n m same keys over is_n is_m =

@@ -44,7 +44,7 @@ no_pairs true = refl
 no_pairs false = refl
 
 -- a pair is among the pairs of one user only where it is that user's
-listed_pairs : (of user key : Key) (ks : List Key) → times (record { of = of; user = user }) (map (λ k. record { of = k; user = key }) ks) ≡ cond (is_key user key) (times_key of ks) 0
+pub listed_pairs : (of user key : Key) (ks : List Key) → times (record { of = of; user = user }) (map (λ k. record { of = k; user = key }) ks) ≡ cond (is_key user key) (times_key of ks) 0
 listed_pairs of user key [] = no_pairs (is_key user key)
 listed_pairs of user key (k ∷ ks) =
     sum_by-cons (λ (p : Pair). cond (is_pair (record { of = of; user = user }) p) 1 0) (record { of = k; user = key }) (map (λ k. record { of = k; user = key }) ks)

@@ -1,10 +1,12 @@
 pub mod Looked
 pub mod Laws
 pub mod Exactness
+pub mod Ids
 pub mod Listed
 pub mod SideLaws
 pub mod LeadLaws
 pub mod Drafted
+pub mod Arrivals
 pub mod Differs
 pub mod Kept
 pub mod Changes

@@ -1,5 +1,5 @@
 -- The list that an exact index lends is the users of the table.
-use Rattle.std.proofs.Common.{◌≡◌, ℕ, ◌+◌, ◌&&◌, ◌||◌, Bool, true, false, cond, Option, Some, None, List, [], ◌∷◌, map, refl, sym, ◌∙◌, ap, arith}
+use Rattle.std.proofs.Common.{◌≡◌, ℕ, ◌+◌, ◌||◌, Bool, true, false, cond, Option, Some, None, List, [], ◌∷◌, map, refl, sym, ◌∙◌, ap, arith}
 use Rattle.std.specs.Option.{option_map_or}
 use Rattle.std.specs.Prelude.{T, nat_lt}
 use Rattle.std.specs.Ordering.{is_lt}
@@ -19,28 +19,25 @@ use Rattle.ref_index.specs.Bag.{Bag, count}
 use Rattle.osm_base.specs.RisingKeys.{marked, rises, is_in}
 use Rattle.dataset.specs.Exact.{refs_at, times_key, IsExact}
 use Rattle.osm_base.proofs.RisingKeys.{one_key, same_keys}
-use Rattle.dataset.proofs.Looked.{fore, aft, below_none}
-
-both : (a b : Bool) → T a → T b → T (a && b)
-both true b p q = q
-both false b p q = p
+use Rattle.osm_base.proofs.Tests.{both_T, first_T, second_T}
+use Rattle.dataset.proofs.Looked.{below_none}
 
 -- entries that pass a test, as keys
 below_case : (k : Key) (b : Bool) (e : Key × Entry) (es : List (Key × Entry)) (p : Key × Entry → Bool) → T (is_lt (rank_cmp k e.0)) → T (below_all rank_cmp k (marked (map (λ e. e.0) (filter p es)))) → T (below_all rank_cmp k (marked (map (λ e. e.0) (cond b (e ∷ filter p es) (filter p es)))))
-below_case k true e es p l h = both _ _ l h
+below_case k true e es p l h = both_T _ _ l h
 below_case k false e es p l h = h
 
 below_users : (k : Key) (p : Key × Entry → Bool) (es : List (Key × Entry)) → T (below_all rank_cmp k es) → T (below_all rank_cmp k (marked (map (λ e. e.0) (filter p es))))
 below_users k p [] h = tt
-below_users k p (e ∷ es) h = below_case k (p e) e es p (fore (is_lt (rank_cmp k e.0)) _ h) (below_users k p es (aft (is_lt (rank_cmp k e.0)) _ h))
+below_users k p (e ∷ es) h = below_case k (p e) e es p (first_T (is_lt (rank_cmp k e.0)) _ h) (below_users k p es (second_T (is_lt (rank_cmp k e.0)) _ h))
 
 rises_case : (b : Bool) (e : Key × Entry) (es : List (Key × Entry)) (p : Key × Entry → Bool) → T (below_all rank_cmp e.0 (marked (map (λ e. e.0) (filter p es)))) → T (rises (map (λ e. e.0) (filter p es))) → T (rises (map (λ e. e.0) (cond b (e ∷ filter p es) (filter p es))))
-rises_case true e es p l h = both _ _ l h
+rises_case true e es p l h = both_T _ _ l h
 rises_case false e es p l h = h
 
 pub rises_users : (p : Key × Entry → Bool) (es : List (Key × Entry)) → T (is_sorted rank_cmp es) → T (rises (map (λ e. e.0) (filter p es)))
 rises_users p [] h = tt
-rises_users p (e ∷ es) h = rises_case (p e) e es p (below_users e.0 p es (fore (below_all rank_cmp e.0 es) _ h)) (rises_users p es (aft (below_all rank_cmp e.0 es) _ h))
+rises_users p (e ∷ es) h = rises_case (p e) e es p (below_users e.0 p es (first_T (below_all rank_cmp e.0 es) _ h)) (rises_users p es (second_T (below_all rank_cmp e.0 es) _ h))
 
 in_cond : (u : Key) (b : Bool) (e : Key × Entry) (es : List (Key × Entry)) → is_in u (map (λ e. e.0) (cond b (e ∷ es) es)) ≡ cond b (is_key u e.0 || is_in u (map (λ e. e.0) es)) (is_in u (map (λ e. e.0) es))
 in_cond u true e es = refl
@@ -58,14 +55,15 @@ in_users k u [] h = refl
 in_users k u (e ∷ es) h =
     in_cond u (uses e.1 k) e (filter (λ e. uses e.1 k) es)
     ∙ user_step (is_key u e.0) (uses e.1 k) _ e (find rank_cmp u es) (λ e. uses e k) refl
-    (λ t. ap (λ (j : Key). find rank_cmp j es) (one_key u e.0 t) ∙ below_none e.0 es (fore (below_all rank_cmp e.0 es) _ h))
-    (in_users k u es (aft (below_all rank_cmp e.0 es) _ h))
+    (λ t. ap (λ (j : Key). find rank_cmp j es) (one_key u e.0 t) ∙ below_none e.0 es (first_T (below_all rank_cmp e.0 es) _ h))
+    (in_users k u es (second_T (below_all rank_cmp e.0 es) _ h))
 
+-- a key is among others where it stands there at least once
 any_step : (b c : Bool) (n : ℕ) → c ≡ nat_lt 0 n → (b || c) ≡ nat_lt 0 (cond b 1 0 + n)
 any_step true c n e = sym (lt-ltb 0 (1 + n) (omega arith))
 any_step false c n e = let z : 0 + n ≡ n = omega arith in e ∙ ap (nat_lt 0) (sym z)
 
-any_count : (k : Key) (ks : List Key) → list_any (is_key k) ks ≡ nat_lt 0 (times_key k ks)
+pub any_count : (k : Key) (ks : List Key) → list_any (is_key k) ks ≡ nat_lt 0 (times_key k ks)
 any_count k [] = refl
 any_count k (j ∷ ks) = any_step (is_key k j) _ (times_key k ks) (any_count k ks) ∙ ap (nat_lt 0) (sym (sum_by-cons (λ (j : Key). cond (is_key k j) 1 0) j ks))
 

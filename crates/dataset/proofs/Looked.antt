@@ -1,7 +1,6 @@
 -- Edits by look-up.
-use Rattle.std.proofs.Common.{◌≡◌, ◌&&◌, Bool, true, false, cond, is_some, Option, Some, None, List, [], ◌∷◌, refl, sym, ◌∙◌, ap, subst, Ordering}
-use Rattle.std.specs.declared.cmp.Ordering.TheVariants.{Less, Equal, Greater}
-use Rattle.std.specs.Ordering.{is_lt, is_eq}
+use Rattle.std.proofs.Common.{◌≡◌, Bool, true, false, cond, is_some, Option, Some, None, List, [], ◌∷◌, refl, sym, ◌∙◌, ap, subst}
+use Rattle.std.specs.Ordering.{is_lt}
 use Rattle.std.specs.Option.{option_map_or, unwrap_or}
 use Rattle.std.specs.Prelude.{T}
 use Rattle.std.specs.List.{AllByRecursion}
@@ -10,38 +9,24 @@ use Rattle.std.specs.FinMap.Entries.{find, below_all}
 use Rattle.osm_base.specs.Rank.{rank_cmp, is_key}
 use Rattle.osm_base.specs.RankLaws.{rank_total}
 use Rattle.osm_base.proofs.RisingKeys.{one_key, key_itself}
+use Rattle.osm_base.proofs.Tests.{first_T, second_T, no_tie}
+use Rattle.std.proofs.lemmas.Bool.{cond-true, cond-false}
 use Rattle.osm_base.specs.declared.key.Key.{Key}
 use Rattle.osm_table.specs.declared.entry.Entry.{Entry}
 use Rattle.dataset.specs.Edit.{Edit}
 use Rattle.dataset.specs.Patch.{Entries, keyed, in_order, edit_at, placed, edited}
 
-pub fore : (a b : Bool) → T (a && b) → T a
-fore true b p = tt
-fore false b p = p
-
-pub aft : (a b : Bool) → T (a && b) → T b
-aft true b p = p
-aft false b p = absurd p
-
-pub no_tie : (o : Ordering) → T (is_lt o) → is_eq o ≡ false
-no_tie Less p = refl
-no_tie Equal p = absurd p
-no_tie Greater p = absurd p
-
-on_false : {A : Type 0} (b : Bool) (x y : A) → b ≡ false → cond b x y ≡ y
-on_false b x y e = rw e refl
-
 -- a key below all of a list isn't in it
 pub below_none : {X : Type 0} (k : Key) (es : List (Key × X)) → T (below_all rank_cmp k es) → find rank_cmp k es ≡ None
 below_none k [] h = refl
-below_none k (e ∷ es) h = on_false (is_key k e.0) _ _ (no_tie (rank_cmp k e.0) (fore (is_lt (rank_cmp k e.0)) _ h)) ∙ below_none k es (aft (is_lt (rank_cmp k e.0)) _ h)
+below_none k (e ∷ es) h = cond-false (is_key k e.0) _ _ (no_tie (rank_cmp k e.0) (first_T (is_lt (rank_cmp k e.0)) _ h)) ∙ below_none k es (second_T (is_lt (rank_cmp k e.0)) _ h)
 
 -- the edits after the head have another key
 pub tail_none : (e : Edit) (es : List Edit) → T (in_order (e ∷ es)) → edit_at e.key es ≡ None
-tail_none e es h = below_none e.key (keyed es) (fore (below_all rank_cmp e.key (keyed es)) _ h)
+tail_none e es h = below_none e.key (keyed es) (first_T (below_all rank_cmp e.key (keyed es)) _ h)
 
 pub tail_order : (e : Edit) (es : List Edit) → T (in_order (e ∷ es)) → T (in_order es)
-tail_order e es h = aft (below_all rank_cmp e.key (keyed es)) (in_order es) h
+tail_order e es h = second_T (below_all rank_cmp e.key (keyed es)) (in_order es) h
 
 placed_case : (o : Option Entry) (m : Entries) (k q : Key) → fin.get (placed m k o) q ≡ cond (is_key q k) o (fin.get m q)
 placed_case None m k q = fin.get-remove rank_total m k q
@@ -89,14 +74,11 @@ weaken : {P Q : Edit → Type 0} (es : List Edit) → ((e : Edit) → P e → Q 
 weaken [] f a = a
 weaken (e ∷ es) f a = (f e a.0, weaken es f a.1)
 
-on_true : {A : Type 0} (b : Bool) (x y : A) → b ≡ true → cond b x y ≡ x
-on_true b x y e = rw e refl
-
 -- each edit of a list in order is the one found at its key
 pub each_found : (es : List Edit) → T (in_order es) → AllByRecursion (λ e. edit_at e.key es ≡ Some e) es
 each_found [] h = tt
 each_found (e ∷ es) h = (
-  on_true (is_key e.key e.key) _ _ (key_itself e.key),
+  cond-true (is_key e.key e.key) _ _ (key_itself e.key),
   weaken es (λ f there. shadow (is_key f.key e.key) e f (edit_at f.key es) (λ t here. some_not_none f (edit_at f.key es) here (ap (λ (k : Key). edit_at k es) (one_key f.key e.key t) ∙ tail_none e es h)) there) (each_found es (tail_order e es h)),
 )
 

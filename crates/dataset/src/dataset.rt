@@ -1,7 +1,7 @@
 //! A sound table with an exact index.
 ghost use Rattle.std.specs.Prelude.{◌≡◌, not, neg_ℤ, pos, T, OnOk, OnErr, IfOk};
 ghost use Rattle.std.specs.List.{AllByRecursion};
-ghost use Rattle.std.specs.Option.{option_copied};
+ghost use Rattle.std.specs.Option.{option_copied, option_map};
 ghost use Rattle.std.specs.FinMap as fin;
 ghost use Rattle.osm_base.specs.RisingKeys.{is_in};
 ghost use Rattle.osm_table.specs.Table.{entry_of, keys_by_rank, users};
@@ -9,17 +9,18 @@ ghost use Rattle.dataset.specs.Sound.{IsSound};
 ghost use Rattle.dataset.specs.Patch.{IsDiff, in_order, StandsBefore, StandsAfter, after_of, before_of};
 ghost use Rattle.dataset.specs.Diff.{diff};
 ghost use Rattle.dataset.specs.Draft.{drafted};
+ghost use Rattle.dataset.specs.Arrivals.{arrivals};
 ghost use Rattle.dataset.specs.Exact.{IsExact};
 ghost use Rattle.dataset.specs.Sides.{side, led};
 
-use crate::difference::edits_over;
+use crate::difference::{edits_of_told, edits_over};
 use crate::draft::Draft;
 use crate::edit::Edit;
 use crate::pairs::pairs;
 use crate::patch::Patch;
 use crate::writes::{drop_keys, put_keys, write_all, writes_of};
 use osm_base::{Key, Keys};
-use osm_table::{SharedEntry, Table};
+use osm_table::{SharedEntry, Table, ToldMap};
 use ref_index::RefIndex;
 use std::alloc::{AllocError, Global};
 use std::marker::Model;
@@ -62,6 +63,15 @@ impl DataSet {
         ensures { option_copied result ≡ entry_of self.now key }
     {
         self.table.get(key)
+    }
+
+    /// As `entry`, with a place to look at first, and with the place behind the one where the key
+    /// stands. Who goes over keys in the order in which they came in, each time from the place that
+    /// the last gave, pays no look-up; a key that isn't at the place costs one.
+    pub fn entry_near(&self, near: usize, key: Key) -> Option<(usize, &SharedEntry)>
+        ensures { option_map (λ found. found.1.now) result ≡ entry_of self.now key }
+    {
+        self.table.get_near(near, key)
     }
 
     /// The living entries that refer to the key, by rank, each once. Costs one look-up and takes no
@@ -138,6 +148,24 @@ impl DataSet {
         let keys = draft.ordered()?;
         let edits = edits_over(*keys.allocator(), &self.table, draft, &keys)?;
         Ok(Patch::new(edits, self.table.next(), draft.next()))
+    }
+
+    /// The difference between the table and the one where all that is told has come. Keys whose
+    /// entries stay are left out. Costs what is told and one sort of its keys, which is one pass where
+    /// they were told by rank; no look-up in what is told then, nor in the table where its keys came
+    /// by rank too. The entries are shared, none is copied.
+    ///
+    /// # Errors
+    ///
+    /// Where no memory is found.
+    pub fn patch_of_told(&self, told: &ToldMap) -> Result<Patch, AllocError>
+        ensures value { IfOk result (λ patch. patch ≡ diff self.now (drafted (arrivals told.now.told self.now.next) self.now)) }
+        ensures differs { IfOk result (λ patch. IsDiff self.now (drafted (arrivals told.now.told self.now.next) self.now) patch) }
+    {
+        let keys = told.ordered()?;
+        let edits = edits_of_told(self.alloc(), &self.table, told, keys.as_slice())?;
+        let number = self.table.next();
+        Ok(Patch::new(edits, number, number))
     }
 
     /// Leads the table on, from what the patch has before to what it has after. Costs the edited

@@ -1,10 +1,10 @@
 //! What edits make of a table's entries, in three parts: keys that come, keys that go, and keys
 //! that get another entry. Only the first and the copies for the last can find no memory.
 ghost use Rattle.std.specs.Prelude.{◌≡◌, ◌∷◌, ◌++◌, [], not, T, OnOk, OnErr, IfOk, IsSome};
-ghost use Rattle.std.specs.List.{AllByRecursion};
+ghost use Rattle.std.specs.List.{AllByRecursion, count_by};
 ghost use Rattle.osm_table.specs.Table.{entry_of, with_entry};
 ghost use Rattle.dataset.specs.Patch.{in_order};
-ghost use Rattle.dataset.specs.Sides.{side, led, fresh, gone, writes_of, written};
+ghost use Rattle.dataset.specs.Sides.{side, led, fresh, gone, is_fresh, writes_of, written};
 
 use crate::edit::Edit;
 use osm_base::Key;
@@ -51,13 +51,25 @@ fn put_fresh(table: &mut Table, edit: &Edit, forth: bool) -> Result<(), AllocErr
     }
 }
 
-/// Puts the keys in that edits bring, or leaves all as it was. Costs one look-up each.
+/// How many keys the edits bring.
+fn keys_to_come(edits: &[Edit], forth: bool) -> usize
+    ensures { result ≡ count_by (is_fresh forth) edits.now }
+{
+    edits
+        .iter()
+        .filter(|edit| edit.side(forth).is_some() && edit.side(!forth).is_none())
+        .count()
+}
+
+/// Puts the keys in that edits bring, or leaves all as it was. Costs one look-up each. It asks for their room at once: for
+/// no more than they take, so that edits of objects that stay ask for none.
 pub fn put_keys(table: &mut Table, edits: &[Edit], forth: bool) -> Result<(), AllocError>
     requires order { T (in_order edits.now) }
     requires stands { AllByRecursion (λ e. entry_of table.old e.key ≡ side (not forth) e) edits.now }
     ensures ok { OnOk result (table.new ≡ led (side forth) (fresh forth edits.now) table.old) }
     ensures err { OnErr result (table.new ≡ table.old) }
 {
+    table.reserve(keys_to_come(edits, forth))?;
     for edit in edits {
         if let Err(e) = put_fresh(table, edit, forth) {
             drop_keys(table, edits, !forth);

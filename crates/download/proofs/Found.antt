@@ -1,5 +1,5 @@
 -- What a told map tells of a key after many were told of.
-use Rattle.std.proofs.Common.{◌≡◌, ◌||◌, ℕ, Bool, true, false, cond, is_some, List, [], ◌∷◌, ◌++◌, Option, Some, None, refl, ap, ◌∙◌}
+use Rattle.std.proofs.Common.{◌≡◌, ◌||◌, ℕ, Bool, true, false, cond, is_some, List, [], ◌∷◌, Option, Some, None, refl, ap, ◌∙◌}
 use Rattle.std.specs.List.{list_any, fold, AllByRecursion}
 use Rattle.std.specs.Option.{option_or}
 use Rattle.std.specs.FinMap as fin
@@ -10,6 +10,8 @@ use Rattle.osm_base.specs.declared.key.Key.{Key}
 use Rattle.osm_base.specs.declared.content.Content.{Content}
 use Rattle.osm_base.specs.declared.meta.Meta.{Meta}
 use Rattle.osm_base.proofs.RisingKeys.{one_key}
+use Rattle.osm_base.proofs.Lists.{all_joined}
+use Rattle.osm_base.proofs.Tests.{cond-option_or, option_or-assoc, option_or-none}
 use Rattle.osm_table.specs.Table.{IsPositive}
 use Rattle.osm_table.specs.declared.told.Told.{Told}
 use Rattle.osm_table.specs.declared.told.Told.TheVariants.{Mentioned}
@@ -18,10 +20,6 @@ use Rattle.opl_line.specs.declared.object.OplObject.{OplObject}
 use Rattle.download.specs.Tell.{refs_of_side, references, told_side, told_of_object, nothing, all_told, told_of, telling, is_mentioned, told_by, AreTellable}
 
 -- What may be told refers to positive ids.
-
-all_append : (P : Key → Type 0) (xs ys : List Key) → AllByRecursion P xs → AllByRecursion P ys → AllByRecursion P (xs ++ ys)
-all_append P [] ys of_xs of_ys = of_ys
-all_append P (x ∷ xs) ys of_xs of_ys = (of_xs.0, all_append P xs ys of_xs.1 of_ys)
 
 abbrev ArePositive : List Key → Type 0
 ArePositive keys = AllByRecursion (λ (key : Key). IsPositive key.id) keys
@@ -32,30 +30,18 @@ positive_side key version (Some content) meta may = may.2.1
 
 pub positive_references : (os : List OplObject) → AreTellable os → AllByRecursion (λ (key : Key). IsPositive key.id) (references os)
 positive_references [] may = tt
-positive_references (o ∷ os) may = all_append (λ (key : Key). IsPositive key.id) (refs_of_side o.side) (references os) (positive_side o.key o.version o.side o.meta may.0) (positive_references os may.1)
+positive_references (o ∷ os) may = all_joined (λ (key : Key). IsPositive key.id) (refs_of_side o.side) (references os) (positive_side o.key o.version o.side o.meta may.0) (positive_references os may.1)
 
 -- By look-up.
-
-or_assoc : {A : Type 0} (a b c : Option A) → option_or a (option_or b c) ≡ option_or (option_or a b) c
-or_assoc None b c = refl
-or_assoc (Some x) b c = refl
-
-or_none : {A : Type 0} (a : Option A) → option_or a None ≡ a
-or_none None = refl
-or_none (Some x) = refl
-
-cond_or : (b : Bool) (t : Told) (o : Option Told) → cond b (Some t) o ≡ option_or (cond b (Some t) None) o
-cond_or true t o = refl
-cond_or false t o = refl
 
 told_all : (os : List OplObject) (m : ToldValue) (k : Key) → told_at (all_told m os) k ≡ option_or (telling os k) (told_at m k)
 told_all [] m k = refl
 told_all (o ∷ os) m k =
     told_all os (with_told m o.key (told_of_object o)) k
-    ∙ ap (option_or (telling os k)) (fin.get-insert rank_total m.told o.key (told_of_object o) k ∙ cond_or (is_key k o.key) (told_of_object o) (told_at m k))
-    ∙ or_assoc (telling os k) (cond (is_key k o.key) (Some (told_of_object o)) None) (told_at m k)
+    ∙ ap (option_or (telling os k)) (fin.get-insert rank_total m.told o.key (told_of_object o) k ∙ cond-option_or (is_key k o.key) (told_of_object o) (told_at m k))
+    ∙ option_or-assoc (telling os k) (cond (is_key k o.key) (Some (told_of_object o)) None) (told_at m k)
 
-abbrev mention_if : Bool → Option Told
+abbrev pub mention_if : Bool → Option Told
 mention_if b = cond b (Some Mentioned) None
 
 -- a mention tells nothing beside what is told already
@@ -67,7 +53,8 @@ mentioned_new : (m : ToldValue) (r k : Key) (b : Bool) → is_key k r ≡ b → 
 mentioned_new m r k true is none = rw (ap (told_at m) (one_key k r is) ∙ none) refl
 mentioned_new m r k false is none = elim (told_at m k) as (λ o. o ≡ option_or o None) [ None ↦ refl | Some u ↦ refl ]
 
-mention_cases : (m : ToldValue) (r k : Key) (o : Option Told) → told_at m r ≡ o
+-- what a mention leaves told of a key
+pub mention_cases : (m : ToldValue) (r k : Key) (o : Option Told) → told_at m r ≡ o
     → told_at (cond (is_some o) m (with_told m r Mentioned)) k ≡ option_or (told_at m k) (mention_if (is_key k r))
 mention_cases m r k None none = fin.get-insert rank_total m.told r Mentioned k ∙ mentioned_new m r k (is_key k r) refl none
 mention_cases m r k (Some t) has = mentioned_there m r k t (is_key k r) refl has
@@ -92,4 +79,4 @@ any_ref (o ∷ os) k = list_any-append (is_key k) (refs_of_side o.side) (referen
 pub told_at_key : (os : List OplObject) (k : Key) → told_at (told_of os) k ≡ told_by os k
 told_at_key os k =
     mentioned_all (references os) (all_told nothing os) k
-    ∙ (λ i. option_or ((told_all os nothing k ∙ ap (option_or (telling os k)) (fin.get-empty rank_cmp k) ∙ or_none (telling os k)) i) (mention_if (any_ref os k i)))
+    ∙ (λ i. option_or ((told_all os nothing k ∙ ap (option_or (telling os k)) (fin.get-empty rank_cmp k) ∙ option_or-none (telling os k)) i) (mention_if (any_ref os k i)))

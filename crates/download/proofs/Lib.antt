@@ -1,3 +1,4 @@
+pub mod Closed
 pub mod Examples
 pub mod Found
 pub mod FoundKept

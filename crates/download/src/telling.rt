@@ -1,9 +1,9 @@
 //! The told map of a file.
-ghost use Rattle.std.specs.Prelude.{◌≡◌, ◌++◌, OnOk, IfOk};
+ghost use Rattle.std.specs.Prelude.{◌≡◌, ◌++◌, true, OnOk, IfOk};
 ghost use Rattle.std.specs.List.{AllByRecursion, fold};
 ghost use Rattle.osm_base.specs.declared.key.Key.{Key};
 ghost use Rattle.osm_table.specs.Table.{IsPositive};
-ghost use Rattle.osm_table.specs.Told.{with_told, with_mention};
+ghost use Rattle.osm_table.specs.Told.{told_at, with_told, with_mention, is_told_there};
 ghost use Rattle.download.specs.Tell.{refs_of_side, references, told_of_object, all_told, told_of, IsTellable, AreTellable};
 
 use opl_file::Objects;
@@ -23,7 +23,8 @@ pub fn tell(alloc: Global, objects: Objects) -> Result<ToldMap, AllocError>
     tell_objects(alloc, objects.into_vec())
 }
 
-/// What the objects tell. It costs a look-up for each object and each reference.
+/// What the objects tell. It costs a look-up for each object and each reference. Where each reference is told of as there
+/// the told map knows that it is closed.
 ///
 /// # Errors
 /// No memory was left.
@@ -35,7 +36,9 @@ pub fn tell_objects(alloc: Global, objects: Vec<OplObject>) -> Result<ToldMap, A
     let references = references(alloc, &objects)?;
     let mut told = ToldMap::with_capacity(alloc, objects.len())?;
     tell_all(&mut told, objects)?;
-    mention_all(&mut told, &references)?;
+    if mention_all(&mut told, &references)? {
+        told.close();
+    }
     Ok(told)
 }
 
@@ -91,12 +94,15 @@ fn tell_object(told: &mut ToldMap, object: OplObject) -> Result<(), AllocError>
     }
 }
 
-fn mention_all(told: &mut ToldMap, keys: &[Key]) -> Result<(), AllocError>
+/// Mentions the keys, and answers whether all of them are told of as there.
+fn mention_all(told: &mut ToldMap, keys: &[Key]) -> Result<bool, AllocError>
     requires { AllByRecursion (λ (key : Key). IsPositive key.id) keys.now }
-    ensures { OnOk result (told.new ≡ fold with_mention told.old keys.now) }
+    ensures told { OnOk result (told.new ≡ fold with_mention told.old keys.now) }
+    ensures there { IfOk result (λ there. there ≡ true → AllByRecursion (λ r. is_told_there (told_at told.new r) ≡ true) keys.now) }
 {
+    let mut there = true;
     for key in keys {
-        told.mention(*key)?;
+        there &= told.mention(*key)?;
     }
-    Ok(())
+    Ok(there)
 }

@@ -1,4 +1,3 @@
-pub mod Cutting
 mod Examples
 pub mod Lists
 mod MeetingExamples

@@ -3,6 +3,7 @@ use Rattle.std.proofs.Common.{◌≡◌, ℕ, zero, suc, ◌+◌, ◌≤◌, fal
 use Rattle.std.specs.List.{AllByRecursion}
 use Rattle.std.specs.Option.{unwrap_or}
 use Rattle.std.proofs.lemmas.List.{length-map}
+use Rattle.std.proofs.lemmas.Bool.{or_parts}
 use Rattle.osm_base.specs.Rank.{is_key}
 use Rattle.osm_base.specs.Content.{kind_of_content}
 use Rattle.osm_base.specs.declared.key.Key.{Key}
@@ -22,7 +23,6 @@ use Rattle.tool_api.specs.Changes.{Outcome, new_key, added, all_added}
 use Rattle.tool_api.specs.Closing.{closing_tests}
 use Rattle.tool_api.specs.Import.{IsNewObject, AreDistinct, AreNewObjects, file_keys, references, file_reference_test, new_key_of, key_named, new_keys, new_contents, import}
 use Rattle.tool_api.proofs.Added.{added_at, next_added, at_added}
-use Rattle.tool_api.proofs.Bools.{none_of_two}
 use Rattle.import_tool.specs.ByPlace.{IsImported}
 
 -- an outcome that two tests let through
@@ -51,8 +51,8 @@ apart : (k : Key) (os : List NewObject) (i : ℕ) (o : NewObject) → is_named (
 apart k [] i o out at = absurd cc
 apart k (p ∷ os) zero o out at =
     let is : p ≡ o = cc in
-    ap (λ (x : NewObject). is_key x.key k) (sym is) ∙ key_turned p.key k ∙ (none_of_two (is_key k p.key) (is_named (file_keys os) k) out).0
-apart k (p ∷ os) (suc i) o out at = apart k os i o (none_of_two (is_key k p.key) (is_named (file_keys os) k) out).1 at
+    ap (λ (x : NewObject). is_key x.key k) (sym is) ∙ key_turned p.key k ∙ (or_parts (is_key k p.key) (is_named (file_keys os) k) out).0
+apart k (p ∷ os) (suc i) o out at = apart k os i o (or_parts (is_key k p.key) (is_named (file_keys os) k) out).1 at
 
 named_at : (n : ℕ) (objects : List NewObject) (i : ℕ) (o : NewObject) → AreDistinct (file_keys objects) → slice_get objects i ≡ Some o → new_key_of n objects o.key ≡ Some (new_key (kind_of_content o.content) (n + i))
 named_at n [] i o distinct at = absurd cc
@@ -89,7 +89,7 @@ module _ (f : Key → Key) where
   other_at : (objects : List NewObject) (x : TableValue) (k : Key) → is_named (new_keys x.next objects) k ≡ false → entry_of (all_added x (contents objects)) k ≡ entry_of x k
   other_at [] x k out = refl
   other_at (p ∷ os) x k out =
-      let q = none_of_two (is_key k (new_key (kind_of_content p.content) x.next)) (is_named (new_keys (x.next + 1) os) k) out in
+      let q = or_parts (is_key k (new_key (kind_of_content p.content) x.next)) (is_named (new_keys (x.next + 1) os) k) out in
       other_at os (added x (renamed f p.content)) k q.1
       ∙ added_at x (renamed f p.content) k
       ∙ (λ i. cond (is_key k (new_key (renamed_kind f p.content i) x.next)) (Some (Known New (Some (renamed f p.content)) None)) (entry_of x k))

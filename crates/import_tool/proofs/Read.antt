@@ -3,6 +3,7 @@ use Rattle.std.proofs.Common.{◌≡◌, ℕ, ℤ, ◌+◌, Bool, true, false, c
 use Rattle.std.specs.List.{All, AllByRecursion, cons_option}
 use Rattle.std.specs.Option.{option_map}
 use Rattle.std.proofs.lemmas.List.Elements.{All-head, All-tail}
+use Rattle.std.proofs.lemmas.Bool.{or_parts, or_from}
 use Rattle.osm_base.specs.Rank.{is_key}
 use Rattle.osm_base.specs.Number.{IsId}
 use Rattle.osm_base.specs.Content.{refs_of, node}
@@ -27,7 +28,6 @@ use Rattle.opl_file.specs.Reading.{with_line, taken, and_then, objects_from, obj
 use Rattle.tool_api.specs.declared.new_objects.NewObject.{NewObject}
 use Rattle.tool_api.specs.Checks.{is_named}
 use Rattle.tool_api.specs.Import.{is_negative, file_keys, IsNewObject, AreDistinct, AreNewObjects}
-use Rattle.tool_api.proofs.Bools.{none_of_two, or_none}
 use Rattle.import_tool.specs.Counted.{new_object, new_objects_of}
 
 -- The objects of a file: each as it was read, and each key once.
@@ -89,12 +89,12 @@ new_key_is o true (Some c) = refl
 
 cons_apart : (o : Option NewObject) (rest : List NewObject) (k j : Key) → IfNew o (λ n. n.key ≡ j) → is_key k j ≡ false → is_named (file_keys rest) k ≡ false → is_named (file_keys (cons_option o rest)) k ≡ false
 cons_apart None rest k j is apart out = out
-cons_apart (Some n) rest k j is apart out = or_none (is_key k n.key) (is_named (file_keys rest) k) (ap (is_key k) is ∙ apart) out
+cons_apart (Some n) rest k j is apart out = or_from (is_key k n.key) (is_named (file_keys rest) k) (ap (is_key k) is ∙ apart) out
 
 new_apart : (os : List OplObject) (k : Key) → has_key os k ≡ false → is_named (file_keys (new_objects_of os)) k ≡ false
 new_apart [] k out = refl
 new_apart (o ∷ os) k out =
-    let p = none_of_two (is_key k o.key) (has_key os k) out in
+    let p = or_parts (is_key k o.key) (has_key os k) out in
     cons_apart (new_object o) (new_objects_of os) k o.key (new_key_is o (is_negative o.key.id) o.side) p.0 (new_apart os k p.1)
 
 cons_distinct : (o : Option NewObject) (rest : List NewObject) (j : Key) → IfNew o (λ n. n.key ≡ j) → is_named (file_keys rest) j ≡ false → AreDistinct (file_keys rest) → AreDistinct (file_keys (cons_option o rest))
@@ -115,15 +115,15 @@ each_more [] o all one = (one, tt)
 each_more (p ∷ ps) o all one = (all.0, each_more ps o all.1 one)
 
 key_more : (os : List OplObject) (o : OplObject) (k : Key) → has_key os k ≡ false → is_key k o.key ≡ false → has_key (os ++ o ∷ []) k ≡ false
-key_more [] o k out apart = or_none (is_key k o.key) false apart refl
+key_more [] o k out apart = or_from (is_key k o.key) false apart refl
 key_more (p ∷ ps) o k out apart =
-    let q = none_of_two (is_key k p.key) (has_key ps k) out in
-    or_none (is_key k p.key) (has_key (ps ++ o ∷ []) k) q.0 (key_more ps o k q.1 apart)
+    let q = or_parts (is_key k p.key) (has_key ps k) out in
+    or_from (is_key k p.key) (has_key (ps ++ o ∷ []) k) q.0 (key_more ps o k q.1 apart)
 
 once_more : (os : List OplObject) (o : OplObject) → Once os → has_key os o.key ≡ false → Once (os ++ o ∷ [])
 once_more [] o once out = (refl, tt)
 once_more (p ∷ ps) o once out =
-    let q = none_of_two (is_key o.key p.key) (has_key ps o.key) out in
+    let q = or_parts (is_key o.key p.key) (has_key ps o.key) out in
     (key_more ps o p.key once.0 (key_turned p.key o.key ∙ q.0), once_more ps o once.1 q.1)
 
 unless_twice : (n : ℕ) (os next : List OplObject) (o : OplObject) (twice : Bool) → has_key os o.key ≡ twice → AreRead os → IsRead o → cond twice (Err (Twice n)) (Ok (os ++ o ∷ [])) ≡ Ok next → AreRead next

@@ -4,6 +4,7 @@ use Rattle.std.specs.List.{AllByRecursion}
 use Rattle.std.specs.Option.{unwrap_or}
 use Rattle.std.specs.FinMap as fin
 use Rattle.std.proofs.lemmas.List.Folds.{list_any-append}
+use Rattle.std.proofs.lemmas.Bool.{or_right, or_left}
 use Rattle.osm_base.specs.Rank.{is_key}
 use Rattle.osm_base.specs.Content.{refs_of, refers, kind_of_content}
 use Rattle.osm_base.specs.declared.key.Key.{Key}
@@ -13,15 +14,13 @@ use Rattle.dataset.specs.Sound.{IsSound}
 use Rattle.renamed_content.specs.Renamed.{renamed}
 use Rattle.renamed_content.proofs.Refs.{renamed_kind, renamed_refers}
 use Rattle.tool_api.specs.declared.new_objects.NewObject.{NewObject}
-use Rattle.tool_api.specs.declared.refusal.Refusal.{Refusal}
 use Rattle.tool_api.specs.declared.refusal.Refusal.TheVariants.{Absent}
 use Rattle.tool_api.specs.Checks.{is_named, first_of, when, ref_entry_test}
 use Rattle.tool_api.specs.Changes.{new_key, added, all_added}
 use Rattle.tool_api.specs.Closing.{closing_tests}
 use Rattle.tool_api.specs.Import.{IsNewObject, file_keys, references, file_reference_test, new_key_of, key_named, new_contents, is_negative}
 use Rattle.tool_api.proofs.Added.{RefersIn, next_added, there_all, at_added, fresh, new_fit, all_added_sound, number_room}
-use Rattle.tool_api.proofs.Bools.{or_left, or_right}
-use Rattle.tool_api.proofs.Passed.{passes, passed_tests, keeps_fit, ref_there}
+use Rattle.tool_api.proofs.Passed.{passes, passed_tests, keeps_fit, ref_there, passed_when}
 use Rattle.import_tool.proofs.Naming.{named_kind, positive_none}
 
 -- The new key of an object is there once all were added.
@@ -40,13 +39,10 @@ own_there f (o ∷ os) x q one e =
     there_case (λ k. IsThere (entry_of u k)) (is_key q o.key) _ q (new_key_of (x.next + 1) os q) (is_named (file_keys os) q) e here (own_there f os (added x c) q (omega arith))
 
 -- What passed its test is there under its new name.
-own_of : (b : Bool) (r : Refusal) → when (not b) r ≡ None → b ≡ true
-own_of true r e = refl
-own_of false r e = cc
 
 passed_case : (P : Type 0) (negative own : Bool) (q : Key) (o : Option Entry) → cond negative (when (not own) (Absent q)) (ref_entry_test q o) ≡ None
     → (own ≡ true → P) → (negative ≡ false → IsThere o → P) → P
-passed_case P true own q o e of_file of_table = of_file (own_of own (Absent q) e)
+passed_case P true own q o e of_file of_table = of_file (passed_when own (Absent q) e)
 passed_case P false own q o e of_file of_table = of_table refl (ref_there q o e)
 
 module _ (t : TableValue) (objects : List NewObject) (are : AllByRecursion IsNewObject objects) (s : IsSound t)

@@ -5,9 +5,9 @@ use Rattle.std.specs.declared.dyn_box.DynBox.{DynBox}
 use Rattle.std.specs.declared.alloc.Global.{Global}
 use Rattle.std.proofs.lemmas.Result.{IfOk-weaker}
 use Rattle.osm_base.specs.declared.area.Area.{Area}
+use Rattle.osm_base.proofs.Tests.{none_from_test, some_from_test}
 use Rattle.dataset.specs.Patch.{PatchValue}
 use Rattle.dataset.specs.Sound.{IsSound}
-use Rattle.dataset.proofs.Drafted.{none_at}
 use Rattle.tool_api.specs.declared.verb.Verb.{Verb}
 use Rattle.edit_history.specs.Machine.{State}
 use Rattle.edit_history.specs.Shown.{shown}
@@ -33,10 +33,6 @@ use Rattle.many_editors.proofs.Lifting.{always, shown_at}
 use Rattle.many_editors.proofs.Replying.{met_calm}
 use Rattle.many_editors.proofs.Stepping.{met_fetches, met_sends, met_waits, met_works, moved_by}
 use Rattle.many_editors.proofs.Waiting.{here, sent_finds}
-
-is_there : {A : Type 0} (o : Option A) → is_some o ≡ true → (x : A) × (o ≡ Some x)
-is_there None e = cc
-is_there (Some x) e = (x, refl)
 
 -- neither a fetch nor a send
 pub other_own : (a : MeetAct) → ((back : ℕ) (area : Option Area) (wanted : _) → a ≡ act.Fetch back area wanted → ⊥) → ((count : ℕ) → a ≡ act.Send count → ⊥) → IsOwn a
@@ -89,7 +85,7 @@ module _ {X : Type 0} {F : X → Type 0} (done undone : DynBox X Global F → Li
       let m = shown_meeting done undone old in
       let e = shown_editor done undone x in
       let verbs = get_or (verbs_met kind old) n [] in
-      let there = is_there x.answers some in
+      let there = some_from_test x.answers some in
       let waits : e.waits ≡ Some there.0.items = ap (λ (o : Option (Vec Answer Global)). option_map (λ (v : Vec Answer Global). v.items) o) there.1 in
       let may = subst (MayWait (states m) e.state) waits (here m fits.valid.sound n e shows).waits in
       record {
@@ -100,7 +96,7 @@ module _ {X : Type 0} {F : X → Type 0} (done undone : DynBox X Global F → Li
   -- One at work.
   module _ (idle : is_some x.answers ≡ false) where
     works : (shown_editor done undone x).waits ≡ None
-    works = ap (λ (o : Option (Vec Answer Global)). option_map (λ (v : Vec Answer Global). v.items) o) (none_at x.answers idle)
+    works = ap (λ (o : Option (Vec Answer Global)). option_map (λ (v : Vec Answer Global). v.items) o) (none_from_test x.answers idle)
 
     may_work : MayWork a (shown_editor done undone x).state (get_or (verbs_met kind old) n [])
     may_work = subst (MayTry a (shown_editor done undone x) (get_or (verbs_met kind old) n [])) works (fits.asked.asked (shown_editor done undone x) shows)
@@ -144,7 +140,7 @@ module _ {X : Type 0} {F : X → Type 0} (done undone : DynBox X Global F → Li
 
     pub waiting_moved : {E : Type 0} (limit : ℕ) (new : Meeting X F) (result : Result MeetReply E) → is_some x.answers ≡ true → ComesOf done undone kind old new result (own_act limit n a) → MovedMeeting done undone kind old new result (met limit n a)
     waiting_moved limit new result some comes =
-        let there = is_there x.answers some in
+        let there = some_from_test x.answers some in
         let waits : (shown_editor done undone x).waits ≡ Some there.0.items = ap (λ (o : Option (Vec Answer Global)). option_map (λ (v : Vec Answer Global). v.items) o) there.1 in
         moved_by done undone kind old new result (met limit n a) (own_act limit n a) comes
         (met_waits n (shown_meeting done undone old) (shown_editor done undone x) shows limit a there.0.items waits)

@@ -1,36 +1,10 @@
 -- What is left of a list without repeats.
 use Rattle.std.proofs.Common.{◌≡◌, ℤ, ◌||◌, Bool, true, false, cond, List, [], ◌∷◌, refl, sym, ap, ◌∙◌}
-use Rattle.std.specs.List.{list_any, dedup, dedup_from}
+use Rattle.std.specs.List.{dedup_from}
 use Rattle.std.specs.Ordering.{int_eq}
 use Rattle.std.proofs.lemmas.Cmp.{int_eq_equiv}
 use Rattle.tool_api.specs.Findings.{has_repeat}
 use Rattle.tool_api.specs.Squeeze.{squeezed}
-
--- All of it was in the list.
-
-weaken : (a b c : Bool) → (a || c) ≡ true → (a || (b || c)) ≡ true
-weaken true b c e = refl
-weaken false true c e = refl
-weaken false false c e = e
-
-deeper : (a b c d : Bool) → (a || d) ≡ true → (d ≡ true → (b || c) ≡ true) → (a || (b || c)) ≡ true
-deeper true b c d e h = refl
-deeper false b c d e h = h e
-
-module _ {X : Type 0} (p : X → Bool) (same : X → X → Bool) where
-  from_case : (b : Bool) (k x : X) (xs : List X) → list_any p (cond b (dedup_from same k xs) (k ∷ dedup_from same x xs)) ≡ true
-      → (list_any p (dedup_from same k xs) ≡ true → (p k || list_any p xs) ≡ true) → (list_any p (dedup_from same x xs) ≡ true → (p x || list_any p xs) ≡ true)
-      → (p k || (p x || list_any p xs)) ≡ true
-  from_case true k x xs any first second = weaken (p k) (p x) (list_any p xs) (first any)
-  from_case false k x xs any first second = deeper (p k) (p x) (list_any p xs) (list_any p (dedup_from same x xs)) any second
-
-  any_from : (k : X) (xs : List X) → list_any p (dedup_from same k xs) ≡ true → (p k || list_any p xs) ≡ true
-  any_from k [] any = any
-  any_from k (x ∷ xs) any = from_case (same x k) k x xs any (any_from k xs) (any_from x xs)
-
-  pub any_dedup : (xs : List X) → list_any p (dedup same xs) ≡ true → list_any p xs ≡ true
-  any_dedup [] any = any
-  any_dedup (x ∷ xs) any = any_from x xs any
 
 -- No two equal numbers stand side by side in it.
 

@@ -1,13 +1,8 @@
 -- The first of a list, and what is left where no test refuses.
-use Rattle.std.proofs.Common.{◌≡◌, ◌<◌, List, [], ◌∷◌, length, get_or, Option, Some, None, Ok, Result, refl, arith}
+use Rattle.std.proofs.Common.{◌≡◌, Option, Some, None, Ok, Result, refl}
 use Rattle.tool_api.specs.declared.refusal.Refusal.{Refusal}
 use Rattle.tool_api.specs.Changes.{Outcome}
 use Rattle.tool_api.specs.Checks.{◌>>◌}
-use Rattle.tool_api.specs.Upkeep.{first_in}
-
-pub first_got : {X : Type 0} (xs : List X) (d : X) → 0 < length xs → first_in xs ≡ Some (get_or xs 0 d)
-first_got [] d h = absurd (omega (arith, h))
-first_got (x ∷ xs) d h = refl
 
 -- where a test lets through, what is behind it decides
 pub through : (test : Option Refusal) (next : Result Outcome Refusal) (new : Outcome) → (test >> next) ≡ Ok new → next ≡ Ok new

@@ -12,6 +12,7 @@ use Rattle.std.proofs.lemmas.Bool.Decides.{Decides-int_eq}
 use Rattle.std.proofs.lemmas.Cmp.{tied_itself}
 use Rattle.std.proofs.lemmas.List.Elements.{filter_map-append}
 use Rattle.std.proofs.lemmas.List.Folds.{find-append}
+use Rattle.std.proofs.lemmas.Bool.{and_parts}
 use Rattle.osm_base.specs.Rank.{rank_cmp}
 use Rattle.osm_base.specs.RankLaws.{rank_total}
 use Rattle.osm_base.specs.RisingKeys.{marked, rises}
@@ -19,6 +20,7 @@ use Rattle.osm_base.specs.Same.{same_coord}
 use Rattle.osm_base.specs.declared.coord.Coord.{Coord}
 use Rattle.osm_base.specs.declared.key.Key.{Key}
 use Rattle.osm_base.proofs.ByRank.{rises_keys}
+use Rattle.osm_base.proofs.Tests.{second_T}
 use Rattle.osm_table.specs.Table.{TableValue, keys_by_rank}
 use Rattle.tool_api.specs.Findings.{doubled_of, place_at, same_place}
 use Rattle.map_checks.specs.Findings.{doubled_finding}
@@ -33,10 +35,6 @@ left : (a b : Bool) → T (a && b) → a ≡ true
 left true b h = refl
 left false b h = absurd h
 
-right : (a b : Bool) → T (a && b) → T b
-right true b h = h
-right false b h = absurd h
-
 not_below : (k j : Key) (o : Ordering) → rank_cmp k j ≡ o → is_lt o ≡ true → is_lt (rank_cmp j k) ≡ false
 not_below k j Less is less = ap is_lt (rank_total.antisymm j k ∙ ap ordering_reverse is)
 not_below k j Equal is less = cc
@@ -45,14 +43,14 @@ not_below k j Greater is less = cc
 below_at : (k : Key) (ks : List Key) (i : ℕ) (d : Key) → T (below_all rank_cmp k (marked ks)) → i < length ks → is_lt (rank_cmp k (get_or ks i d)) ≡ true
 below_at k [] i d h lt = absurd (omega (arith, lt))
 below_at k (x ∷ xs) zero d h lt = left (is_lt (rank_cmp k x)) _ h
-below_at k (x ∷ xs) (suc i) d h lt = below_at k xs i d (right (is_lt (rank_cmp k x)) _ h) (omega (arith, lt))
+below_at k (x ∷ xs) (suc i) d h lt = below_at k xs i d (second_T (is_lt (rank_cmp k x)) _ h) (omega (arith, lt))
 
 module _ (p : Key → Bool) where
   above : (k : Key) (ks : List Key) → T (below_all rank_cmp k (marked ks)) → find (λ j. is_lt (rank_cmp j k) && p j) ks ≡ None
   above k [] h = refl
   above k (x ∷ xs) h =
       ap (λ b. cond (b && p x) (Some x) (find (λ j. is_lt (rank_cmp j k) && p j) xs)) (not_below k x (rank_cmp k x) refl (left (is_lt (rank_cmp k x)) _ h))
-      ∙ above k xs (right (is_lt (rank_cmp k x)) _ h)
+      ∙ above k xs (second_T (is_lt (rank_cmp k x)) _ h)
 
   below_are_before : (ks : List Key) (i : ℕ) (d : Key) → T (rises ks) → i < length ks → find (λ j. is_lt (rank_cmp j (get_or ks i d)) && p j) ks ≡ find p (take i ks)
   below_are_before [] i d h lt = absurd (omega (arith, lt))
@@ -63,7 +61,7 @@ module _ (p : Key → Bool) where
       let below : T (below_all rank_cmp x (marked xs)) = (let e = left (below_all rank_cmp x (marked xs)) (rises xs) h in rw e tt) in
       let less : is_lt (rank_cmp x (get_or xs i d)) ≡ true = below_at x xs i d below (omega (arith, lt)) in
       ap (λ b. cond (b && p x) (Some x) (find (λ j. is_lt (rank_cmp j (get_or xs i d)) && p j) xs)) less
-      ∙ ap (cond (p x) (Some x)) (below_are_before xs i d (right (below_all rank_cmp x (marked xs)) (rises xs) h) (omega (arith, lt)))
+      ∙ ap (cond (p x) (Some x)) (below_are_before xs i d (second_T (below_all rank_cmp x (marked xs)) (rises xs) h) (omega (arith, lt)))
 
 -- The least node of lower rank at a key's place is the first at it, of the keys before.
 
@@ -114,14 +112,10 @@ not_noted t keys k entries none h at =
     ∙ ap (λ (o : Option Coord). option_or (first_at t keys at) (cond (same_place o (Some at)) (Some k) None)) (sym none)
     ∙ sym (find-append (λ j. same_place (place_at t j) (Some at)) keys (k ∷ []))
 
-both_are : (a b : Bool) → (a && b) ≡ true → (a ≡ true) × (b ≡ true)
-both_are true b e = (refl, e)
-both_are false b e = cc
-
 -- one place is hashed as one
 one_hashed : (a b : Coord) → same_coord a b ≡ true → hashed a ≡ hashed b
 one_hashed a b e =
-    let h = both_are (int_eq a.lon b.lon) (int_eq a.lat b.lat) e in
+    let h = and_parts (int_eq a.lon b.lon) (int_eq a.lat b.lat) e in
     let lon : a.lon ≡ b.lon = (Decides-int_eq a.lon b.lon).0 h.0 in
     let lat : a.lat ≡ b.lat = (Decides-int_eq a.lat b.lat).0 h.1 in
     λ i. record { lon = lon i; lat = lat i }

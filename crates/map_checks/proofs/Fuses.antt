@@ -1,9 +1,11 @@
 -- The table after nodes are fused is sound, and of the nodes the kept one lives alone.
-use Rattle.std.proofs.Common.{◌≡◌, ◌≤◌, ◌||◌, ◌&&◌, ℕ, Bool, true, false, cond, not, is_some, List, [], ◌∷◌, length, Option, Some, None, Ok, refl, sym, ap, ◌∙◌, subst, IsTrue, arith}
+use Rattle.std.proofs.Common.{◌≡◌, ◌≤◌, ◌||◌, ℕ, Bool, true, false, cond, not, is_some, List, [], ◌∷◌, length, Option, Some, None, Ok, refl, sym, ap, ◌∙◌, subst, IsTrue, arith}
+use Rattle.std.proofs.lemmas.Bool.{and_from}
 use mathlib.Core.Logic.{◌⊎◌, inl, inr}
 use Rattle.std.specs.List.{filter, find}
 use Rattle.std.specs.Option.{option_map, option_map_or, option_and_then, option_or}
-use Rattle.osm_base.specs.Content.{fits, refers, kind_of_content}
+use Rattle.std.specs.Cmp.{second_so}
+use Rattle.osm_base.specs.Content.{refers, kind_of_content}
 use Rattle.osm_base.specs.Rank.{is_key}
 use Rattle.osm_base.specs.Tags.{Pair}
 use Rattle.osm_base.proofs.RisingKeys.{one_key, key_itself, key_turned, in_filter}
@@ -16,110 +18,30 @@ use Rattle.osm_table.specs.declared.entry.Base.TheVariants.{New, Live, Gone}
 use Rattle.osm_table.specs.declared.entry.Conflict.{Conflict}
 use Rattle.osm_table.specs.declared.entry.Entry.{Entry}
 use Rattle.osm_table.specs.declared.entry.Entry.TheVariants.{Incomplete, Known}
-use Rattle.osm_table.specs.Table.{TableValue, entry_of, keys_by_rank, uses, mine_of, Each, IsThere}
+use Rattle.osm_table.specs.Table.{TableValue, entry_of, uses, mine_of, Each, IsThere}
 use Rattle.dataset.specs.Sound.{IsSound, IsSoundEntry, IsNumber, LivesIn}
-use Rattle.dataset.proofs.Changes.{deleted_entry}
-use Rattle.dataset.proofs.Differs.{same_at_decides}
+use Rattle.dataset.proofs.Changes.{deleted_entry, either_there}
 use Rattle.tool_api.specs.declared.kinds.Kinds.TheVariants.{Nodes}
-use Rattle.tool_api.specs.declared.refusal.Refusal.TheVariants.{InConflict}
 use Rattle.tool_api.specs.Checks.{is_named, first_of, target_test, entry_test, twice_test, list_tests}
-use Rattle.tool_api.specs.Changes.{Outcome, done, changed, edit, delete, deleted, with_mine}
-use Rattle.tool_api.specs.Closing.{closing_tests, changes_conflict, conflict_change_test, in_conflict, makes_unfit}
+use Rattle.tool_api.specs.Changes.{Outcome, done, edit, delete, deleted, with_mine}
+use Rattle.tool_api.specs.Closing.{closing_tests, in_conflict}
 use Rattle.tool_api.specs.Basic.{with_tags}
 use Rattle.tool_api.specs.Combine.{united, all_tags, clash_test, is_positive}
-use Rattle.tool_api.specs.Upkeep.{first_in}
 use Rattle.tool_api.specs.Fuse.{place_test, kept_node, fused_content, users_among, fused, fused_table, fuse}
-use Rattle.tool_api.proofs.Bools.{and_right, both, left_alone, or_true}
-use Rattle.tool_api.proofs.Least.{has_key, conflict_some}
-use Rattle.tool_api.proofs.Looks.{entry_changed, next_changed}
-use Rattle.tool_api.proofs.Passed.{Lives, lives, named_lives, passes, both_none, none_passes, passed_tests, keeps_fit, fits_or_stays, none_in}
-use Rattle.tool_api.proofs.Sounds.{content_edited, edited_there}
+use Rattle.tool_api.proofs.Bools.{left_alone}
+use Rattle.tool_api.proofs.Passed.{Lives, lives, named_lives, passes, both_none, passed_tests}
+use Rattle.tool_api.proofs.Sounds.{edited_there}
+use Rattle.tool_api.proofs.Changed.{entry_thrice, next_thrice, four_cases, leaves_conflict, fits_edited, sound_edited, edited_from, deleted_from, kind_with}
+use Rattle.tool_api.proofs.Named.{find_named, or_case}
 use Rattle.map_checks.specs.Kept.{lives_at, KeepsOne}
 use Rattle.map_checks.proofs.Ends.{first_none, through, last_through}
 use Rattle.map_checks.proofs.Renames.{same_kind, refers_moved, RefersMoved}
 use Rattle.map_checks.proofs.Users.{node_kind, user_among}
 
--- What the table has at a key afterwards.
-
--- after three changes the last one that names the key decides
-entry_thrice : (t : TableValue) (f g h : Key → Option Entry) (ks ls ms : List Key) (q : Key)
-    → entry_of (changed (changed (changed t f ks) g ls) h ms) q ≡ cond (is_named ms q) (h q) (cond (is_named ls q) (g q) (cond (is_named ks q) (f q) (entry_of t q)))
-entry_thrice t f g h ks ls ms q =
-    entry_changed (changed (changed t f ks) g ls) h ms q
-    ∙ ap (cond (is_named ms q) (h q)) (entry_changed (changed t f ks) g ls q ∙ ap (cond (is_named ls q) (g q)) (entry_changed t f ks q))
-
-next_thrice : (t : TableValue) (f g h : Key → Option Entry) (ks ls ms : List Key) → (changed (changed (changed t f ks) g ls) h ms).next ≡ t.next
-next_thrice t f g h ks ls ms = next_changed (changed (changed t f ks) g ls) h ms ∙ next_changed (changed t f ks) g ls ∙ next_changed t f ks
-
--- the four cases of such an entry
-four_cases : (P : Type 0) (a b c : Bool) (x y z w : Option Entry) (e : Entry) → cond a x (cond b y (cond c z w)) ≡ Some e
-    → (a ≡ true → x ≡ Some e → P) → (b ≡ true → y ≡ Some e → P) → (c ≡ true → z ≡ Some e → P) → (a ≡ false → b ≡ false → c ≡ false → w ≡ Some e → P) → P
-four_cases P true b c x y z w e has first second third rest = first refl has
-four_cases P false true c x y z w e has first second third rest = second refl has
-four_cases P false false true x y z w e has first second third rest = third refl has
-four_cases P false false false x y z w e has first second third rest = rest refl refl refl has
-
 -- The kept node is one of the nodes.
-
-found_case : (j k : Key) (ks : List Key) (o : Option Key) (b : Bool) → cond b (Some j) o ≡ Some k → (o ≡ Some k → is_named ks k ≡ true) → is_named (j ∷ ks) k ≡ true
-found_case j k ks o true e rest = (let i : j ≡ k = cc in ap (λ (x : Key). is_key k x || is_named ks k) i ∙ ap (λ b. b || is_named ks k) (key_itself k))
-found_case j k ks o false e rest = ap (λ b. is_key k j || b) (rest e) ∙ or_true (is_key k j)
-
-find_named : (p : Key → Bool) (ks : List Key) (k : Key) → find p ks ≡ Some k → is_named ks k ≡ true
-find_named p [] k e = cc
-find_named p (j ∷ ks) k e = found_case j k ks (find p ks) (p j) e (find_named p ks k)
-
-first_named : (ks : List Key) (k : Key) → first_in ks ≡ Some k → is_named ks k ≡ true
-first_named [] k e = cc
-first_named (j ∷ ks) k e = (let i : j ≡ k = cc in ap (λ (x : Key). is_key k x || is_named ks k) i ∙ ap (λ b. b || is_named ks k) (key_itself k))
-
-or_case : (ks : List Key) (k : Key) (o : Option Key) → option_or o (first_in ks) ≡ Some k → (o ≡ Some k → is_named ks k ≡ true) → is_named ks k ≡ true
-or_case ks k None e h = first_named ks k e
-or_case ks k (Some j) e h = h e
 
 kept_named : (nodes : List Key) (kept : Key) → kept_node nodes ≡ Some kept → is_named nodes kept ≡ true
 kept_named nodes kept e = or_case nodes kept (find (λ (k : Key). is_positive k.id) nodes) e (find_named (λ (k : Key). is_positive k.id) nodes kept)
-
--- What a change that wasn't refused has left.
-
--- an entry in conflict that isn't named is as it was
-conflict_case : (a b c : Bool) → (a && not b && not c) ≡ false → a ≡ true → b ≡ false → c ≡ true
-conflict_case true false true e f g = refl
-conflict_case true false false e f g = cc
-conflict_case true true c e f g = cc
-conflict_case false b c e f g = cc
-
-leaves_conflict : (t u : TableValue) (named : List Key) (k : Key) → conflict_change_test t named u ≡ None → in_conflict (entry_of t k) ≡ true → is_named named k ≡ false → entry_of t k ≡ entry_of u k
-leaves_conflict t u named k passed conflict apart =
-    let calm : changes_conflict named k (entry_of t k) (entry_of u k) ≡ false =
-    none_passes (λ (j : Key). changes_conflict named j (entry_of t j) (entry_of u j)) (keys_by_rank t) k (none_in (find (λ (j : Key). changes_conflict named j (entry_of t j) (entry_of u j)) (keys_by_rank t)) InConflict passed) (has_key t k (conflict_some (entry_of t k) conflict)) in
-    (same_at_decides (entry_of t k) (entry_of u k)).0 (conflict_case _ (is_named named k) _ calm conflict apart)
-
--- an edited content fits, or is what it was
-fits_edited : (t u : TableValue) (limit : ℕ) (named : List Key) (k : Key) (base : Base) (c d : Content) → closing_tests t limit named u ≡ None
-    → entry_of t k ≡ Some (Known base (Some c) None) → entry_of u k ≡ Some (Known base (Some d) None) → (fits d ≡ true) ⊎ (Some c ≡ Some d)
-fits_edited t u limit named k base c d passed was is =
-    let fine : makes_unfit (Some c) (Some d) ≡ false =
-    (let a = sym was in let b = sym is in λ i. makes_unfit (option_and_then mine_of (a i)) (option_and_then mine_of (b i))) ∙ keeps_fit t u limit named k _ passed is in
-    fits_or_stays (Some c) d fine
-
-sound_edited : (n : ℕ) (k : Key) (base : Base) (c d : Content) → kind_of_content d ≡ k.kind → (fits d ≡ true) ⊎ (Some c ≡ Some d) → IsSoundEntry n k (Known base (Some c) None) → IsSoundEntry n k (Known base (Some d) None)
-sound_edited n k base c d kind fit s = content_edited n (λ _. d) k base c (kind ∙ sym s.kinds.1) fit s
-
-edited_from : (P : Entry → Type 0) (f : Content → Content) (e : Entry) (o : Option Entry) → option_map (with_mine f) o ≡ Some e → ((x : Entry) → o ≡ Some x → with_mine f x ≡ e → P e) → P e
-edited_from P f e None has h = cc
-edited_from P f e (Some x) has h = h x refl (let i : with_mine f x ≡ e = cc in i)
-
-deleted_from : (P : Entry → Type 0) (e : Entry) (o : Option Entry) → option_and_then deleted o ≡ Some e → ((x : Entry) → o ≡ Some x → deleted x ≡ Some e → P e) → P e
-deleted_from P e None has h = cc
-deleted_from P e (Some x) has h = h x refl has
-
--- Other tags.
-
-kind_with : (f : List Pair → List Pair) (c : Content) → kind_of_content (with_tags f c) ≡ kind_of_content c
-kind_with f (content.Node tags at) = refl
-kind_with f (content.Way tags refs) = refl
-kind_with f (content.Relation tags members) = refl
 
 -- a node refers to nothing
 no_refs : (f : List Pair → List Pair) (c : Content) (r : Key) → kind_of_content c ≡ kind.Node → refers (with_tags f c) r ≡ false
@@ -169,7 +91,7 @@ module _ (t : TableValue) (nodes : List Key) (kept : Key) (tests : list_tests t 
   kept_kind = named_node kept kept_in
 
   other_among : (q : Key) → is_named others q ≡ true → is_named nodes q ≡ true
-  other_among q h = and_right (not (is_key kept q)) (is_named nodes q) (sym (in_filter (λ (k : Key). not (is_key kept k)) q nodes) ∙ h)
+  other_among q h = second_so (not (is_key kept q)) (is_named nodes q) (sym (in_filter (λ (k : Key). not (is_key kept k)) q nodes) ∙ h)
 
   living : (x : Entry) → Lives x → IsThere (Some x)
   living x (lives base c) = refl
@@ -196,7 +118,7 @@ module _ (t : TableValue) (nodes : List Key) (kept : Key) (tests : list_tests t 
       ∙ (λ i. is_some (option_and_then mine_of (option_map (with_mine whole) (was i))))
       ∙ edited_lives x l)
   alone_case q false is named = with_entry (lives_at after q ≡ false) q named (entry_of t q) refl (λ x was l.
-      let other : is_named others q ≡ true = in_filter (λ (k : Key). not (is_key kept k)) q nodes ∙ both _ _ (ap not is) named in
+      let other : is_named others q ≡ true = in_filter (λ (k : Key). not (is_key kept k)) q nodes ∙ and_from _ _ (ap not is) named in
       (λ i. is_some (option_and_then mine_of (looks q i)))
       ∙ (λ i. is_some (option_and_then mine_of (cond ((ap (λ b. b || false) (key_turned q kept ∙ is)) i) (edit t whole q) (cond (other i) (delete t q) (cond (is_named rels q) (edit t moves q) (entry_of t q))))))
       ∙ (λ i. is_some (option_and_then mine_of (option_and_then deleted (was i))))
@@ -247,10 +169,6 @@ module _ (t : TableValue) (nodes : List Key) (kept : Key) (tests : list_tests t 
         (kept_sound q e has) (other_sound q e) (λ here is. user_sound q e has is) (λ a b c is. s.entries q e is)
 
     -- What entries refer to.
-
-    either_there : (b : Bool) (x y : Option Entry) → IsThere x → IsThere y → IsThere (cond b x y)
-    either_there true x y h g = h
-    either_there false x y h g = g
 
     cut_there : (a b : Bool) (x y z : Option Entry) → (a ≡ true) ⊎ (b ≡ false) → IsThere x → IsThere z → IsThere (cond a x (cond b y z))
     cut_there true b x y z h f g = f

@@ -1,5 +1,6 @@
 -- To what refers a content that refers to the kept node in place of others.
 use Rattle.std.proofs.Common.{◌≡◌, ℤ, ◌||◌, ◌&&◌, Bool, true, false, cond, List, [], ◌∷◌, refl, sym, ap, ◌∙◌, map}
+use Rattle.std.proofs.Math.Bool.{or-true}
 use mathlib.Core.Logic.{◌⊎◌, inl, inr}
 use Rattle.std.specs.List.{list_any}
 use Rattle.std.specs.Ordering.{int_eq}
@@ -12,10 +13,9 @@ use Rattle.osm_base.specs.declared.key.Kind.TheVariants as kind
 use Rattle.osm_base.specs.declared.members.Member.{Member}
 use Rattle.osm_base.specs.declared.content.Content.{Content}
 use Rattle.osm_base.specs.declared.content.Content.TheVariants.{Node, Way, Relation}
+use Rattle.osm_base.proofs.Lists.{any_dedup}
 use Rattle.tool_api.specs.Checks.{is_named}
 use Rattle.tool_api.specs.Fuse.{fused_key, fused_content, without_runs}
-use Rattle.tool_api.proofs.Bools.{or_true}
-use Rattle.map_checks.proofs.Dedups.{any_dedup}
 
 module _ (nodes : List Key) (kept : Key) where
   pub same_kind : (c : Content) → kind_of_content (fused_content nodes kept c) ≡ kind_of_content c
@@ -32,7 +32,7 @@ module _ (nodes : List Key) (kept : Key) where
 
   longer : (k : Key) (ks : List Key) (r : Key) → Moves ks r → Moves (k ∷ ks) r
   longer k ks r (inl e) = inl e
-  longer k ks r (inr h) = inr (h.0, ap (λ b. is_key r k || b) h.1 ∙ or_true (is_key r k))
+  longer k ks r (inr h) = inr (h.0, ap (λ b. is_key r k || b) h.1 ∙ or-true (is_key r k))
 
   moved_case : (k : Key) (ks : List Key) (r : Key) (b c : Bool) → is_named nodes k ≡ b → is_key r (cond b kept k) ≡ c → (c || any_moved ks r) ≡ true → (any_moved ks r ≡ true → Moves ks r) → Moves (k ∷ ks) r
   moved_case k ks r true true named is h rest = inl (one_key r kept is)

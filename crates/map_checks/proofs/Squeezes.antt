@@ -9,6 +9,7 @@ use Rattle.osm_base.proofs.AnyMap.{list_any_map}
 use Rattle.osm_base.specs.declared.key.Key.{Key}
 use Rattle.osm_base.specs.declared.content.Content.{Content}
 use Rattle.osm_base.specs.declared.content.Content.TheVariants.{Node, Way, Relation}
+use Rattle.osm_base.proofs.Lists.{any_dedup}
 use Rattle.osm_table.specs.declared.entry.Entry.{Entry}
 use Rattle.osm_table.specs.declared.entry.Entry.TheVariants.{Incomplete, Known}
 use Rattle.osm_table.specs.Table.{TableValue, entry_of, mine_of}
@@ -25,7 +26,7 @@ use Rattle.tool_api.specs.Squeeze.{squeezed, squeeze}
 use Rattle.tool_api.proofs.Looks.{entry_changed}
 use Rattle.tool_api.proofs.Passed.{named_lives, both_none}
 use Rattle.tool_api.proofs.Sounds.{edit_sound}
-use Rattle.map_checks.proofs.Dedups.{any_dedup, no_repeat}
+use Rattle.map_checks.proofs.Dedups.{no_repeat}
 use Rattle.map_checks.proofs.Ends.{through, last_through}
 
 same_kind : (c : Content) → kind_of_content (with_refs squeezed c) ≡ kind_of_content c

@@ -1,12 +1,11 @@
 -- Those that refer to one of some nodes are the users of the nodes, by the index.
-use Rattle.std.proofs.Common.{◌≡◌, ◌||◌, ◌&&◌, Bool, true, false, cond, is_some, List, [], ◌∷◌, Option, Some, None, refl, sym, ap, ◌∙◌}
-use Rattle.std.specs.List.{list_any, flat_map}
+use Rattle.std.proofs.Common.{◌≡◌, ◌||◌, ◌&&◌, Bool, true, false, cond, is_some, List, [], ◌∷◌, Option, Some, None, refl, sym, ◌∙◌}
+use Rattle.std.specs.List.{flat_map}
 use Rattle.std.specs.Option.{option_map_or}
-use Rattle.std.proofs.lemmas.List.Folds.{list_any-append}
+use Rattle.std.proofs.lemmas.Bool.{and_from}
 use Rattle.osm_base.specs.Order.{ranked}
-use Rattle.osm_base.specs.Rank.{is_key}
 use Rattle.osm_base.specs.RisingKeys.{is_in}
-use Rattle.osm_base.proofs.RisingKeys.{one_key, in_filter}
+use Rattle.osm_base.proofs.RisingKeys.{in_filter}
 use Rattle.osm_base.specs.declared.key.Key.{Key}
 use Rattle.osm_base.specs.declared.key.Kind.{Kind}
 use Rattle.osm_base.specs.declared.key.Kind.TheVariants as kind
@@ -19,10 +18,10 @@ use Rattle.tool_api.specs.declared.refusal.Refusal.{Refusal}
 use Rattle.tool_api.specs.declared.refusal.Refusal.TheVariants.{WrongKind}
 use Rattle.tool_api.specs.Checks.{is_named, first_of, target_test, entry_test, conflict_test, takes}
 use Rattle.tool_api.specs.Fuse.{users_among}
-use Rattle.tool_api.proofs.Bools.{both, or_true}
 use Rattle.tool_api.proofs.Bridge.{ranked_filter}
 use Rattle.tool_api.proofs.Least.{has_key}
 use Rattle.tool_api.proofs.Passed.{passes}
+use Rattle.tool_api.proofs.Named.{uses_one, some_user, in_users}
 
 -- What passed the target tests of nodes is a node.
 
@@ -40,19 +39,6 @@ entry_kind k (Some (Known base (Some c) conflict)) e = kind_case k.kind (conflic
 pub node_kind : (t : TableValue) (nodes : List Key) (k : Key) → first_of (target_test t Nodes) nodes ≡ None → is_named nodes k ≡ true → k.kind ≡ kind.Node
 node_kind t nodes k passed named = entry_kind k (entry_of t k) (passes (target_test t Nodes) nodes k passed named)
 
--- whether a key uses one of the nodes
-abbrev pub uses_one : TableValue → List Key → Key → Bool
-uses_one t nodes k = list_any (λ (n : Key). is_named (users t n) k) nodes
-
-user_case : (t : TableValue) (v : Key) (nodes : List Key) (k n : Key) (b : Bool) → is_key n v ≡ b → (b || is_named nodes n) ≡ true → is_named (users t n) k ≡ true
-    → (is_named nodes n ≡ true → uses_one t nodes k ≡ true) → uses_one t (v ∷ nodes) k ≡ true
-user_case t v nodes k n true is h used rest = ap (λ b. b || uses_one t nodes k) (ap (λ (j : Key). is_named (users t j) k) (sym (one_key n v is)) ∙ used)
-user_case t v nodes k n false is h used rest = ap (λ b. is_named (users t v) k || b) (rest h) ∙ or_true (is_named (users t v) k)
-
-some_user : (t : TableValue) (nodes : List Key) (k n : Key) → is_named nodes n ≡ true → is_named (users t n) k ≡ true → uses_one t nodes k ≡ true
-some_user t [] k n named used = cc
-some_user t (v ∷ nodes) k n named used = user_case t v nodes k n (is_key n v) refl named used (λ h. some_user t nodes k n h used)
-
 user_some : (k : Key) (o : Option Entry) → option_map_or (λ e. uses e k) o false ≡ true → is_some o ≡ true
 user_some k None h = cc
 user_some k (Some e) h = refl
@@ -66,10 +52,6 @@ has_entry : (t : TableValue) (nodes : List Key) (k : Key) → uses_one t nodes k
 has_entry t [] k h = cc
 has_entry t (v ∷ nodes) k h = has_case t v nodes k (is_named (users t v) k) refl h (has_entry t nodes k)
 
-in_users : (t : TableValue) (nodes : List Key) (k : Key) → is_in k (flat_map (users t) nodes) ≡ uses_one t nodes k
-in_users t [] k = refl
-in_users t (v ∷ nodes) k = list_any-append (is_key k) (users t v) (flat_map (users t) nodes) ∙ ap (λ b. is_named (users t v) k || b) (in_users t nodes k)
-
 there : (t : TableValue) (nodes : List Key) (k : Key) (b : Bool) → uses_one t nodes k ≡ b → b ≡ (b && is_in k (keys_by_rank t))
 there t nodes k true is = sym (has_key t k (has_entry t nodes k is))
 there t nodes k false is = refl
@@ -81,4 +63,4 @@ users_ranked t nodes = ranked_filter (uses_one t nodes) t (flat_map (users t) no
 pub user_among : (t : TableValue) (nodes : List Key) (k n : Key) → is_named nodes n ≡ true → option_map_or (λ (e : Entry). uses e n) (entry_of t k) false ≡ true → is_named (users_among t nodes) k ≡ true
 user_among t nodes k n named used =
     in_filter (uses_one t nodes) k (keys_by_rank t)
-    ∙ both _ _ (some_user t nodes k n named (user_uses t n k ∙ used)) (has_key t k (user_some n (entry_of t k) used))
+    ∙ and_from _ _ (some_user t nodes k n named (user_uses t n k ∙ used)) (has_key t k (user_some n (entry_of t k) used))

@@ -1,37 +1,25 @@
 -- Keys among those that a test found.
 use Rattle.std.proofs.Common.{◌≡◌, Bool, true, false, not, cond, ◌&&◌, ◌||◌, List, [], ◌∷◌, filter, refl, sym, ap, ◌∙◌}
+use Rattle.std.proofs.lemmas.Bool.{or_right, or_left}
+use Rattle.std.proofs.Math.Bool.{and-false}
 use Rattle.std.specs.List.{list_any}
 use Rattle.osm_base.specs.Rank.{is_key}
 use Rattle.osm_base.specs.RisingKeys.{is_in}
 use Rattle.osm_base.specs.declared.key.Key.{Key}
 use Rattle.osm_base.proofs.RisingKeys.{one_key, key_itself, key_turned, in_filter}
-
-and_true : (a b : Bool) → b ≡ true → (a && b) ≡ a
-and_true true b e = e
-and_true false b e = refl
-
-or_true : (a b : Bool) → b ≡ true → (a || b) ≡ true
-or_true true b e = refl
-or_true false b e = e
-
-or_left : (a b : Bool) → a ≡ true → (a || b) ≡ true
-or_left a b e = ap (λ c. c || b) e
+use Rattle.osm_base.proofs.Tests.{and_passed}
 
 -- tests that agree on the keys of a list find the same of them
 pub filter_same : (f g : Key → Bool) (ks : List Key) → ((k : Key) → is_in k ks ≡ true → f k ≡ g k) → filter f ks ≡ filter g ks
 filter_same f g [] h = refl
 filter_same f g (x ∷ xs) h =
     let first = h x (or_left (is_key x x) (is_in x xs) (key_itself x)) in
-    let rest = filter_same f g xs (λ k e. h k (or_true (is_key k x) (is_in k xs) e)) in
+    let rest = filter_same f g xs (λ k e. h k (or_right (is_key k x) (is_in k xs) e)) in
     λ i. cond (first i) (x ∷ rest i) (rest i)
-
--- tests that agree find the same keys
-pub filter_alike : (f g : Key → Bool) (ks : List Key) → ((k : Key) → f k ≡ g k) → filter f ks ≡ filter g ks
-filter_alike f g ks h = filter_same f g ks (λ k _. h k)
 
 -- one of the keys is found where it passes
 found_here : (m : Key → Bool) (k : Key) (ks : List Key) → is_in k ks ≡ true → is_in k (filter m ks) ≡ m k
-found_here m k ks e = in_filter m k ks ∙ and_true (m k) (is_in k ks) e
+found_here m k ks e = in_filter m k ks ∙ and_passed (m k) (is_in k ks) e
 
 -- those that weren't found don't pass
 pub not_found : (m : Key → Bool) (ks : List Key) → filter (λ k. not (is_in k (filter m ks))) ks ≡ filter (λ k. not (m k)) ks
@@ -56,11 +44,7 @@ none_of [] = refl
 none_of (r ∷ rs) = none_of rs
 
 never : (m : Key → Bool) (rs : List Key) → list_any (λ r. m r && false) rs ≡ false
-never m rs = ap (λ f. list_any f rs) (λ i r. and_false (m r) i) ∙ none_of rs
-  where
-    and_false : (a : Bool) → (a && false) ≡ false
-    and_false true = refl
-    and_false false = refl
+never m rs = ap (λ f. list_any f rs) (λ i r. and-false (m r) i) ∙ none_of rs
 
 moved : (b mr mj x s t : Bool) → (b ≡ true → mr ≡ mj) → ((mr && (b || x)) || ((mj && s) || t)) ≡ ((mj && (b || s)) || ((mr && x) || t))
 moved true mr mj x s t h = rw (h refl) (tests mj x s t)

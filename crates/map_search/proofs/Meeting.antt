@@ -1,5 +1,6 @@
 -- Keys that meet a query, from those that meet its parts.
 use Rattle.std.proofs.Common.{◌≡◌, Bool, false, not, ◌&&◌, ◌||◌, List, Option, Some, None, filter, refl, sym, ap, ◌∙◌}
+use Rattle.std.proofs.lemmas.List.Elements.{filter_agree}
 use Rattle.std.specs.List.{list_any}
 use Rattle.std.specs.Option.{option_map_or}
 use Rattle.osm_base.specs.RisingKeys.{is_in}
@@ -11,7 +12,7 @@ use Rattle.dataset.specs.Exact.{refs_at}
 use Rattle.dataset.proofs.Listed.{user_uses}
 use Rattle.map_search.specs.Meets.{meets, refers_to}
 use Rattle.map_search.specs.Query.{QueryValue, Child, Parent, Not, And, Or}
-use Rattle.map_search.proofs.Found.{filter_alike, not_found, either_found, both_found, any_found}
+use Rattle.map_search.proofs.Found.{not_found, either_found, both_found, any_found}
 
 -- those of the keys that meet a query
 abbrev pub Met : TableValue → List Key → QueryValue → List Key
@@ -46,7 +47,7 @@ any_met t all met rs q test e f h =
 pub child_meets : (t : TableValue) (keys all met : List Key) (q whole : QueryValue) → all ≡ keys_by_rank t → whole ≡ Child q → met ≡ Met t all q
     → filter (λ k. list_any (λ user. is_in user met) (users t k)) keys ≡ Met t keys whole
 child_meets t keys all met q whole e shape f =
-    filter_alike _ (λ k. meets t k (Child q)) keys (λ k. any_met t all met (users t k) q (λ j. refers_to t j k) e f (λ j. user_uses t k j))
+    filter_agree _ (λ k. meets t k (Child q)) (λ k. any_met t all met (users t k) q (λ j. refers_to t j k) e f (λ j. user_uses t k j)) keys
     ∙ ap (Met t keys) (sym shape)
 
 -- a key is among the references of an entry where the entry uses it
@@ -59,5 +60,5 @@ refs_uses (Some (Known base (Some c) conflict)) j = refl
 pub parent_meets : (t : TableValue) (keys all met : List Key) (q whole : QueryValue) → all ≡ keys_by_rank t → whole ≡ Parent q → met ≡ Met t all q
     → filter (λ k. list_any (λ of. is_in of met) (refs_at (entry_of t k))) keys ≡ Met t keys whole
 parent_meets t keys all met q whole e shape f =
-    filter_alike _ (λ k. meets t k (Parent q)) keys (λ k. any_met t all met (refs_at (entry_of t k)) q (refers_to t k) e f (refs_uses (entry_of t k)))
+    filter_agree _ (λ k. meets t k (Parent q)) (λ k. any_met t all met (refs_at (entry_of t k)) q (refers_to t k) e f (refs_uses (entry_of t k))) keys
     ∙ ap (Met t keys) (sym shape)

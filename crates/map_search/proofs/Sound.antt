@@ -2,6 +2,7 @@
 use Rattle.std.proofs.Common.{◌≡◌, ℕ, suc, ◌-◌, ◌≤◌, ◌<◌, Bool, true, false, nat_lt, nat_le, if◌then◌else◌, List, [], ◌∷◌, ◌++◌, length, Option, Some, None, refl, sym, ap, subst, ◌∙◌, arith}
 use Rattle.std.proofs.lemmas.Bool.Decides.{nat_tests}
 use Rattle.std.proofs.lemmas.List.{append-nil, append_assoc}
+use Rattle.std.proofs.lemmas.Option.{same_Some}
 use Rattle.std.specs.Option.{option_and_then}
 use Rattle.map_search.specs.declared.pending.Opening.{Opening}
 use Rattle.map_search.specs.declared.pending.Opening.TheVariants as opening
@@ -77,9 +78,6 @@ abbrev from : {A : Type 0} → A → Option A → A
 from d None = d
 from d (Some x) = x
 
-some_one : {A : Type 0} (x y : A) → Some x ≡ Some y → x ≡ y
-some_one x y p = ap (from x) p
-
 take_sound : (st : List Pending) (us : Texts) → Waits st us → (q : QueryValue) (ws vs : Texts) → vs ≡ us ++ ws → Spells Factor (room st) ws q → BehindAt (taken q st) vs
 take_sound st us nothing q ws vs e s = record { us = []; ws = ws; split = e; waits = nothing; no_factor = refl; spelled = one_factor 64 ws q s }
 take_sound _ _ (opens st us w opening.Not W f l) q ws vs e s =
@@ -120,7 +118,7 @@ close_sound _ _ (opens st us w opening.Bracket W f l) q ws vs v s e r g h =
     let at : vs ++ v ∷ [] ≡ us ++ w ∷ (ws ++ v ∷ []) = ap (λ (xs : Texts). xs ++ v ∷ []) (e ∙ one_more us ws w) ∙ append_assoc us (w ∷ ws) (v ∷ []) in
     let factor : Spells Factor (room st) (w ∷ (ws ++ v ∷ [])) q = subst (λ n. Spells Factor n (w ∷ (ws ++ v ∷ [])) q) (more_room (nesting st) l) (in_brackets (64 - suc (nesting st)) ws w v q f r g) in
     let P : State → Type 0 = λ x. BehindAt x (vs ++ v ∷ []) in
-    subst P (some_one (taken q st) s h) (take_sound st us W q (w ∷ (ws ++ v ∷ [])) (vs ++ v ∷ []) at factor)
+    subst P (same_Some (taken q st) s h) (take_sound st us W q (w ∷ (ws ++ v ∷ [])) (vs ++ v ∷ []) at factor)
 close_sound _ _ (left_and st us xs w a W t r f) q ws vs v s e k g h = cc
 close_sound _ _ (left_or st us xs w a W t u r f) q ws vs v s e k g h = cc
 
@@ -132,7 +130,7 @@ or_case : (o : Option QueryValue) (st : List Pending) (vs : Texts) (v : List ℕ
 or_case None st vs v s j e h = absurd j
 or_case (Some q) st vs v s j e h =
     let P : State → Type 0 = λ x. BehindAt x (vs ++ v ∷ []) in
-    subst P (some_one (wanting (pending.Or q ∷ st)) s h) (subst (Waits (pending.Or q ∷ st)) (one_behind j.us j.ws vs v j.split) (left_or st j.us j.ws v q j.waits j.no_factor j.no_term j.spelled e))
+    subst P (same_Some (wanting (pending.Or q ∷ st)) s h) (subst (Waits (pending.Or q ∷ st)) (one_behind j.us j.ws vs v j.split) (left_or st j.us j.ws v q j.waits j.no_factor j.no_term j.spelled e))
 
 close_case : (o : Option QueryValue) (st : List Pending) (vs : Texts) (v : List ℕ) (s : State) → Joined o st vs → word_of v ≡ Some word.Closes → option_and_then (λ q. closed q st) o ≡ Some s → BehindAt s (vs ++ v ∷ [])
 close_case None st vs v s j e h = absurd j
@@ -142,20 +140,20 @@ open_case : (b : Bool) (st : List Pending) (vs : Texts) (v : List ℕ) (o : Open
 open_case true st vs v o s few W e h =
     let l : nesting st < 64 = grind (arith, nat_tests, few) in
     let P : State → Type 0 = λ x. BehindAt x (vs ++ v ∷ []) in
-    subst P (some_one (wanting (pending.Opened o ∷ st)) s h) (opens st vs v o W e l)
+    subst P (same_Some (wanting (pending.Opened o ∷ st)) s h) (opens st vs v o W e l)
 open_case false st vs v o s few W e h = cc
 
 step_sound : (q : Option QueryValue) (w : Word) (st : List Pending) (vs : Texts) (v : List ℕ) (s : State) → Behind q st vs → word_of v ≡ Some w → with_word q w st ≡ Some s → BehindAt s (vs ++ v ∷ [])
 step_sound None (word.Opens o) st vs v s W e h = open_case (nat_lt (nesting st) 64) st vs v o s refl W e h
 step_sound None (word.Asks a) st vs v s W e h =
     let P : State → Type 0 = λ x. BehindAt x (vs ++ v ∷ []) in
-    subst P (some_one (taken a st) s h) (take_sound st vs W a (v ∷ []) (vs ++ v ∷ []) refl (one_word (room st) v a e))
+    subst P (same_Some (taken a st) s h) (take_sound st vs W a (v ∷ []) (vs ++ v ∷ []) refl (one_word (room st) v a e))
 step_sound None word.And st vs v s W e h = cc
 step_sound None word.Or st vs v s W e h = cc
 step_sound None word.Closes st vs v s W e h = cc
 step_sound (Some q) word.And st vs v s b e h =
     let P : State → Type 0 = λ x. BehindAt x (vs ++ v ∷ []) in
-    subst P (some_one (wanting (pending.And q ∷ st)) s h) (subst (Waits (pending.And q ∷ st)) (one_behind b.us b.ws vs v b.split) (left_and st b.us b.ws v q b.waits b.no_factor b.spelled e))
+    subst P (same_Some (wanting (pending.And q ∷ st)) s h) (subst (Waits (pending.And q ∷ st)) (one_behind b.us b.ws vs v b.split) (left_and st b.us b.ws v q b.waits b.no_factor b.spelled e))
 step_sound (Some q) word.Or st vs v s b e h = or_case (joined q st).query (joined q st).waiting vs v s (joined_behind q st vs b) e h
 step_sound (Some q) word.Closes st vs v s b e h = close_case (joined q st).query (joined q st).waiting vs v s (joined_behind q st vs b) e h
 step_sound (Some q) (word.Opens o) st vs v s b e h = cc
@@ -171,7 +169,7 @@ end_case : (o : Option QueryValue) (st : List Pending) (vs : Texts) (r : QueryVa
 end_case None st vs r j h = absurd j
 end_case (Some q) [] vs r j h =
     let all : j.ws ≡ vs ++ [] = sym (append-nil vs ∙ j.split ∙ ap (λ (us : Texts). us ++ j.ws) (no_words [] j.us j.waits refl)) in
-    subst (Spells Whole 64 (vs ++ [])) (some_one q r h) (subst (λ (ws : Texts). Spells Whole 64 ws q) all j.spelled)
+    subst (Spells Whole 64 (vs ++ [])) (same_Some q r h) (subst (λ (ws : Texts). Spells Whole 64 ws q) all j.spelled)
 end_case (Some q) (p ∷ st) vs r j h = cc
 
 -- how words that are left come to a query

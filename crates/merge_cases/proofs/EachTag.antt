@@ -5,12 +5,12 @@ use Rattle.std.specs.Prelude.{T}
 use Rattle.std.specs.FinMap.{is_sorted}
 use Rattle.std.proofs.lemmas.Bool.{true≢false, or_cases}
 use mathlib.Core.Logic.{◌⊎◌, inl, inr}
-use Rattle.std.proofs.lemmas.Option.{none-some}
+use Rattle.std.proofs.lemmas.Option.{none-some, same_Some}
 use Rattle.osm_base.specs.Tags.{Pair, bytes_cmp, value_of}
 use Rattle.merge_cases.specs.declared.pick.Pick.{Pick}
 use Rattle.merge_cases.specs.declared.pick.Pick.TheVariants.{Mine, Theirs, Clash}
 use Rattle.merge_cases.specs.Join.{tag_pick, tag_value, tags_clash, picked, picked_tags, joined_tags, pick, is_clash, same_value}
-use Rattle.merge_cases.proofs.TagValues.{of_no_value, some_is}
+use Rattle.merge_cases.proofs.TagValues.{of_no_value}
 use Rattle.merge_cases.proofs.JoinLaws.{stood, value_joined, none_mine, none_theirs}
 
 -- a value that stands is one side's
@@ -65,4 +65,4 @@ module _ (b m t : List Pair) where
         by false e g =
             one_side (tag_pick b m t k) (value_of m k) (value_of t k) (no_clash e k)
             ∙ ap Some (sym (value_joined b m t sm st k))
-            ∙ ap (λ (ts : List Pair). Some (value_of ts k)) (some_is (picked_tags b m t) tags g)
+            ∙ ap (λ (ts : List Pair). Some (value_of ts k)) (same_Some (picked_tags b m t) tags g)

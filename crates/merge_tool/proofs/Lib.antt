@@ -18,3 +18,4 @@ pub mod WantedEnds
 pub mod HeldEnds
 pub mod Finals
 pub mod Plans
+pub mod Arrived

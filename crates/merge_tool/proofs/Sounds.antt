@@ -28,25 +28,17 @@ use Rattle.merge_cases.specs.Join.{joined}
 use Rattle.merge_cases.proofs.JoinedOf.{TakesOver, joined_takes}
 use Rattle.tool_api.specs.Staged.{verdict_at, theirs_at, staged, stage_of, with_theirs, against, all_joined, lost_of, refers_by}
 use Rattle.tool_api.specs.Merged.{both_keys, reached_keys, lost_content, wanted, held, named, final, merged}
+use Rattle.osm_base.proofs.Lists.{all_at}
 use Rattle.merge_tool.proofs.Rows.{theirs_by}
 use Rattle.merge_tool.proofs.Stand.{settled, wanted_lost, namer}
 use Rattle.merge_tool.proofs.Fitting.{there}
 use Rattle.merge_tool.proofs.Outcome.{merged_at, merged_closed}
 use Rattle.merge_tool.proofs.Places.{SoundAt, IfTold, staged_sound, candidate_sound, back_sound, bared_sound}
 
--- what holds of all references holds of one
-each_ref : (P : Key → Type 0) (rs : List Key) (q : Key) → AllByRecursion P rs → list_any (is_key q) rs ≡ true → P q
-each_ref P [] q all h = absurd (true≢false (sym h))
-each_ref P (r ∷ rs) q all h = by (or_cases (is_key q r) (list_any (is_key q) rs) h) (each_ref P rs q all.1)
-  where
-    by : (is_key q r ≡ true) ⊎ (list_any (is_key q) rs ≡ true) → (list_any (is_key q) rs ≡ true → P q) → P q
-    by (inl e) more = subst P (sym (one_key q r e)) all.0
-    by (inr e) more = more e
-
 -- what servers told refers to positive ids
 server_positive : (o : Option Content) (q : Key) → FromTheServer o → refers_by o q ≡ true → IsPositive q.id
 server_positive None q s h = absurd (true≢false (sym h))
-server_positive (Some c) q s h = each_ref (λ r. IsPositive r.id) (refs_of c) q s h
+server_positive (Some c) q s h = all_at (λ r. IsPositive r.id) (refs_of c) q s h
 
 told_positive : (k : Key) (s : Option Told) (q : Key) → IfTold k s → refers_by (held_by (theirs_by s)) q ≡ true → IsPositive q.id
 told_positive k None q t h = absurd (true≢false (sym h))

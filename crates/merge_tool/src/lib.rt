@@ -7,8 +7,11 @@
 //! the names, the candidates and the clashes; `naming` lets names enter that aren't there, and lists the lost ones; `wanting`
 //! walks from these, `holding` from the names of both to the candidates, and `writing` puts what comes back, stays or goes.
 //! Where nothing that is told was known, the lists of the walks are empty, and only `staging` and `naming` cost.
+//! Where there is no object yet, and all to which the told objects refer is told of as there, the table is to have just
+//! what is told. `arrival` plans that as a patch, without a draft and without a look at any reference.
 #![tactic(auto)]
 
+mod arrival;
 mod clash;
 mod entries;
 mod holding;

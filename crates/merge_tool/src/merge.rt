@@ -5,6 +5,7 @@ ghost use Rattle.tool_api.specs.Merged.{merge};
 ghost use Rattle.tool_api.specs.Planned.{Plans};
 ghost use Rattle.merge_tool.specs.Drafts.{IsMerged, IsStaged, firm_names, going_keys};
 
+use crate::arrival::arrival_plan;
 use crate::clash::clash_test;
 use crate::holding::hold;
 use crate::staging::Staging;
@@ -42,7 +43,8 @@ fn merged(
     Ok(draft)
 }
 
-fn merge_plan(ds: &DataSet, told: &ToldMap, limit: u64) -> Result<Plan, AllocError>
+/// The plan of any download, by the case of each object.
+fn cases_plan(ds: &DataSet, told: &ToldMap, limit: u64) -> Result<Plan, AllocError>
     requires sound { IsSound ds.now }
     ensures { IfOk result (Plans ds.now (merge ds.now limit told.now)) }
 {
@@ -64,6 +66,17 @@ fn merge_plan(ds: &DataSet, told: &ToldMap, limit: u64) -> Result<Plan, AllocErr
         draft,
         made: Keys::new(ds.alloc()),
     })
+}
+
+fn merge_plan(ds: &DataSet, told: &ToldMap, limit: u64) -> Result<Plan, AllocError>
+    requires sound { IsSound ds.now }
+    ensures { IfOk result (Plans ds.now (merge ds.now limit told.now)) }
+{
+    if ds.len() == 0 && told.is_closed() {
+        arrival_plan(ds, told, limit)
+    } else {
+        cases_plan(ds, told, limit)
+    }
 }
 
 /// Takes in what downloads tell.

@@ -1,11 +1,11 @@
 -- Keys that rise by rank, with one more behind them.
-use Rattle.std.proofs.Common.{◌≡◌, ℕ, ◌+◌, ◌<◌, ◌&&◌, ◌||◌, Bool, true, false, List, [], ◌∷◌, ◌++◌, if◌then◌else◌, take, drop, take-append-drop, length, get_or, refl, sym, ap, subst, ◌∙◌, Ordering}
-use Rattle.std.specs.declared.cmp.Ordering.TheVariants.{Less, Equal, Greater}
+use Rattle.std.proofs.Common.{◌≡◌, ℕ, ◌+◌, ◌<◌, ◌||◌, false, List, [], ◌∷◌, ◌++◌, if◌then◌else◌, take, drop, take-append-drop, length, get_or, refl, sym, ap, subst, ◌∙◌}
 use Rattle.std.specs.Cmp.{both_ways}
 use Rattle.std.specs.FinMap.Entries.{below_all}
 use Rattle.std.specs.List.{list_any}
 use Rattle.std.specs.Ordering.{is_lt, is_eq}
 use Rattle.std.specs.Prelude.{T}
+use Rattle.std.specs.Bool.{passes}
 use Rattle.std.proofs.lemmas.List.{map-append, map_more, map_push}
 use Rattle.indexmap.specs.IndexSet.{insert_key}
 use Rattle.osm_base.proofs.RisingKeys.{key_turned}
@@ -14,77 +14,54 @@ use Rattle.osm_base.specs.Rank.{rank_cmp}
 use Rattle.osm_base.specs.RankLaws.{rank_total, rank_ties}
 use Rattle.osm_base.specs.RisingKeys.{marked, rises}
 use Rattle.osm_base.specs.declared.key.Key.{Key}
+use Rattle.osm_base.proofs.Tests.{both_T, first_T, second_T, true_from_T, less_from_T}
 use Rattle.opl_line.specs.declared.object.OplObject.{OplObject}
 use Rattle.opl_file.specs.Objects.{keys_of}
-
-both : (a b : Bool) → T a → T b → T (a && b)
-both true b p q = q
-both false b p q = p
-
-first : (a b : Bool) → T (a && b) → T a
-first true b p = tt
-first false b p = p
-
-second : (a b : Bool) → T (a && b) → T b
-second true b p = p
-second false b p = absurd p
-
-pub holds : (b : Bool) → b ≡ true → T b
-holds b e = subst T (sym e) tt
-
-is_true : (b : Bool) → T b → b ≡ true
-is_true true p = refl
-is_true false p = absurd p
-
-less : (o : Ordering) → T (is_lt o) → o ≡ Less
-less Less p = refl
-less Equal p = absurd p
-less Greater p = absurd p
 
 abbrev IsBelow : Key → List Key → Type 0
 IsBelow k ks = T (below_all rank_cmp k (marked ks))
 
 below_front : (k : Key) (ks js : List Key) → IsBelow k (ks ++ js) → IsBelow k ks
 below_front k [] js h = tt
-below_front k (x ∷ ks) js h = both _ _ (first _ _ h) (below_front k ks js (second _ _ h))
+below_front k (x ∷ ks) js h = both_T _ _ (first_T _ _ h) (below_front k ks js (second_T _ _ h))
 
 -- the first of rising keys rise
 rises_front : (ks js : List Key) → T (rises (ks ++ js)) → T (rises ks)
 rises_front [] js h = tt
-rises_front (k ∷ ks) js h = both _ _ (below_front k ks js (first _ _ h)) (rises_front ks js (second _ _ h))
+rises_front (k ∷ ks) js h = both_T _ _ (below_front k ks js (first_T _ _ h)) (rises_front ks js (second_T _ _ h))
 
 below_last : (j k : Key) (ks : List Key) → IsBelow j (ks ++ k ∷ []) → T (is_lt (rank_cmp j k))
-below_last j k [] h = first _ _ h
-below_last j k (x ∷ ks) h = below_last j k ks (second _ _ h)
+below_last j k [] h = first_T _ _ h
+below_last j k (x ∷ ks) h = below_last j k ks (second_T _ _ h)
 
 apart : (j k : Key) → T (is_lt (rank_cmp j k)) → eq k j ≡ false
-apart j k h = rank_ties k j ∙ key_turned k j ∙ ap is_eq (less _ h)
+apart j k h = rank_ties k j ∙ key_turned k j ∙ ap is_eq (less_from_T _ h)
 
 -- the last of rising keys is none of those before it
 pub last_new : (ks : List Key) (k : Key) → T (rises (ks ++ k ∷ [])) → list_any (eq k) ks ≡ false
 last_new [] k h = refl
 last_new (j ∷ ks) k h =
-    let other : eq k j ≡ false = apart j k (below_last j k ks (first _ _ h)) in
-    ap (λ b. b || list_any (eq k) ks) other ∙ last_new ks k (second _ _ h)
+    let other : eq k j ≡ false = apart j k (below_last j k ks (first_T _ _ h)) in
+    ap (λ b. b || list_any (eq k) ks) other ∙ last_new ks k (second_T _ _ h)
 
 below_on : (i j k : Key) (ks : List Key) → IsBelow i (ks ++ j ∷ []) → T (is_lt (rank_cmp j k)) → IsBelow i ((ks ++ j ∷ []) ++ k ∷ [])
-below_on i j k [] h l = both _ _ (first _ _ h) (both _ _ (holds _ (ap is_lt (rank_total.trans i j k (less _ (first _ _ h)) (less _ l)))) tt)
-below_on i j k (x ∷ ks) h l = both _ _ (first _ _ h) (below_on i j k ks (second _ _ h) l)
+below_on i j k [] h l = both_T _ _ (first_T _ _ h) (both_T _ _ (passes _ (ap is_lt (rank_total.trans i j k (less_from_T _ (first_T _ _ h)) (less_from_T _ l)))) tt)
+below_on i j k (x ∷ ks) h l = both_T _ _ (first_T _ _ h) (below_on i j k ks (second_T _ _ h) l)
 
 rises_on : (ks : List Key) (j k : Key) → T (rises (ks ++ j ∷ [])) → T (is_lt (rank_cmp j k)) → T (rises ((ks ++ j ∷ []) ++ k ∷ []))
-rises_on [] j k h l = both _ _ (both _ _ l tt) tt
-rises_on (i ∷ ks) j k h l = both _ _ (below_on i j k ks (first _ _ h) l) (rises_on ks j k (second _ _ h) l)
+rises_on [] j k h l = both_T _ _ (both_T _ _ l tt) tt
+rises_on (i ∷ ks) j k h l = both_T _ _ (below_on i j k ks (first_T _ _ h) l) (rises_on ks j k (second_T _ _ h) l)
 
 last_two : (ks : List Key) (j k : Key) → T (rises ((ks ++ j ∷ []) ++ k ∷ [])) → T (is_lt (rank_cmp j k))
-last_two [] j k h = first _ _ (first _ _ h)
-last_two (i ∷ ks) j k h = last_two ks j k (second _ _ h)
+last_two [] j k h = first_T _ _ (first_T _ _ h)
+last_two (i ∷ ks) j k h = last_two ks j k (second_T _ _ h)
 
 -- keys rise on where the next comes after the last
 rises_last : (ks : List Key) (j k : Key) → T (rises (ks ++ j ∷ [])) → is_lt (rank_cmp j k) ≡ rises ((ks ++ j ∷ []) ++ k ∷ [])
 rises_last ks j k h =
     both_ways _ _
-    (λ e. is_true _ (rises_on ks j k h (holds _ e)))
-    (λ e. is_true _ (last_two ks j k (holds _ e)))
+    (λ e. true_from_T _ (rises_on ks j k h (passes _ e)))
+    (λ e. true_from_T _ (last_two ks j k (passes _ e)))
 
 -- one key less
 pub rises_less : (ks : List Key) (k : Key) → T (rises (ks ++ k ∷ [])) → T (rises ks)

@@ -11,7 +11,7 @@ use Rattle.osm_base.specs.Number.{IsId, number_text, key_written}
 use Rattle.osm_base.specs.Coord.{coord_text, size_text, whole_text, coord_written}
 use Rattle.osm_base.specs.Content.{refs_of, node}
 use Rattle.osm_base.specs.OnMap.{is_longitude, is_latitude}
-use Rattle.osm_base.proofs.KeyLaw.{number_again, id_again}
+use Rattle.osm_base.proofs.KeyLaw.{number_again, id_again, letter_again}
 use Rattle.osm_base.proofs.CoordLaw.{coord_again}
 use Rattle.osm_base.proofs.PlaceLaws.{place_is}
 use Rattle.osm_base.specs.declared.key.Kind.{Kind}
@@ -39,7 +39,7 @@ use Rattle.opl_line.specs.Written.{spaced, tag_written, ref_written, member_writ
 use Rattle.opl_line.specs.Writable.{HasVersion, AreTags, IsContent, IsSide, IsMeta, IsWritable, MayStand}
 use Rattle.opl_line.proofs.Forward.{Pieces}
 use Rattle.opl_line.proofs.Unbroken.{Unbroken, AllUnbroken, unbroken_append, unbroken_from, unbroken_fewer, all_unbroken_fewer, all_unbroken_append, unbroken_spaced, unbroken_listed, cut_spaced, freed_same, decimal_unbroken, signed_unbroken, key_unbroken, coord_unbroken}
-use Rattle.opl_line.proofs.ListsAgain.{text_unbroken, tags_again, refs_again, members_again, kind_again}
+use Rattle.opl_line.proofs.ListsAgain.{text_unbroken, tags_again, refs_again, members_again}
 use Rattle.opl_text.proofs.WrittenLaw.{text_again}
 use Rattle.opl_text.proofs.TimeLaw.{time_again, time_plain}
 
@@ -94,7 +94,7 @@ record FrontAgain (mode : Mode) (key : Key) (version : ℕ) (meta : Meta) : Type
 
 key_at_again : (mode : Mode) (key : Key) → IsId key.id → is_allowed mode key.id ≡ true → key_at mode (key_written key) ≡ Ok key
 unfolding key_at id_at
-key_at_again mode key id may = rw (kind_again key.kind, id_again key.id id, may) refl
+key_at_again mode key id may = rw (letter_again key.kind, id_again key.id id, may) refl
 
 front_again : (mode : Mode) (key : Key) (version : ℕ) (meta : Meta) → IsId key.id → is_allowed mode key.id ≡ true → HasVersion key.id version → IsMeta meta → FrontAgain mode key version meta
 front_again mode key version meta id may fits known =

@@ -1,19 +1,16 @@
 -- Coordinates at the front of bytes.
-use Rattle.std.proofs.Common.{◌≡◌, ℕ, ◌<◌, ◌≤◌, ◌+◌, ◌-◌, ◌*◌, ◌^◌, true, false, cond, List, [], ◌∷◌, ◌++◌, length, get_or, take, drop, Option, Some, None, refl, ap, ◌∙◌, arith, ltb, eqb, length-append}
+use Rattle.std.proofs.Common.{◌≡◌, ℕ, ◌≤◌, ◌+◌, ◌-◌, ◌*◌, ◌^◌, true, false, cond, List, [], ◌∷◌, ◌++◌, length, get_or, take, drop, Option, Some, None, refl, ap, ◌∙◌, arith}
 use Rattle.std.specs.Prelude.{◌&&◌, Bool, ℤ, nat_le, nat_lt, unsigned_abs}
-use Rattle.std.specs.List.{list_all, position, position_or_len}
+use Rattle.std.specs.List.{list_all}
 use Rattle.std.specs.Option.{option_map}
 use Rattle.std.specs.Char.{is_ascii_digit}
 use Rattle.std.specs.Str.Parse.{digits_value}
-use Rattle.std.proofs.Math.ListN.{get_or-append}
-use Rattle.std.proofs.Math.Seq.{get_or-append_seam, take-append_seam, drop-append-add, take-length}
-use Rattle.std.proofs.lemmas.Bool.{and_parts, lt-ltb, le-ltb}
+use Rattle.std.proofs.Math.Seq.{take-length}
+use Rattle.std.proofs.lemmas.Bool.{and_parts}
 use Rattle.std.proofs.lemmas.Bool.Decides.{nat_tests}
-use Rattle.std.proofs.lemmas.List.Sums.{position_or_len_is}
-use Rattle.std.proofs.lemmas.Str.Parse.{digit_at}
 use Rattle.osm_base.specs.Number.{number_text}
 use Rattle.osm_base.specs.Coord.{part_text, whole_text, pointed_text, size_text, coord_text}
-use Rattle.osm_base.proofs.Digits.{own}
+use Rattle.osm_base.proofs.CoordLaw.{no_point, pointed_size as digits_pointed}
 use Rattle.opl_line.specs.Cut.{before, after}
 use Rattle.opl_line.specs.Field.{place_text}
 use Rattle.opl_line.specs.Line.{is_blank}
@@ -22,33 +19,9 @@ use Rattle.opl_line.proofs.Fronts.{SparesNumbers, front_are_digits, front_number
 
 -- ---- a point behind digits
 
-not_point : (xs : List ℕ) (k : ℕ) → list_all is_ascii_digit xs ≡ true → k < length xs → eqb (get_or xs k 0) 46 ≡ false
-not_point xs k h l = let d = digit_at xs k (own.to xs h) l in grind (arith, nat_tests, d)
-
-point_at : (xs ys : List ℕ) → list_all is_ascii_digit xs ≡ true → position_or_len (λ b. eqb b 46) (xs ++ 46 ∷ ys) ≡ length xs
-point_at xs ys h =
-    position_or_len_is (λ b. eqb b 46) (xs ++ 46 ∷ ys) (length xs) 0 (omega (arith, length-append xs (46 ∷ ys)))
-    (λ k l. rw (get_or-append xs (46 ∷ ys) 0 k l) (not_point xs k h l))
-    (λ l. rw (get_or-append_seam xs 46 ys 0) refl)
-
-point_after : (xs ys : List ℕ) → list_all is_ascii_digit xs ≡ true → position (λ b. eqb b 46) (xs ++ 46 ∷ ys) ≡ Some (length xs)
-point_after xs ys h =
-    let t : ltb (length xs) (length (xs ++ 46 ∷ ys)) ≡ true = lt-ltb _ _ (omega (arith, length-append xs (46 ∷ ys))) in
-    rw (point_at xs ys h, t) refl
-
-no_point : (xs : List ℕ) → list_all is_ascii_digit xs ≡ true → position (λ b. eqb b 46) xs ≡ None
-no_point xs h =
-    let e : position_or_len (λ b. eqb b 46) xs ≡ length xs = position_or_len_is (λ b. eqb b 46) xs (length xs) 0 (omega arith) (λ k l. not_point xs k h l) (λ l. absurd (omega arith)) in
-    let t : ltb (length xs) (length xs) ≡ false = le-ltb _ _ (omega arith) in
-    rw (e, t) refl
-
 digits_whole : (xs : List ℕ) → list_all is_ascii_digit xs ≡ true → size_text xs ≡ whole_text xs
 unfolding size_text
 digits_whole xs h = rw (no_point xs h) refl
-
-digits_pointed : (xs ys : List ℕ) → list_all is_ascii_digit xs ≡ true → size_text (xs ++ 46 ∷ ys) ≡ pointed_text xs ys
-unfolding size_text
-digits_pointed xs ys h = rw (point_after xs ys h, take-append_seam xs (46 ∷ ys), drop-append-add xs (46 ∷ ys) 1) refl
 
 -- ---- at the front
 

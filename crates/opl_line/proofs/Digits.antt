@@ -7,18 +7,14 @@ use Rattle.std.specs.Char.{is_ascii_digit}
 use Rattle.std.proofs.lemmas.Bool.{and_parts}
 use Rattle.std.proofs.lemmas.Bool.Decides.{nat_tests}
 use Rattle.osm_base.specs.Number.{number_text, number_test, id_size, id_test, id_text, minus}
+use Rattle.osm_base.proofs.Tests.{only_passed}
 use Rattle.opl_line.proofs.Fronts.{SparesNumbers}
 use Rattle.opl_line.proofs.Unbroken.{Unbroken, unbroken_from}
-
--- a test that was passed
-pub pass_some : {A : Type 0} (t : Bool) (o : Option A) (x : A) → cond t o None ≡ Some x → (t ≡ true) × (o ≡ Some x)
-pass_some true o x e = (refl, e)
-pass_some false o x e = absurd cc
 
 pub number_unbroken : (ends : ℕ → Bool) (most : ℕ) (text : List ℕ) (n : ℕ) → SparesNumbers ends → number_text most text ≡ Some n → Unbroken ends text
 unfolding number_text
 number_unbroken ends most text n spares e =
-    let p = and_parts (nat_le 1 (length text) && nat_le (length text) most) (list_all is_ascii_digit text) (pass_some (number_test most text) _ n e).0 in
+    let p = and_parts (nat_le 1 (length text) && nat_le (length text) most) (list_all is_ascii_digit text) (only_passed (number_test most text) _ n e).0 in
     unbroken_from is_ascii_digit ends text spares p.1
 
 size_case : (ends : ℕ → Bool) (text : List ℕ) (o : Option ℕ) (n : ℕ) → SparesNumbers ends → number_text 19 text ≡ o → and_then (λ n. cond (id_test n) (Some n) None) o ≡ Some n → Unbroken ends text

@@ -61,7 +61,7 @@ apart_from d a digit apart = let p = and_parts (not (is_ascii_digit a)) (not (a 
 pub spares_numbers : (a b : ℕ) → is_apart a ≡ true → is_apart b ≡ true → SparesNumbers (is_one_of a b)
 spares_numbers a b p q d digit = rw (apart_from d a digit p, apart_from d b digit q) refl
 
-ended_at : (ends : ℕ → Bool) (b : ℕ) (bytes : List ℕ) (rest : Option (List ℕ)) (s : Bool) → cond s (Some (Some bytes)) None ≡ Some rest → (cond s [] (b ∷ before ends bytes) ≡ []) × (cond s (Some bytes) (after ends bytes) ≡ rest)
+pub ended_at : (ends : ℕ → Bool) (b : ℕ) (bytes : List ℕ) (rest : Option (List ℕ)) (s : Bool) → cond s (Some (Some bytes)) None ≡ Some rest → (cond s [] (b ∷ before ends bytes) ≡ []) × (cond s (Some bytes) (after ends bytes) ≡ rest)
 ended_at ends b bytes rest true e = (refl, cc)
 ended_at ends b bytes rest false e = absurd cc
 

@@ -1,5 +1,5 @@
 -- What is written of tags, references and members is read again.
-use Rattle.std.proofs.Common.{◌≡◌, ℕ, ℤ, suc, ◌<◌, Bool, true, false, T, List, [], ◌∷◌, ◌++◌, length, Some, Result, Ok, refl, sym, ap, subst, ◌∙◌, arith, append_assoc}
+use Rattle.std.proofs.Common.{◌≡◌, ℕ, ℤ, suc, ◌<◌, Bool, true, false, T, List, [], ◌∷◌, ◌++◌, length, Result, Ok, refl, sym, ap, subst, ◌∙◌, arith, append_assoc}
 use Rattle.std.specs.Prelude.{map, ◌==◌, nat_lt}
 use Rattle.std.specs.List.{All, list_all}
 use Rattle.std.specs.Fmt.{signed_decimal}
@@ -7,12 +7,11 @@ use Rattle.std.specs.FinMap.{is_sorted}
 use Rattle.std.proofs.lemmas.Bool.Decides.{nat_tests}
 use Rattle.std.proofs.lemmas.Grind.{common_steps}
 use Rattle.osm_base.specs.Tags.{Pair, bytes_cmp, are_tags, has_tag, with_tag}
-use Rattle.osm_base.specs.Number.{IsId, kind_letter, letter_of, key_written}
-use Rattle.osm_base.proofs.KeyLaw.{id_again}
-use Rattle.osm_base.proofs.TagLaws.{fore, aft, put_last, has_last}
-use Rattle.osm_base.specs.declared.key.Kind.{Kind}
-use Rattle.osm_base.specs.declared.key.Kind.TheVariants.{Node, Way, Relation}
+use Rattle.osm_base.specs.Number.{IsId, key_written}
+use Rattle.osm_base.proofs.KeyLaw.{id_again, letter_again}
+use Rattle.osm_base.proofs.TagLaws.{put_last, has_last}
 use Rattle.osm_base.specs.declared.members.Member.{Member}
+use Rattle.osm_base.proofs.Tests.{first_T, second_T}
 use Rattle.opl_text.specs.Ends.{ends_nothing}
 use Rattle.opl_text.specs.Text.{escaped}
 use Rattle.opl_line.specs.declared.fault.LineFault.{LineFault}
@@ -69,8 +68,8 @@ all_tags_again seen [] good some texts = ap Ok (grind (arith, common_steps))
 all_tags_again seen ((key, value) ∷ tags) good some texts =
     let first = first_of (λ (tag : Pair). IsText tag.0 × IsText tag.1) (key, value) tags texts in
     let along = append_assoc seen ((key, value) ∷ []) tags in
-    rw (tag_again seen key value first.0 first.1 (named key (fore _ _ some)) (has_last seen tags (key, value) good), put_last seen tags (key, value) good)
-    (all_tags_again (seen ++ (key, value) ∷ []) tags (subst (λ (ts : List Pair). T (are_tags ts)) (sym along) good) (aft (nat_lt 0 (length key)) _ some) (others_of (λ (tag : Pair). IsText tag.0 × IsText tag.1) (key, value) tags texts)
+    rw (tag_again seen key value first.0 first.1 (named key (first_T _ _ some)) (has_last seen tags (key, value) good), put_last seen tags (key, value) good)
+    (all_tags_again (seen ++ (key, value) ∷ []) tags (subst (λ (ts : List Pair). T (are_tags ts)) (sym along) good) (second_T (nat_lt 0 (length key)) _ some) (others_of (λ (tag : Pair). IsText tag.0 × IsText tag.1) (key, value) tags texts)
     ∙ ap Ok along)
 
 tags_case : (text : List ℕ) (r : Result (List Pair) LineFault) → 0 < length text → folded tag_into [] (split (is 44) text) ≡ r → tags_text text ≡ r
@@ -87,7 +86,7 @@ tags_again [] h = refl
 tags_again (tag ∷ tags) h =
     tags_case (listed tag_written (tag ∷ tags)) (Ok (tag ∷ tags)) (grind (arith, common_steps))
     (ap (folded tag_into []) (cut_listed tag_written tag tags (unbroken_items (is 44) tag_written (tag ∷ tags) tag_unbroken))
-    ∙ all_tags_again [] (tag ∷ tags) h.0 (aft (is_sorted bytes_cmp (tag ∷ tags)) _ h.0) h.1)
+    ∙ all_tags_again [] (tag ∷ tags) h.0 (second_T (is_sorted bytes_cmp (tag ∷ tags)) _ h.0) h.1)
 
 -- ---- references
 
@@ -113,18 +112,12 @@ refs_again (id ∷ ids) h =
 
 -- ---- members
 
-pub kind_again : (kind : Kind) → kind_letter (letter_of kind) ≡ Some kind
-unfolding kind_letter
-kind_again Node = refl
-kind_again Way = refl
-kind_again Relation = refl
-
 member_again : (seen : List Member) (m : Member) → IsMember m → member_into seen (member_written m) ≡ Ok (seen ++ m ∷ [])
 unfolding member_into member_at
 member_again seen m h =
     let clear = signed_unbroken (is 64) m.key.id refl (λ b least most. grind (arith, nat_tests)) in
     rw (
-      kind_again m.key.kind,
+      letter_again m.key.kind,
       before_mark (is 64) (signed_decimal m.key.id) 64 (escaped m.role) refl clear,
       after_mark (is 64) (signed_decimal m.key.id) 64 (escaped m.role) refl clear,
       id_again m.key.id h.0,

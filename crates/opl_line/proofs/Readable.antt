@@ -9,6 +9,7 @@ use Rattle.std.proofs.lemmas.Bool.Decides.{nat_tests}
 use Rattle.std.proofs.lemmas.List.Elements.{All-append}
 use Rattle.std.proofs.lemmas.List.Folds.{list_all-map}
 use Rattle.std.proofs.lemmas.Str.{IsUtf8-nil}
+use Rattle.std.proofs.lemmas.Option.{cond_some}
 use Rattle.osm_base.specs.Tags.{Pair, bytes_cmp, has_tag, with_tag}
 use Rattle.osm_base.specs.Number.{IsId, id_test, id_size, id_text, minus, number_text, kind_letter}
 use Rattle.osm_base.specs.Content.{kind_of_content, refs_of, node}
@@ -60,15 +61,11 @@ ok_value : {A : Type 0} (r : Result A LineFault) (x : A) → ok_of r ≡ Some x 
 ok_value (Ok y) x e = cc
 ok_value (Err d) x e = absurd cc
 
-only_if : {A : Type 0} (b : Bool) (x y : A) → cond b (Some x) None ≡ Some y → (b ≡ true) × (x ≡ y)
-only_if true x y e = (refl, cc)
-only_if false x y e = absurd cc
-
 number_within : (high n : ℕ) (text : List ℕ) → number_to high text ≡ Some n → n ≤ high
 unfolding number_to
 number_within high n text e =
     let p = field_value (λ n. cond (nat_le n high) (Some n) None) (number_text 10 text) n e in
-    let q = only_if (nat_le p.0 high) p.0 n p.2 in
+    let q = cond_some (nat_le p.0 high) p.0 n p.2 in
     let within : p.0 ≤ high = grind (arith, nat_tests, q.0) in
     subst (λ k. k ≤ high) q.1 within
 
@@ -77,7 +74,7 @@ text_is field text e = ((text_spelled field text e).1, read_has_no_zero field te
 
 stamp_inner : (stamp : Option Stamp) (s : Stamp) → (stamp >>=? λ s. cond (is_time s) (Some s) None) ≡ Some s → is_time s ≡ true
 stamp_inner None s e = absurd cc
-stamp_inner (Some t) s e = let q = only_if (is_time t) t s e in ap is_time (sym q.1) ∙ q.0
+stamp_inner (Some t) s e = let q = cond_some (is_time t) t s e in ap is_time (sym q.1) ∙ q.0
 
 stamp_case : (marks : Bool) (stamp : Option Stamp) (s : Stamp) → cond marks (stamp >>=? λ s. cond (is_time s) (Some s) None) None ≡ Some s → is_time s ≡ true
 stamp_case true stamp s e = stamp_inner stamp s e
@@ -105,7 +102,7 @@ minus_is (suc n) e = e
 sized : (text : List ℕ) (n : ℕ) → id_size text ≡ Some n → id_test n ≡ true
 sized text n e =
     let p = field_value (λ n. cond (id_test n) (Some n) None) (number_text 19 text) n e in
-    let q = only_if (id_test p.0) p.0 n p.2 in
+    let q = cond_some (id_test p.0) p.0 n p.2 in
     ap id_test (sym q.1) ∙ q.0
 
 signed_case : (sign : Bool) (plain rest : Option ℕ) (z : ℤ) → ((n : ℕ) → plain ≡ Some n → id_test n ≡ true) → ((n : ℕ) → rest ≡ Some n → id_test n ≡ true) → cond sign (option_map minus rest) (option_map pos plain) ≡ Some z → IsId z
@@ -174,7 +171,7 @@ tags_are (b ∷ text) tags e = folded_keeps AreTags tag_into tag_keeps [] tags (
 
 ref_inner : (place : Bool) (o : Option ℤ) (id : ℤ) → ((z : ℤ) → o ≡ Some z → IsId z) → and_then (λ id. cond place (Some id) None) o ≡ Some id → IsId id
 ref_inner place None id h e = absurd cc
-ref_inner place (Some z) id h e = subst IsId (only_if place z id e).1 (h z refl)
+ref_inner place (Some z) id h e = subst IsId (cond_some place z id e).1 (h z refl)
 
 ref_case : (letter : Bool) (o : Option ℤ) (place : Bool) (id : ℤ) → ((z : ℤ) → o ≡ Some z → IsId z) → cond letter (and_then (λ id. cond place (Some id) None) o) None ≡ Some id → IsId id
 ref_case true o place id h e = ref_inner place o id h e

@@ -1,5 +1,5 @@
 -- Times at the front of bytes.
-use Rattle.std.proofs.Common.{◌≡◌, ℕ, suc, ◌<◌, ◌≤◌, true, false, cond, List, [], ◌∷◌, ◌++◌, length, get_or, take, drop, Option, Some, None, refl, subst, ap, arith}
+use Rattle.std.proofs.Common.{◌≡◌, ℕ, suc, ◌<◌, ◌≤◌, true, false, List, [], ◌∷◌, ◌++◌, length, get_or, take, drop, Option, Some, None, refl, subst, ap, arith}
 use Rattle.std.specs.Prelude.{◌&&◌, ◌==◌, Bool, slice_range, slice_index}
 use Rattle.std.specs.Option.{option_map}
 use Rattle.std.specs.Char.{is_ascii_digit}
@@ -10,22 +10,20 @@ use Rattle.std.proofs.lemmas.Grind.{common_steps}
 use Rattle.std.proofs.lemmas.Bool.Decides.{nat_tests}
 use Rattle.osm_base.specs.Number.{number_text}
 use Rattle.osm_base.specs.declared.meta.Stamp.{Stamp}
+use Rattle.osm_base.proofs.Tests.{only_passed}
 use Rattle.opl_text.specs.Time.{has_marks, parts_of, stamp_text, time_text, ◌>>=◌}
 use Rattle.opl_line.specs.Cut.{before, after}
 use Rattle.opl_line.specs.Front.{ended}
 use Rattle.opl_line.specs.Line.{is_blank}
-use Rattle.opl_line.proofs.Digits.{pass_some, number_unbroken}
+use Rattle.opl_line.proofs.Digits.{number_unbroken}
 use Rattle.opl_line.proofs.Unbroken.{Unbroken, unbroken_append}
+use Rattle.opl_line.proofs.Fronts.{ended_at}
 
 -- ---- a piece that stands whole at the front
 
-ended_case : (ends : ℕ → Bool) (b : ℕ) (bytes : List ℕ) (rest : Option (List ℕ)) (s : Bool) → cond s (Some (Some bytes)) None ≡ Some rest → (cond s [] (b ∷ before ends bytes) ≡ []) × (cond s (Some bytes) (after ends bytes) ≡ rest)
-ended_case ends b bytes rest true e = (refl, cc)
-ended_case ends b bytes rest false e = absurd cc
-
 piece_over : (ends : ℕ → Bool) (piece bytes : List ℕ) (rest : Option (List ℕ)) → Unbroken ends piece → ended ends bytes ≡ Some rest → (before ends (piece ++ bytes) ≡ piece) × (after ends (piece ++ bytes) ≡ rest)
 piece_over ends [] [] rest h e = (refl, cc)
-piece_over ends [] (b ∷ bytes) rest h e = ended_case ends b bytes rest (ends b) e
+piece_over ends [] (b ∷ bytes) rest h e = ended_at ends b bytes rest (ends b) e
 piece_over ends (p ∷ piece) bytes rest h e =
     let q = piece_over ends piece bytes rest h.1 e in
     (rw h.0 (ap (λ xs. p ∷ xs) q.0), rw h.0 q.1)
@@ -68,7 +66,7 @@ seven false b c d e f g h = absurd cc
 pub stamp_unbroken : (text : List ℕ) (s : Stamp) → stamp_text text ≡ Some s → Unbroken is_blank text
 unfolding stamp_text has_marks parts_of
 stamp_unbroken text s e =
-    let passed = pass_some (has_marks text) _ s e in
+    let passed = only_passed (has_marks text) _ s e in
     let m = seven (length text == 20) (slice_index text 4 == 45) (slice_index text 7 == 45) (slice_index text 10 == 84) (slice_index text 13 == 58) (slice_index text 16 == 58) (slice_index text 19 == 90) passed.0 in
     let long : length text ≡ 20 = grind (arith, nat_tests, m.0) in
     let parts = bind_some (parts_of text) _ s passed.1 in

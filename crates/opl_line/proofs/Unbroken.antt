@@ -84,7 +84,7 @@ after_none ends (b ∷ p) h = rw h.0 (after_none ends p h.1)
 
 -- ---- a whole line
 
-unbroken_at : (ends : ℕ → Bool) (bytes : List ℕ) (k : ℕ) → Unbroken ends bytes → k < length bytes → ends (get_or bytes k 0) ≡ false
+pub unbroken_at : (ends : ℕ → Bool) (bytes : List ℕ) (k : ℕ) → Unbroken ends bytes → k < length bytes → ends (get_or bytes k 0) ≡ false
 unbroken_at ends [] k h below = absurd (omega arith)
 unbroken_at ends (b ∷ bytes) zero h below = h.0
 unbroken_at ends (b ∷ bytes) (suc k) h below = unbroken_at ends bytes k h.1 (omega arith)

@@ -3,7 +3,7 @@ use Rattle.std.proofs.Common.{◌≡◌, ℕ, ◌+◌, ◌*◌, ◌<◌, ◌≤�
 use Rattle.std.specs.Option.{option_map}
 use Rattle.std.specs.Char.{digit_value, IsScalar}
 use Rattle.std.specs.Str.Parse.{digits_value_after, AllDigits}
-use Rattle.std.proofs.lemmas.Bool.{ltb-true}
+use Rattle.std.proofs.lemmas.Bool.{ltb-true, and_parts}
 use lib.Utf8.{scalar}
 use Rattle.opl_text.specs.declared.escape.Next.TheVariants.{Bad, Inside, Gives}
 use Rattle.opl_text.specs.Escape.{Spells, done, raw, escape, is_raw, carried, characters_of}
@@ -29,10 +29,6 @@ mapped : (g : ℕ) (o : Option (List ℕ)) (ds : List ℕ) → option_map (λ xs
 mapped g None ds e = cc
 mapped g (Some xs) ds e = (xs, refl, cc)
 
-parts : (a b : Bool) → (a && b) ≡ true → (a ≡ true) × (b ≡ true)
-parts true b e = (refl, e)
-parts false b e = cc
-
 some_digit : (hex : List ℕ) → 0 < digits_value_after 16 0 hex → 1 ≤ length hex
 some_digit [] p = absurd (omega arith)
 some_digit (c ∷ hex) p = omega arith
@@ -55,11 +51,11 @@ in_step : (c : ℕ) (cs : List ℕ) (d v : ℕ) (ds : List ℕ) (b p q : Bool) �
     → carried (cond b (cond p (Gives v) Bad) (cond q (Inside (record { digits = d + 1; code = v * 16 + digit_value c })) Bad)) (λ f. characters_of f cs) ≡ Some ds → Both cs → InEscape d v (c ∷ cs) ds
 in_step c cs d v ds true true q e f g l h both =
     let m = mapped v (characters_of None cs) ds h in
-    let s = parts (ltb 0 v) (scalar v) f in
+    let s = and_parts (ltb 0 v) (scalar v) f in
     record { hex = []; rest = cs; more = m.0; split = ap (λ x. x ∷ cs) (percent c e); room = omega arith; digits = tt; is_scalar = s.1; some = ltb-true 0 v s.0; gives = m.2; spells = both.0 m.0 m.1 }
 in_step c cs d v ds true false q e f g l h both = cc
 in_step c cs d v ds false p true e f g l h both =
-    let s = parts (ltb (digit_value c) 16) (ltb d 6) g in
+    let s = and_parts (ltb (digit_value c) 16) (ltb d 6) g in
     let i = both.1 (d + 1) (v * 16 + digit_value c) ds (omega (arith, ltb-true d 6 s.1)) h in
     record { hex = c ∷ i.hex; rest = i.rest; more = i.more; split = ap (λ xs. c ∷ xs) i.split; room = omega (arith, i.room); digits = (ltb-true (digit_value c) 16 s.0, i.digits); is_scalar = i.is_scalar; some = i.some; gives = i.gives; spells = i.spells }
 in_step c cs d v ds false p false e f g l h both = cc

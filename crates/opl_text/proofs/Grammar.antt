@@ -4,7 +4,7 @@ use Rattle.std.specs.Option.{option_map}
 use Rattle.std.specs.Char.{digit_value}
 use Rattle.std.specs.Str.Parse.{digits_value, digits_value_after, AllDigits}
 use Rattle.std.proofs.lemmas.Bool.Decides.{nat_tests}
-use Rattle.std.proofs.lemmas.Bool.{lt-ltb}
+use Rattle.std.proofs.lemmas.Bool.{lt-ltb, and_from}
 use Rattle.std.proofs.Math.Nat.{pow-le-pow_right}
 use Rattle.std.proofs.Common.{lit<}
 use lib.Utf8.{scalar, encode, encodes}
@@ -25,11 +25,8 @@ gives_code false v rest = refl
 no_percent_digit : (c : ℕ) → digit_value c < 16 → eqb c 37 ≡ false
 no_percent_digit c h = grind (arith, nat_tests)
 
-both : (a b : Bool) → a ≡ true → b ≡ true → (a && b) ≡ true
-both a b e f = rw (e, f)
-
 digit_taken : (c d : ℕ) → digit_value c < 16 → d < 6 → (ltb (digit_value c) 16 && ltb d 6) ≡ true
-digit_taken c d h l = both _ _ (lt-ltb _ _ h) (lt-ltb _ _ l)
+digit_taken c d h l = and_from _ _ (lt-ltb _ _ h) (lt-ltb _ _ l)
 
 -- the digits of an escape, up to its end
 hex_read : (hex cs : List ℕ) (d v : ℕ) → d + length hex ≤ 6 → AllDigits 16 hex → characters_of (Some (record { digits = d; code = v })) (hex ++ 37 ∷ cs)
@@ -43,7 +40,7 @@ pub spelled_is_read : (cs ds : List ℕ) → Spells cs ds → characters_of None
 spelled_is_read cs ds done = refl
 spelled_is_read cs ds (raw c xs ys r s) = rw (r, raw_no_percent c r, spelled_is_read xs ys s) refl
 spelled_is_read cs ds (escape hex xs ys least most all is some s) =
-    hex_read hex xs 0 0 (omega arith) all ∙ rw (both _ _ (lt-ltb 0 (digits_value 16 hex) some) is, spelled_is_read xs ys s) refl
+    hex_read hex xs 0 0 (omega arith) all ∙ rw (and_from _ _ (lt-ltb 0 (digits_value 16 hex) some) is, spelled_is_read xs ys s) refl
 
 pub hex_fits : (d v : ℕ) → v < 16 ^ d → d < 6 → v * 16 + 15 < 2 ^ 32
 hex_fits d v h l = omega (arith, pow-le-pow_right {n = 16} (lit< tt) {i = d} {j = 5} (omega arith))

@@ -98,11 +98,8 @@ text_spelled field text h =
     let same : chars text ≡ w.characters = ap chars (sym w.are) ∙ chars-encodes w.characters all in
     (w.utf8, (w.characters, (all, w.are)), subst (λ (ds : List ℕ). Spells (chars field) ds) (sym same) s)
 
-zero_high : (c : ℕ) → 128 ≤ c → nat_lt 0 c ≡ true
-zero_high c h = grind (arith, nat_tests)
-
 -- What was read has no U+0000.
 pub read_has_no_zero : (field text : List ℕ) → unescaped field ≡ Some text → HasNoZero text
 read_has_no_zero field text h =
     let w = was_read field text h in
-    subst HasNoZero w.are (bytes_pass (λ c. nat_lt 0 c) zero_high w.characters (spelled_some (chars field) w.characters (read_is_spelled (chars field) w.characters w.read)))
+    subst HasNoZero w.are (bytes_pass (λ c. nat_lt 0 c) (λ c h. lt-ltb 0 c (omega arith)) w.characters (spelled_some (chars field) w.characters (read_is_spelled (chars field) w.characters w.read)))

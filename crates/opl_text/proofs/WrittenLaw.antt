@@ -132,16 +132,13 @@ spells_all (c ∷ cs) h some =
     let m = and_parts (nat_lt 0 c) (list_all (λ c. nat_lt 0 c) cs) some in
     spelled_on c (flat_map spelling cs) cs (is_escaped c) refl k.0 m.0 (spells_all cs k.1 m.1)
 
-above_zero : (c : ℕ) → 128 ≤ c → nat_lt 0 c ≡ true
-above_zero c h = grind (arith, nat_tests)
-
 -- What is written of a text spells it.
 pub text_again : (text : List ℕ) → IsUtf8 text → HasNoZero text → unescaped (escaped text) ≡ Some text
 unfolding escaped
 text_again text u some =
     let cs = chars text in
     let all = spellings_scalars cs (scalars-chars text u) in
-    let marks : list_all (λ c. nat_lt 0 c) cs ≡ true = characters_pass (λ c. nat_lt 0 c) above_zero cs (subst HasNoZero (sym (encodes-chars text u)) some) in
+    let marks : list_all (λ c. nat_lt 0 c) cs ≡ true = characters_pass (λ c. nat_lt 0 c) (λ c h. lt-ltb 0 c (omega arith)) cs (subst HasNoZero (sym (encodes-chars text u)) some) in
     let spells = spells_all cs (scalars-chars text u) marks in
     spelled_text (encodes (flat_map spelling cs)) text ((flat_map spelling cs, (all, refl)), u, subst (λ (ds : List ℕ). Spells ds cs) (sym (chars-encodes (flat_map spelling cs) all)) spells)
 

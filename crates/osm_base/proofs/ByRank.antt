@@ -18,6 +18,7 @@ use Rattle.osm_base.specs.RankLaws.{rank_total, rank_ties}
 use Rattle.osm_base.specs.KeyEq.{eq}
 use Rattle.osm_base.specs.RisingKeys.{marked, rises, is_in}
 use Rattle.osm_base.proofs.RisingKeys.{same_keys, rises_filter, in_filter}
+use Rattle.osm_base.proofs.Tests.{both_T, first_T, second_T}
 
 eq_turned : (x y : Key) → eq x y ≡ eq y x
 eq_turned x y = rank_ties x y ∙ (eq_by_cmp_equiv rank_total).symm x y ∙ sym (rank_ties y x)
@@ -33,35 +34,23 @@ dedup_distinct (k ∷ ks) d = dedup_one k ks d
 strict : (ks : List Key) → IsSorted rank_cmp ks → IsDistinct eq ks → IsStrictlySortedBy rank_cmp ks
 strict ks s d = subst (IsStrictlySortedBy rank_cmp) (dedup_distinct ks d) (IsStrictlySortedBy-dedup rank_total {E = eq} rank_ties ks s)
 
-both : (a b : Bool) → T a → T b → T (a && b)
-both true b p q = q
-both false b p q = p
-
-first : (a b : Bool) → T (a && b) → T a
-first true b p = tt
-first false b p = p
-
-second : (a b : Bool) → T (a && b) → T b
-second true b p = p
-second false b p = absurd p
-
 below : (k : Key) (ks : List Key) → AllByRecursion (λ y. rank_cmp k y ≡ Less) ks → T (below_all rank_cmp k (marked ks))
 below k [] h = tt
-below k (x ∷ xs) h = both _ _ (subst (λ (o : Ordering). T (is_lt o)) (sym h.0) tt) (below k xs h.1)
+below k (x ∷ xs) h = both_T _ _ (subst (λ (o : Ordering). T (is_lt o)) (sym h.0) tt) (below k xs h.1)
 
 -- keys in strict order, as std says it, rise
 pub rises_strictly : (ks : List Key) → IsStrictlySortedBy rank_cmp ks → T (rises ks)
 rises_strictly [] h = tt
-rises_strictly (k ∷ ks) h = both _ _ (below k ks (sorted_head rank_cmp k ks h)) (rises_strictly ks (sorted_tail rank_cmp k ks h))
+rises_strictly (k ∷ ks) h = both_T _ _ (below k ks (sorted_head rank_cmp k ks h)) (rises_strictly ks (sorted_tail rank_cmp k ks h))
 
 below_marked : {V : Type 0} (k : Key) (es : List (Key × V)) → T (below_all rank_cmp k es) → T (below_all rank_cmp k (marked (keys_of es)))
 below_marked k [] h = tt
-below_marked k (e ∷ es) h = both _ _ (first _ (below_all rank_cmp k es) h) (below_marked k es (second (is_lt (rank_cmp k e.0)) _ h))
+below_marked k (e ∷ es) h = both_T _ _ (first_T _ (below_all rank_cmp k es) h) (below_marked k es (second_T (is_lt (rank_cmp k e.0)) _ h))
 
 -- the keys of sorted entries rise
 pub rises_entries : {V : Type 0} (es : List (Key × V)) → T (is_sorted rank_cmp es) → T (rises (keys_of es))
 rises_entries [] h = tt
-rises_entries (e ∷ es) h = both _ _ (below_marked e.0 es (first _ (is_sorted rank_cmp es) h)) (rises_entries es (second (below_all rank_cmp e.0 es) _ h))
+rises_entries (e ∷ es) h = both_T _ _ (below_marked e.0 es (first_T _ (is_sorted rank_cmp es) h)) (rises_entries es (second_T (below_all rank_cmp e.0 es) _ h))
 
 module _ {V : Type 0} where
   -- the keys of a map rise

@@ -81,22 +81,22 @@ whole_again : (n : ℕ) → n < 1000 → whole_text (decimal n) ≡ Some (n * 10
 unfolding whole_text
 whole_again n h = rw (number_again 3 n (omega arith) (omega arith) (omega arith)) refl
 
-not_point : (xs : List ℕ) (k : ℕ) → list_all is_ascii_digit xs ≡ true → k < length xs → eqb (get_or xs k 0) 46 ≡ false
+pub not_point : (xs : List ℕ) (k : ℕ) → list_all is_ascii_digit xs ≡ true → k < length xs → eqb (get_or xs k 0) 46 ≡ false
 not_point xs k h l = let d = digit_at xs k (own.to xs h) l in grind (arith, nat_tests, d)
 
 -- the first point after bytes that are none
-point_at : (xs ys : List ℕ) → list_all is_ascii_digit xs ≡ true → position_or_len (λ b. eqb b 46) (xs ++ 46 ∷ ys) ≡ length xs
+pub point_at : (xs ys : List ℕ) → list_all is_ascii_digit xs ≡ true → position_or_len (λ b. eqb b 46) (xs ++ 46 ∷ ys) ≡ length xs
 point_at xs ys h =
     position_or_len_is (λ b. eqb b 46) (xs ++ 46 ∷ ys) (length xs) 0 (omega (arith, length-append xs (46 ∷ ys)))
     (λ k l. rw (get_or-append xs (46 ∷ ys) 0 k l) (not_point xs k h l))
     (λ l. rw (get_or-append_seam xs 46 ys 0) refl)
 
-point_after : (xs ys : List ℕ) → list_all is_ascii_digit xs ≡ true → position (λ b. eqb b 46) (xs ++ 46 ∷ ys) ≡ Some (length xs)
+pub point_after : (xs ys : List ℕ) → list_all is_ascii_digit xs ≡ true → position (λ b. eqb b 46) (xs ++ 46 ∷ ys) ≡ Some (length xs)
 point_after xs ys h =
     let t : ltb (length xs) (length (xs ++ 46 ∷ ys)) ≡ true = lt-ltb _ _ (omega (arith, length-append xs (46 ∷ ys))) in
     rw (point_at xs ys h, t) refl
 
-no_point : (xs : List ℕ) → list_all is_ascii_digit xs ≡ true → position (λ b. eqb b 46) xs ≡ None
+pub no_point : (xs : List ℕ) → list_all is_ascii_digit xs ≡ true → position (λ b. eqb b 46) xs ≡ None
 no_point xs h =
     let e : position_or_len (λ b. eqb b 46) xs ≡ length xs = position_or_len_is (λ b. eqb b 46) xs (length xs) 0 (omega arith) (λ k l. not_point xs k h l) (λ l. absurd (omega arith)) in
     let t : ltb (length xs) (length xs) ≡ false = le-ltb _ _ (omega arith) in
@@ -113,7 +113,7 @@ pointed_again : (w p : ℕ) → w < 1000 → 0 < p → p < 10 ^ 7 → pointed_te
 unfolding pointed_text
 pointed_again w p h l m = rw (whole_again w h, part_again p l m) refl
 
-pointed_size : (xs ys : List ℕ) → list_all is_ascii_digit xs ≡ true → size_text (xs ++ 46 ∷ ys) ≡ pointed_text xs ys
+pub pointed_size : (xs ys : List ℕ) → list_all is_ascii_digit xs ≡ true → size_text (xs ++ 46 ∷ ys) ≡ pointed_text xs ys
 unfolding size_text
 pointed_size xs ys h =
     rw (point_after xs ys h, take-append_seam xs (46 ∷ ys), drop-append-add xs (46 ∷ ys) 1) refl

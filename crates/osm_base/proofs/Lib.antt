@@ -1,3 +1,5 @@
+pub mod Lists
+pub mod Tests
 pub mod Digits
 pub mod KeyLaw
 pub mod Places

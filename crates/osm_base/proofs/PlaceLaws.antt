@@ -1,6 +1,7 @@
 -- The place at two numbers.
-use Rattle.std.proofs.Common.{◌≡◌, ℤ, Bool, true, false, ◌&&◌, Some, None, refl, sym, ◌∙◌, ap}
+use Rattle.std.proofs.Common.{◌≡◌, ℤ, Bool, true, false, Some, None, refl, sym, ◌∙◌, ap}
 use Rattle.std.proofs.Props.{props}
+use Rattle.std.proofs.lemmas.Bool.{and_right, and_left}
 use mathlib.Core.HLevel.{is_prop→PathP}
 use Rattle.osm_base.specs.OnMap.{is_longitude, is_latitude, is_on_map}
 use Rattle.osm_base.specs.Place.{place_if, place_at}
@@ -26,20 +27,12 @@ nowhere : (lon lat : ℤ) (b : Bool) (e : is_on_map lon lat ≡ b) → b ≡ fal
 nowhere lon lat true e h = absurd cc
 nowhere lon lat false e h = refl
 
-west : (a b : Bool) → a ≡ false → (a && b) ≡ false
-west true b h = absurd cc
-west false b h = refl
-
-north : (a b : Bool) → b ≡ false → (a && b) ≡ false
-north true b h = h
-north false b h = refl
-
 -- where the longitude is off the map there is none,
 pub no_longitude : (lon lat : ℤ) → is_longitude lon ≡ false → None ≡ place_at lon lat
 unfolding place_at
-no_longitude lon lat off = nowhere lon lat (is_on_map lon lat) refl (west (is_longitude lon) (is_latitude lat) off)
+no_longitude lon lat off = nowhere lon lat (is_on_map lon lat) refl (and_left (is_longitude lon) (is_latitude lat) off)
 
 -- and where the latitude is
 pub no_latitude : (lon lat : ℤ) → is_latitude lat ≡ false → None ≡ place_at lon lat
 unfolding place_at
-no_latitude lon lat off = nowhere lon lat (is_on_map lon lat) refl (north (is_longitude lon) (is_latitude lat) off)
+no_latitude lon lat off = nowhere lon lat (is_on_map lon lat) refl (and_right (is_longitude lon) (is_latitude lat) off)

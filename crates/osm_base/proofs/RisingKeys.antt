@@ -5,9 +5,9 @@ use Rattle.std.specs.Ordering.{is_lt, is_eq, ordering_reverse}
 use Rattle.std.specs.List.{insert, filter}
 use Rattle.std.specs.Map.{keys_of}
 use Rattle.std.specs.Prelude.{nat_lt, T}
-use Rattle.std.specs.Cmp.{eq_by_cmp_equiv}
+use Rattle.std.specs.Cmp.{eq_by_cmp_equiv, Equal-is}
 use Rattle.std.specs.FinMap.Entries.{put, find, where_key, is_sorted, is_sorted-put, is_sorted-where_key, find-put, by_order, same_entries}
-use Rattle.std.proofs.lemmas.Bool.{lt-ltb, ltb-true}
+use Rattle.std.proofs.lemmas.Bool.{lt-ltb, ltb-true, and_parts}
 use Rattle.std.proofs.lemmas.List.Sums.{prefix_len-le-length}
 use Rattle.std.proofs.lemmas.Cmp.{tied_itself}
 use Rattle.std.proofs.lemmas.Map.Views.{any-filter_same}
@@ -16,14 +16,9 @@ use Rattle.osm_base.specs.Rank.{rank_cmp, is_key}
 use Rattle.osm_base.specs.RankLaws.{rank_total, rank_exact}
 use Rattle.osm_base.specs.RisingKeys.{marked, rises, is_in, with_key, without_key, place_in}
 
-tied : (o : Ordering) → is_eq o ≡ true → o ≡ Equal
-tied Less e = cc
-tied Equal e = refl
-tied Greater e = cc
-
 -- keys that the test finds to be one are one
 pub one_key : (j k : Key) → is_key j k ≡ true → j ≡ k
-one_key j k e = rank_exact j k (tied (rank_cmp j k) e)
+one_key j k e = rank_exact j k ((Equal-is (rank_cmp j k)).0 e)
 
 -- a key is itself
 pub key_itself : (k : Key) → is_key k k ≡ true
@@ -37,7 +32,8 @@ key_turned j k = (eq_by_cmp_equiv rank_total).symm j k
 pub place_le : (k : Key) (ks : List Key) → place_in k ks ≤ length ks
 place_le k ks = prefix_len-le-length _ ks
 
-turned : (k j : Key) (o : Ordering) → rank_cmp k j ≡ o → is_lt (rank_cmp j k) ≡ is_lt (ordering_reverse o)
+-- how the order of k and j shows from the other side
+pub turned : (k j : Key) (o : Ordering) → rank_cmp k j ≡ o → is_lt (rank_cmp j k) ≡ is_lt (ordering_reverse o)
 turned k j o e = ap is_lt (rank_total.antisymm j k ∙ ap ordering_reverse e)
 
 abbrev IsNew : Key → List Key → Type 0
@@ -88,15 +84,11 @@ there_key : (k : Key) (ks : List Key) → IsThere k ks → ks ≡ with_key k ks
 there_key k [] h = absurd (omega (arith, h.0))
 there_key k (j ∷ ks) h = there_step k j ks (rank_cmp k j) refl h (there_key k ks)
 
-parts : (a b : Bool) → (a && b) ≡ true → (a ≡ true) × (b ≡ true)
-parts true b e = (refl, e)
-parts false b e = cc
-
 -- a key that stands at its place is there already
 pub put_there : (k : Key) (ks : List Key) (at : ℕ) → at ≡ place_in k ks → (nat_lt at (length ks) && is_key k (get_or ks at k)) ≡ true → ks ≡ with_key k ks
 put_there k ks at e h =
     let P : ℕ → Type 0 = λ n. (nat_lt n (length ks) && is_key k (get_or ks n k)) ≡ true in
-    let p = parts (nat_lt (place_in k ks) (length ks)) _ (subst P e h) in
+    let p = and_parts (nat_lt (place_in k ks) (length ks)) _ (subst P e h) in
     there_key k ks (ltb-true _ _ p.0, p.1)
 
 -- one that doesn't goes in at its place

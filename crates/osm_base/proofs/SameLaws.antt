@@ -1,11 +1,11 @@
 -- Each test of equality decides equality.
-use Rattle.std.proofs.Common.{◌≡◌, ℕ, ℤ, ◌==◌, ◌&&◌, Bool, true, false, List, Option, Some, None, refl, ap, subst, Decides}
+use Rattle.std.proofs.Common.{◌≡◌, ℕ, ℤ, ◌==◌, ◌&&◌, true, false, List, Option, Some, None, refl, ap, subst, Decides}
 use Rattle.std.specs.Ordering.{int_eq, is_eq}
-use Rattle.std.specs.Cmp.{signed_Decides, unsigned_Decides}
+use Rattle.std.specs.Cmp.{signed_Decides, unsigned_Decides, Equal-is}
 use Rattle.std.specs.Cmp.Lexicographic.{pointwise_decides}
-use Rattle.std.specs.declared.cmp.Ordering.{Ordering}
-use Rattle.std.specs.declared.cmp.Ordering.TheVariants.{Less, Equal, Greater}
+use Rattle.std.specs.declared.cmp.Ordering.TheVariants.{Equal}
 use Rattle.std.proofs.lemmas.Cmp.{tied_itself}
+use Rattle.std.proofs.lemmas.Bool.Decides.{Decides-and, Decides-like}
 use Rattle.osm_base.proofs.PlaceLaws.{coord_as}
 use Rattle.osm_base.specs.Rank.{rank_cmp, is_key}
 use Rattle.osm_base.specs.RankLaws.{rank_total, rank_exact}
@@ -19,31 +19,17 @@ use Rattle.osm_base.specs.declared.members.Member.{Member}
 use Rattle.osm_base.specs.declared.content.Content.{Content}
 use Rattle.osm_base.specs.declared.content.Content.TheVariants.{Node, Way, Relation}
 
--- Two tests that decide two facts decide both together.
-both_decide : {P Q : Type 0} (a b : Bool) → Decides a P → Decides b Q → Decides (a && b) (P × Q)
-both_decide true b d e = (λ h. (d.0 refl, e.0 h), λ h. e.1 h.1)
-both_decide false b d e = (λ h. cc, λ h. d.1 h.0)
-
--- A test that decides a fact decides each that is as good.
-decides_as : {P Q : Type 0} (a : Bool) → (P → Q) → (Q → P) → Decides a P → Decides a Q
-decides_as a to back d = (λ h. to (d.0 h), λ h. d.1 (back h))
-
-tied : (o : Ordering) → is_eq o ≡ true → o ≡ Equal
-tied Less e = cc
-tied Equal e = refl
-tied Greater e = cc
-
 pub is_key_decides : (a b : Key) → Decides (is_key a b) (a ≡ b)
 is_key_decides a b =
-    (λ h. rank_exact a b (tied (rank_cmp a b) h), λ e. ap is_eq (subst (λ (k : Key). rank_cmp a k ≡ Equal) e (tied_itself rank_total a)))
+    (λ h. rank_exact a b ((Equal-is (rank_cmp a b)).0 h), λ e. ap is_eq (subst (λ (k : Key). rank_cmp a k ≡ Equal) e (tied_itself rank_total a)))
 
 pub same_text_decides : (a b : List ℕ) → Decides (same_text a b) (a ≡ b)
 same_text_decides a b = pointwise_decides unsigned_Decides a b
 
 pub same_tag_decides : (a b : Pair) → Decides (same_tag a b) (a ≡ b)
 same_tag_decides a b =
-    decides_as (same_tag a b) (λ h i. (h.0 i, h.1 i)) (λ e. (ap (λ (t : Pair). t.0) e, ap (λ (t : Pair). t.1) e))
-    (both_decide (same_text a.0 b.0) (same_text a.1 b.1) (same_text_decides a.0 b.0) (same_text_decides a.1 b.1))
+    Decides-like (same_tag a b) (λ h i. (h.0 i, h.1 i)) (λ e. (ap (λ (t : Pair). t.0) e, ap (λ (t : Pair). t.1) e))
+    (Decides-and (same_text a.0 b.0) (same_text a.1 b.1) (same_text_decides a.0 b.0) (same_text_decides a.1 b.1))
 
 pub same_tags_decides : (a b : List Pair) → Decides (same_tags a b) (a ≡ b)
 same_tags_decides a b = pointwise_decides same_tag_decides a b
@@ -56,36 +42,36 @@ member_as a b h i = record { key = h.0 i; role = h.1 i }
 
 pub same_member_decides : (a b : Member) → Decides (same_member a b) (a ≡ b)
 same_member_decides a b =
-    decides_as (same_member a b) (member_as a b) (λ e. (ap (λ (m : Member). m.key) e, ap (λ (m : Member). m.role) e))
-    (both_decide (is_key a.key b.key) (same_text a.role b.role) (is_key_decides a.key b.key) (same_text_decides a.role b.role))
+    Decides-like (same_member a b) (member_as a b) (λ e. (ap (λ (m : Member). m.key) e, ap (λ (m : Member). m.role) e))
+    (Decides-and (is_key a.key b.key) (same_text a.role b.role) (is_key_decides a.key b.key) (same_text_decides a.role b.role))
 
 pub same_members_decides : (a b : List Member) → Decides (same_members a b) (a ≡ b)
 same_members_decides a b = pointwise_decides same_member_decides a b
 
 pub same_coord_decides : (a b : Coord) → Decides (same_coord a b) (a ≡ b)
 same_coord_decides a b =
-    decides_as (same_coord a b) (coord_as a b) (λ e. (ap (λ (c : Coord). c.lon) e, ap (λ (c : Coord). c.lat) e))
-    (both_decide (int_eq a.lon b.lon) (int_eq a.lat b.lat) (signed_Decides a.lon b.lon) (signed_Decides a.lat b.lat))
+    Decides-like (same_coord a b) (coord_as a b) (λ e. (ap (λ (c : Coord). c.lon) e, ap (λ (c : Coord). c.lat) e))
+    (Decides-and (int_eq a.lon b.lon) (int_eq a.lat b.lat) (signed_Decides a.lon b.lon) (signed_Decides a.lat b.lat))
 
 never : {P : Type 0} → (P → false ≡ true) → Decides false P
 never none = (λ h. cc, none)
 
 pub same_content_decides : (a b : Content) → Decides (same_content a b) (a ≡ b)
 same_content_decides (Node tags at) (Node others there) =
-    decides_as (same_tags tags others && same_coord at there) (λ h i. Node (h.0 i) (h.1 i)) (λ e. (cc, cc))
-    (both_decide (same_tags tags others) (same_coord at there) (same_tags_decides tags others) (same_coord_decides at there))
+    Decides-like (same_tags tags others && same_coord at there) (λ h i. Node (h.0 i) (h.1 i)) (λ e. (cc, cc))
+    (Decides-and (same_tags tags others) (same_coord at there) (same_tags_decides tags others) (same_coord_decides at there))
 same_content_decides (Node tags at) (Way others theirs) = never (λ e. cc)
 same_content_decides (Node tags at) (Relation others theirs) = never (λ e. cc)
 same_content_decides (Way tags refs) (Node others there) = never (λ e. cc)
 same_content_decides (Way tags refs) (Way others theirs) =
-    decides_as (same_tags tags others && same_refs refs theirs) (λ h i. Way (h.0 i) (h.1 i)) (λ e. (cc, cc))
-    (both_decide (same_tags tags others) (same_refs refs theirs) (same_tags_decides tags others) (same_refs_decides refs theirs))
+    Decides-like (same_tags tags others && same_refs refs theirs) (λ h i. Way (h.0 i) (h.1 i)) (λ e. (cc, cc))
+    (Decides-and (same_tags tags others) (same_refs refs theirs) (same_tags_decides tags others) (same_refs_decides refs theirs))
 same_content_decides (Way tags refs) (Relation others theirs) = never (λ e. cc)
 same_content_decides (Relation tags members) (Node others there) = never (λ e. cc)
 same_content_decides (Relation tags members) (Way others theirs) = never (λ e. cc)
 same_content_decides (Relation tags members) (Relation others theirs) =
-    decides_as (same_tags tags others && same_members members theirs) (λ h i. Relation (h.0 i) (h.1 i)) (λ e. (cc, cc))
-    (both_decide (same_tags tags others) (same_members members theirs) (same_tags_decides tags others) (same_members_decides members theirs))
+    Decides-like (same_tags tags others && same_members members theirs) (λ h i. Relation (h.0 i) (h.1 i)) (λ e. (cc, cc))
+    (Decides-and (same_tags tags others) (same_members members theirs) (same_tags_decides tags others) (same_members_decides members theirs))
 
 abbrev IsSameStamp : Stamp → Stamp → Type 0
 IsSameStamp a b =
@@ -100,15 +86,15 @@ stamp_parts a b e =
 
 pub same_stamp_decides : (a b : Stamp) → Decides (same_stamp a b) (a ≡ b)
 same_stamp_decides a b =
-    let date = both_decide _ (a.day == b.day) (both_decide (a.year == b.year) (a.month == b.month) (unsigned_Decides a.year b.year) (unsigned_Decides a.month b.month)) (unsigned_Decides a.day b.day) in
-    let minute = both_decide _ (a.minute == b.minute) (both_decide _ (a.hour == b.hour) date (unsigned_Decides a.hour b.hour)) (unsigned_Decides a.minute b.minute) in
-    decides_as (same_stamp a b) (stamp_as a b) (stamp_parts a b) (both_decide _ (a.second == b.second) minute (unsigned_Decides a.second b.second))
+    let date = Decides-and _ (a.day == b.day) (Decides-and (a.year == b.year) (a.month == b.month) (unsigned_Decides a.year b.year) (unsigned_Decides a.month b.month)) (unsigned_Decides a.day b.day) in
+    let minute = Decides-and _ (a.minute == b.minute) (Decides-and _ (a.hour == b.hour) date (unsigned_Decides a.hour b.hour)) (unsigned_Decides a.minute b.minute) in
+    Decides-like (same_stamp a b) (stamp_as a b) (stamp_parts a b) (Decides-and _ (a.second == b.second) minute (unsigned_Decides a.second b.second))
 
 pub same_time_decides : (a b : Option Stamp) → Decides (same_time a b) (a ≡ b)
 same_time_decides None None = (λ h. refl, λ e. refl)
 same_time_decides None (Some b) = never (λ e. cc)
 same_time_decides (Some a) None = never (λ e. cc)
-same_time_decides (Some a) (Some b) = decides_as (same_stamp a b) (λ e. ap Some e) (λ e. cc) (same_stamp_decides a b)
+same_time_decides (Some a) (Some b) = Decides-like (same_stamp a b) (λ e. ap Some e) (λ e. cc) (same_stamp_decides a b)
 
 abbrev IsSameMeta : Meta → Meta → Type 0
 IsSameMeta a b = (((a.changeset ≡ b.changeset) × (a.time ≡ b.time)) × (a.uid ≡ b.uid)) × (a.user ≡ b.user)
@@ -122,5 +108,5 @@ meta_parts a b e =
 
 pub same_meta_decides : (a b : Meta) → Decides (same_meta a b) (a ≡ b)
 same_meta_decides a b =
-    let change = both_decide (a.changeset == b.changeset) (same_time a.time b.time) (unsigned_Decides a.changeset b.changeset) (same_time_decides a.time b.time) in
-    decides_as (same_meta a b) (meta_as a b) (meta_parts a b) (both_decide _ (same_text a.user b.user) (both_decide _ (a.uid == b.uid) change (unsigned_Decides a.uid b.uid)) (same_text_decides a.user b.user))
+    let change = Decides-and (a.changeset == b.changeset) (same_time a.time b.time) (unsigned_Decides a.changeset b.changeset) (same_time_decides a.time b.time) in
+    Decides-like (same_meta a b) (meta_as a b) (meta_parts a b) (Decides-and _ (same_text a.user b.user) (Decides-and _ (a.uid == b.uid) change (unsigned_Decides a.uid b.uid)) (same_text_decides a.user b.user))

@@ -1,5 +1,5 @@
 -- What a change of tags leaves: its look-ups, its order, its place.
-use Rattle.std.proofs.Common.{◌≡◌, ℕ, ◌<◌, ◌&&◌, Bool, true, false, not, cond, List, [], ◌∷◌, ◌++◌, length, Some, is_some, refl, sym, ◌∙◌, ap, subst, Ordering}
+use Rattle.std.proofs.Common.{◌≡◌, ℕ, ◌<◌, Bool, true, false, not, cond, List, [], ◌∷◌, ◌++◌, length, Some, is_some, refl, sym, ◌∙◌, ap, subst}
 use Rattle.std.specs.declared.cmp.Ordering.TheVariants.{Less, Equal, Greater}
 use Rattle.std.specs.Ordering.{eq_by_cmp, is_lt, is_eq, ordering_reverse}
 use Rattle.std.specs.List.{list_all, filter}
@@ -10,18 +10,7 @@ use Rattle.std.proofs.lemmas.Bool.{lt-ltb}
 use Rattle.std.proofs.lemmas.Cmp.{nat_list_cmp_total, tied_itself}
 use Rattle.osm_base.proofs.AnyMap.{list_any_map}
 use Rattle.osm_base.specs.Tags.{Pair, bytes_cmp, are_tags, value_of, with_tag, without_tag, has_tag}
-
-anded : (a b : Bool) → T a → T b → T (a && b)
-anded true b p q = q
-anded false b p q = p
-
-pub fore : (a b : Bool) → T (a && b) → T a
-fore true b p = tt
-fore false b p = p
-
-pub aft : (a b : Bool) → T (a && b) → T b
-aft true b p = p
-aft false b p = absurd p
+use Rattle.osm_base.proofs.Tests.{both_T, first_T, second_T, less_from_T}
 
 -- Keys that tie are one.
 pub one_key : (k j : List ℕ) → bytes_cmp k j ≡ Equal → k ≡ j
@@ -40,19 +29,23 @@ pub has_tag_is : (tags : List Pair) (key : List ℕ) → has_tag tags key ≡ is
 has_tag_is tags key =
     sym (list_any_map (eq_by_cmp bytes_cmp key) (λ (t : Pair). t.0) tags) ∙ sym (is_some-find bytes_cmp key tags)
 
+-- The list of tags is in order.
+pub in_order : (tags : List Pair) → T (are_tags tags) → T (is_sorted bytes_cmp tags)
+in_order tags h = first_T (is_sorted bytes_cmp tags) _ h
+
 named_put : (key value : List ℕ) (tags : List Pair) → T (nat_lt 0 (length key)) → T (list_all (λ t. nat_lt 0 (length t.0)) tags) → T (list_all (λ t. nat_lt 0 (length t.0)) (with_tag tags key value))
-named_put key value [] k h = anded _ _ k h
+named_put key value [] k h = both_T _ _ k h
 named_put key value (t ∷ tags) k h = elim (bytes_cmp key t.0) as (λ o. T (list_all (λ t. nat_lt 0 (length t.0)) (by_order o ((key, value) ∷ t ∷ tags) ((t.0, value) ∷ tags) (t ∷ with_tag tags key value)))) [
-  | Less ↦ anded _ _ k h
+  | Less ↦ both_T _ _ k h
   | Equal ↦ h
-  | Greater ↦ anded _ _ (fore (nat_lt 0 (length t.0)) _ h) (named_put key value tags k (aft (nat_lt 0 (length t.0)) _ h))
+  | Greater ↦ both_T _ _ (first_T (nat_lt 0 (length t.0)) _ h) (named_put key value tags k (second_T (nat_lt 0 (length t.0)) _ h))
 ]
 
 named_without : (p : List ℕ → Bool) (tags : List Pair) → T (list_all (λ t. nat_lt 0 (length t.0)) tags) → T (list_all (λ t. nat_lt 0 (length t.0)) (filter (λ t. p t.0) tags))
 named_without p [] h = h
 named_without p (t ∷ tags) h = elim (p t.0) as (λ b. T (list_all (λ t. nat_lt 0 (length t.0)) (cond b (t ∷ filter (λ t. p t.0) tags) (filter (λ t. p t.0) tags)))) [
-  | true ↦ anded _ _ (fore (nat_lt 0 (length t.0)) _ h) (named_without p tags (aft (nat_lt 0 (length t.0)) _ h))
-  | false ↦ named_without p tags (aft (nat_lt 0 (length t.0)) _ h)
+  | true ↦ both_T _ _ (first_T (nat_lt 0 (length t.0)) _ h) (named_without p tags (second_T (nat_lt 0 (length t.0)) _ h))
+  | false ↦ named_without p tags (second_T (nat_lt 0 (length t.0)) _ h)
 ]
 
 -- A key that is not empty, as the test of the tags says it.
@@ -62,45 +55,40 @@ named key h = subst T (sym (lt-ltb 0 (length key) h)) tt
 -- A put keeps the tags in order,
 pub are_tags_put : (key value : List ℕ) (tags : List Pair) → T (nat_lt 0 (length key)) → T (are_tags tags) → T (are_tags (with_tag tags key value))
 are_tags_put key value tags k h =
-    anded _ _ (is_sorted-put bytes_cmp nat_list_cmp_total key value tags (fore (is_sorted bytes_cmp tags) _ h)) (named_put key value tags k (aft (is_sorted bytes_cmp tags) _ h))
+    both_T _ _ (is_sorted-put bytes_cmp nat_list_cmp_total key value tags (first_T (is_sorted bytes_cmp tags) _ h)) (named_put key value tags k (second_T (is_sorted bytes_cmp tags) _ h))
 
 -- and so does a take.
 pub are_tags_without : (key : List ℕ) (tags : List Pair) → T (are_tags tags) → T (are_tags (without_tag tags key))
 are_tags_without key tags h =
-    anded _ _ (is_sorted-where_key bytes_cmp (λ k. not (eq_by_cmp bytes_cmp key k)) tags (fore (is_sorted bytes_cmp tags) _ h)) (named_without (λ k. not (eq_by_cmp bytes_cmp key k)) tags (aft (is_sorted bytes_cmp tags) _ h))
-
-less : (o : Ordering) → T (is_lt o) → o ≡ Less
-less Less p = refl
-less Equal p = absurd p
-less Greater p = absurd p
+    both_T _ _ (is_sorted-where_key bytes_cmp (λ k. not (eq_by_cmp bytes_cmp key k)) tags (first_T (is_sorted bytes_cmp tags) _ h)) (named_without (λ k. not (eq_by_cmp bytes_cmp key k)) tags (second_T (is_sorted bytes_cmp tags) _ h))
 
 -- How a greater key shows from the other side.
 above : (j k : List ℕ) → T (is_lt (bytes_cmp j k)) → bytes_cmp k j ≡ Greater
-above j k h = nat_list_cmp_total.antisymm k j ∙ ap ordering_reverse (less (bytes_cmp j k) h)
+above j k h = nat_list_cmp_total.antisymm k j ∙ ap ordering_reverse (less_from_T (bytes_cmp j k) h)
 
 -- The key above all others
 below_back : (j : List ℕ) (front back : List Pair) (t : Pair) → T (below_all bytes_cmp j (front ++ t ∷ back)) → T (is_lt (bytes_cmp j t.0))
-below_back j [] back t h = fore (is_lt (bytes_cmp j t.0)) _ h
-below_back j (f ∷ front) back t h = below_back j front back t (aft (is_lt (bytes_cmp j f.0)) _ h)
+below_back j [] back t h = first_T (is_lt (bytes_cmp j t.0)) _ h
+below_back j (f ∷ front) back t h = below_back j front back t (second_T (is_lt (bytes_cmp j f.0)) _ h)
 
 sorted_put_last : (front back : List Pair) (t : Pair) → T (is_sorted bytes_cmp (front ++ t ∷ back)) → with_tag front t.0 t.1 ≡ front ++ t ∷ []
 sorted_put_last [] back t h = refl
 sorted_put_last (f ∷ front) back t h =
-    let o = above f.0 t.0 (below_back f.0 front back t (fore (below_all bytes_cmp f.0 (front ++ t ∷ back)) _ h)) in
-    let rest = sorted_put_last front back t (aft (below_all bytes_cmp f.0 (front ++ t ∷ back)) _ h) in
+    let o = above f.0 t.0 (below_back f.0 front back t (first_T (below_all bytes_cmp f.0 (front ++ t ∷ back)) _ h)) in
+    let rest = sorted_put_last front back t (second_T (below_all bytes_cmp f.0 (front ++ t ∷ back)) _ h) in
     rw o (ap (λ (ts : List Pair). f ∷ ts) rest)
 
 sorted_has_last : (front back : List Pair) (t : Pair) → T (is_sorted bytes_cmp (front ++ t ∷ back)) → has_tag front t.0 ≡ false
 sorted_has_last [] back t h = refl
 sorted_has_last (f ∷ front) back t h =
-    let o = above f.0 t.0 (below_back f.0 front back t (fore (below_all bytes_cmp f.0 (front ++ t ∷ back)) _ h)) in
-    let rest = sorted_has_last front back t (aft (below_all bytes_cmp f.0 (front ++ t ∷ back)) _ h) in
+    let o = above f.0 t.0 (below_back f.0 front back t (first_T (below_all bytes_cmp f.0 (front ++ t ∷ back)) _ h)) in
+    let rest = sorted_has_last front back t (second_T (below_all bytes_cmp f.0 (front ++ t ∷ back)) _ h) in
     rw o rest
 
 -- Of tags that are put in their order each goes to the end,
 pub put_last : (front back : List Pair) (t : Pair) → T (are_tags (front ++ t ∷ back)) → with_tag front t.0 t.1 ≡ front ++ t ∷ []
-put_last front back t h = sorted_put_last front back t (fore (is_sorted bytes_cmp (front ++ t ∷ back)) _ h)
+put_last front back t h = sorted_put_last front back t (first_T (is_sorted bytes_cmp (front ++ t ∷ back)) _ h)
 
 -- and its key is not there yet.
 pub has_last : (front back : List Pair) (t : Pair) → T (are_tags (front ++ t ∷ back)) → has_tag front t.0 ≡ false
-has_last front back t h = sorted_has_last front back t (fore (is_sorted bytes_cmp (front ++ t ∷ back)) _ h)
+has_last front back t h = sorted_has_last front back t (first_T (is_sorted bytes_cmp (front ++ t ∷ back)) _ h)

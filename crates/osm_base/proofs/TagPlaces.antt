@@ -7,11 +7,12 @@ use Rattle.std.specs.List.Sorted.{IsPartitionedBy, IsPartitionPoint}
 use Rattle.std.specs.Prelude.{nat_lt, T}
 use Rattle.std.specs.FinMap.{is_sorted}
 use Rattle.std.specs.FinMap.Entries.{by_order, below_all}
-use Rattle.std.proofs.lemmas.Bool.{lt-ltb, ltb-true}
+use Rattle.std.proofs.lemmas.Bool.{lt-ltb, ltb-true, and_parts}
 use Rattle.std.proofs.lemmas.Cmp.{nat_list_cmp_total}
 use Rattle.std.proofs.lemmas.List.Sums.{prefix_len-le-length, prefix_len_passes, prefix_len_stops}
-use Rattle.osm_base.specs.Tags.{Pair, bytes_cmp, are_tags, value_of, with_tag, without_tag, has_tag, place_of}
-use Rattle.osm_base.proofs.TagLaws.{fore, aft, one_key, has_tag_is}
+use Rattle.osm_base.specs.Tags.{Pair, bytes_cmp, value_of, with_tag, without_tag, has_tag, place_of}
+use Rattle.osm_base.proofs.TagLaws.{one_key, has_tag_is}
+use Rattle.osm_base.proofs.Tests.{first_T, second_T, less_from_T}
 
 pub place_le : (key : List ℕ) (tags : List Pair) → place_of key tags ≤ length tags
 place_le key tags = prefix_len-le-length _ tags
@@ -30,28 +31,23 @@ partition_end p xs d i le h =
     cc in
     omega (arith, past, short)
 
-less : (o : Ordering) → T (is_lt o) → o ≡ Less
-less Less p = refl
-less Equal p = absurd p
-less Greater p = absurd p
-
 below_at : (k : List ℕ) (tags : List Pair) (j : ℕ) (d : Pair) → T (below_all bytes_cmp k tags) → j < length tags → bytes_cmp k (get_or tags j d).0 ≡ Less
 below_at k [] j d h l = absurd (omega (arith, l))
-below_at k (t ∷ tags) zero d h l = less (bytes_cmp k t.0) (fore (is_lt (bytes_cmp k t.0)) _ h)
-below_at k (t ∷ tags) (suc j) d h l = below_at k tags j d (aft (is_lt (bytes_cmp k t.0)) _ h) (omega (arith, l))
+below_at k (t ∷ tags) zero d h l = less_from_T (bytes_cmp k t.0) (first_T (is_lt (bytes_cmp k t.0)) _ h)
+below_at k (t ∷ tags) (suc j) d h l = below_at k tags j d (second_T (is_lt (bytes_cmp k t.0)) _ h) (omega (arith, l))
 
 below_too : (k j key : List ℕ) → bytes_cmp k j ≡ Less → is_lt (bytes_cmp j key) ≡ true → is_lt (bytes_cmp k key) ≡ true
-below_too k j key e h = ap is_lt (nat_list_cmp_total.trans k j key e (less (bytes_cmp j key) (subst T (sym h) tt)))
+below_too k j key e h = ap is_lt (nat_list_cmp_total.trans k j key e (less_from_T (bytes_cmp j key) (subst T (sym h) tt)))
 
 -- In order, the tags with lesser keys stand in front.
 pub partitioned : (key : List ℕ) (tags : List Pair) → T (is_sorted bytes_cmp tags) → IsPartitionedBy (λ (t : Pair). is_lt (bytes_cmp t.0 key)) tags
 partitioned key [] s i j d le l e = absurd (omega (arith, l))
 partitioned key (t ∷ tags) s zero zero d le l e = e
 partitioned key (t ∷ tags) s zero (suc j) d le l e =
-    below_too t.0 (get_or tags j d).0 key (below_at t.0 tags j d (fore (below_all bytes_cmp t.0 tags) _ s) (omega (arith, l))) e
+    below_too t.0 (get_or tags j d).0 key (below_at t.0 tags j d (first_T (below_all bytes_cmp t.0 tags) _ s) (omega (arith, l))) e
 partitioned key (t ∷ tags) s (suc i) zero d le l e = absurd (omega (arith, le))
 partitioned key (t ∷ tags) s (suc i) (suc j) d le l e =
-    partitioned key tags (aft (below_all bytes_cmp t.0 tags) _ s) i j d (omega (arith, le)) (omega (arith, l)) e
+    partitioned key tags (second_T (below_all bytes_cmp t.0 tags) _ s) i j d (omega (arith, le)) (omega (arith, l)) e
 
 -- how the order of k and j shows from the other side
 turned : (k j : List ℕ) (o : Ordering) → bytes_cmp k j ≡ o → is_lt (bytes_cmp j k) ≡ is_lt (ordering_reverse o)
@@ -148,20 +144,20 @@ value_of_there key (t ∷ tags) d h = there_value key t tags d (bytes_cmp key t.
 below_more : (key j : List ℕ) (tags : List Pair) → bytes_cmp key j ≡ Less → T (below_all bytes_cmp j tags) → T (below_all bytes_cmp key tags)
 below_more key j [] e h = tt
 below_more key j (t ∷ tags) e h =
-    let l : bytes_cmp key t.0 ≡ Less = nat_list_cmp_total.trans key j t.0 e (less (bytes_cmp j t.0) (fore (is_lt (bytes_cmp j t.0)) _ h)) in
-    rw l (below_more key j tags e (aft (is_lt (bytes_cmp j t.0)) _ h))
+    let l : bytes_cmp key t.0 ≡ Less = nat_list_cmp_total.trans key j t.0 e (less_from_T (bytes_cmp j t.0) (first_T (is_lt (bytes_cmp j t.0)) _ h)) in
+    rw l (below_more key j tags e (second_T (is_lt (bytes_cmp j t.0)) _ h))
 
 below_value : (key : List ℕ) (tags : List Pair) → T (below_all bytes_cmp key tags) → value_of tags key ≡ None
 below_value key [] h = refl
 below_value key (t ∷ tags) h =
-    let l : bytes_cmp key t.0 ≡ Less = less (bytes_cmp key t.0) (fore (is_lt (bytes_cmp key t.0)) _ h) in
-    rw l (below_value key tags (aft (is_lt (bytes_cmp key t.0)) _ h))
+    let l : bytes_cmp key t.0 ≡ Less = less_from_T (bytes_cmp key t.0) (first_T (is_lt (bytes_cmp key t.0)) _ h) in
+    rw l (below_value key tags (second_T (is_lt (bytes_cmp key t.0)) _ h))
 
 below_without : (key : List ℕ) (tags : List Pair) → T (below_all bytes_cmp key tags) → without_tag tags key ≡ tags
 below_without key [] h = refl
 below_without key (t ∷ tags) h =
-    let l : bytes_cmp key t.0 ≡ Less = less (bytes_cmp key t.0) (fore (is_lt (bytes_cmp key t.0)) _ h) in
-    rw l (ap (λ (ts : List Pair). t ∷ ts) (below_without key tags (aft (is_lt (bytes_cmp key t.0)) _ h)))
+    let l : bytes_cmp key t.0 ≡ Less = less_from_T (bytes_cmp key t.0) (first_T (is_lt (bytes_cmp key t.0)) _ h) in
+    rw l (ap (λ (ts : List Pair). t ∷ ts) (below_without key tags (second_T (is_lt (bytes_cmp key t.0)) _ h)))
 
 new_value : (key : List ℕ) (t : Pair) (tags : List Pair) (o : Ordering) → bytes_cmp key t.0 ≡ o → T (below_all bytes_cmp t.0 tags) → IsNew key (t ∷ tags)
     → (IsNew key tags → value_of tags key ≡ None)
@@ -174,7 +170,7 @@ new_value key t tags Greater e s h rest = rest (new_later key t tags e h)
 pub value_of_new : (key : List ℕ) (tags : List Pair) → T (is_sorted bytes_cmp tags) → IsNew key tags → value_of tags key ≡ None
 value_of_new key [] s h = refl
 value_of_new key (t ∷ tags) s h =
-    new_value key t tags (bytes_cmp key t.0) refl (fore (below_all bytes_cmp t.0 tags) _ s) h (value_of_new key tags (aft (below_all bytes_cmp t.0 tags) _ s))
+    new_value key t tags (bytes_cmp key t.0) refl (first_T (below_all bytes_cmp t.0 tags) _ s) h (value_of_new key tags (second_T (below_all bytes_cmp t.0 tags) _ s))
 
 there_take : (key : List ℕ) (t : Pair) (tags : List Pair) (o : Ordering) → bytes_cmp key t.0 ≡ o → T (below_all bytes_cmp t.0 tags) → IsThere key (t ∷ tags)
     → (IsThere key tags → remove tags (place_of key tags) ≡ without_tag tags key)
@@ -190,7 +186,7 @@ there_take key t tags Greater e s h rest =
 pub without_tag_there : (key : List ℕ) (tags : List Pair) → T (is_sorted bytes_cmp tags) → IsThere key tags → remove tags (place_of key tags) ≡ without_tag tags key
 without_tag_there key [] s h = absurd (omega (arith, h.0))
 without_tag_there key (t ∷ tags) s h =
-    there_take key t tags (bytes_cmp key t.0) refl (fore (below_all bytes_cmp t.0 tags) _ s) h (without_tag_there key tags (aft (below_all bytes_cmp t.0 tags) _ s))
+    there_take key t tags (bytes_cmp key t.0) refl (first_T (below_all bytes_cmp t.0 tags) _ s) h (without_tag_there key tags (second_T (below_all bytes_cmp t.0 tags) _ s))
 
 new_take : (key : List ℕ) (t : Pair) (tags : List Pair) (o : Ordering) → bytes_cmp key t.0 ≡ o → T (below_all bytes_cmp t.0 tags) → IsNew key (t ∷ tags)
     → (IsNew key tags → without_tag tags key ≡ tags)
@@ -203,11 +199,7 @@ new_take key t tags Greater e s h rest = ap (λ (ts : List Pair). t ∷ ts) (res
 pub without_tag_new : (key : List ℕ) (tags : List Pair) → T (is_sorted bytes_cmp tags) → IsNew key tags → without_tag tags key ≡ tags
 without_tag_new key [] s h = refl
 without_tag_new key (t ∷ tags) s h =
-    new_take key t tags (bytes_cmp key t.0) refl (fore (below_all bytes_cmp t.0 tags) _ s) h (without_tag_new key tags (aft (below_all bytes_cmp t.0 tags) _ s))
-
-parts : (a b : Bool) → (a && b) ≡ true → (a ≡ true) × (b ≡ true)
-parts true b e = (refl, e)
-parts false b e = cc
+    new_take key t tags (bytes_cmp key t.0) refl (first_T (below_all bytes_cmp t.0 tags) _ s) h (without_tag_new key tags (second_T (below_all bytes_cmp t.0 tags) _ s))
 
 -- what the code tests at a place
 abbrev pub stands : List ℕ → List Pair → ℕ → Bool
@@ -215,7 +207,7 @@ stands key tags at = nat_lt at (length tags) && eq_by_cmp bytes_cmp key (get_or 
 
 pub there : (key : List ℕ) (tags : List Pair) (at : ℕ) → at ≡ place_of key tags → stands key tags at ≡ true → IsThere key tags
 there key tags at e h =
-    let p = parts (nat_lt (place_of key tags) (length tags)) _ (subst (λ n. stands key tags n ≡ true) e h) in
+    let p = and_parts (nat_lt (place_of key tags) (length tags)) _ (subst (λ n. stands key tags n ≡ true) e h) in
     (ltb-true _ _ p.0, p.1)
 
 pub new : (key : List ℕ) (tags : List Pair) (at : ℕ) → at ≡ place_of key tags → stands key tags at ≡ false → IsNew key tags
@@ -232,7 +224,3 @@ has_tag_new key tags s h = has_tag_is tags key ∙ ap is_some (value_of_new key 
 pub has_tag_stands : (key : List ℕ) (tags : List Pair) (at : ℕ) (b : Bool) → T (is_sorted bytes_cmp tags) → at ≡ place_of key tags → stands key tags at ≡ b → b ≡ has_tag tags key
 has_tag_stands key tags at true s e h = sym (has_tag_there key tags (there key tags at e h))
 has_tag_stands key tags at false s e h = sym (has_tag_new key tags s (new key tags at e h))
-
--- The list of tags is in order.
-pub in_order : (tags : List Pair) → T (are_tags tags) → T (is_sorted bytes_cmp tags)
-in_order tags h = fore (is_sorted bytes_cmp tags) _ h

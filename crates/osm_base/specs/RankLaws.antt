@@ -1,11 +1,12 @@
 -- The rank order is a total order, and only equal keys tie.
-use Rattle.std.proofs.Common.{◌≡◌, ℤ, pos, negsuc, ◌&&◌, Bool, true, false, refl, ap, subst, rules, Decides}
+use Rattle.std.proofs.Common.{◌≡◌, ℤ, pos, negsuc, refl, ap, subst, rules, Decides}
 use Rattle.std.specs.Ordering.{nat_cmp, ordering_then, is_eq, int_eq}
-use Rattle.std.specs.Cmp.{IsTotalOrder, then_total, on_total, nat_cmp_total, both_ways, signed_Decides}
+use Rattle.std.specs.Cmp.{IsTotalOrder, then_total, on_total, nat_cmp_total, both_ways, signed_Decides, Equal-is}
 use Rattle.std.specs.FinMap.{IsAntisymmetric, nat_cmp-IsAntisymmetric}
 use Rattle.std.specs.declared.cmp.Ordering.{Ordering}
 use Rattle.std.specs.declared.cmp.Ordering.TheVariants.{Less, Equal, Greater}
 use Rattle.std.proofs.lemmas.Cmp.{tied_itself}
+use Rattle.std.proofs.lemmas.Bool.{and_parts, and_from}
 use denote.Enum.Bare.{sameb, same_true, true_same}
 use Rattle.osm_base.specs.contracts.key.Kind.{the_type}
 use Rattle.osm_base.specs.declared.key.Kind.{Kind}
@@ -35,7 +36,8 @@ kind_exact Relation Node e = cc
 kind_exact Relation Way e = cc
 kind_exact Relation Relation e = refl
 
-both_equal : (p q : Ordering) → ordering_then p q ≡ Equal → (p ≡ Equal) × (q ≡ Equal)
+-- a tie of two orders is a tie of each
+pub both_equal : (p q : Ordering) → ordering_then p q ≡ Equal → (p ≡ Equal) × (q ≡ Equal)
 both_equal Less q e = cc
 both_equal Equal q e = (refl, e)
 both_equal Greater q e = cc
@@ -52,24 +54,12 @@ rank_exact a b h =
     (kind_exact a.kind b.kind (nat_cmp-IsAntisymmetric _ _ e.0))
     (id_exact a.id b.id (nat_cmp-IsAntisymmetric _ _ f.0) (nat_cmp-IsAntisymmetric _ _ f.1))
 
-both_true : (a b : Bool) → (a && b) ≡ true → (a ≡ true) × (b ≡ true)
-both_true true b e = (refl, e)
-both_true false b e = cc
-
-together : (a b : Bool) → a ≡ true → b ≡ true → (a && b) ≡ true
-together a b e f = rw (e, f)
-
-tied : (o : Ordering) → is_eq o ≡ true → o ≡ Equal
-tied Less e = cc
-tied Equal e = refl
-tied Greater e = cc
-
 -- `==` on keys decides equality
 pub eq_decides : (x y : Key) → Decides (eq x y) (x ≡ y)
 eq_decides x y = (
-  λ e. let h = both_true (sameb the_type x.kind y.kind) (int_eq x.id y.id) e in
+  λ e. let h = and_parts (sameb the_type x.kind y.kind) (int_eq x.id y.id) e in
       same_key x y (same_true the_type (search rules) _ _ h.0) ((signed_Decides x.id y.id).0 h.1),
-  λ same. together _ _ (true_same the_type _ _ (λ i. (same i).kind)) ((signed_Decides x.id y.id).1 (λ i. (same i).id)),
+  λ same. and_from _ _ (true_same the_type _ _ (λ i. (same i).kind)) ((signed_Decides x.id y.id).1 (λ i. (same i).id)),
 )
 
 -- `==` on keys answers as the rank order does
@@ -77,4 +67,4 @@ pub rank_ties : (x y : Key) → eq x y ≡ is_eq (rank_cmp x y)
 rank_ties x y =
     both_ways _ _
     (λ e. ap is_eq (subst (λ (k : Key). rank_cmp x k ≡ Equal) ((eq_decides x y).0 e) (tied_itself rank_total x)))
-    (λ e. (eq_decides x y).1 (rank_exact x y (tied (rank_cmp x y) e)))
+    (λ e. (eq_decides x y).1 (rank_exact x y ((Equal-is (rank_cmp x y)).0 e)))

@@ -15,7 +15,7 @@ use Rattle.osm_table.specs.declared.entry.Entry.TheVariants.{Incomplete, Known}
 use Rattle.osm_table.specs.declared.told.Told.TheVariants as told
 use Rattle.osm_table.specs.Same.{same_entry}
 use Rattle.osm_table.specs.Table.{TableValue, entry_of, users, users_among, is_living, is_changed, known_side, version_of, held_by}
-use Rattle.osm_table.specs.Told.{IsTold}
+use Rattle.osm_table.specs.Told.{IsTold, is_told_there}
 
 abbrev node : ℕ → Key
 node n = record { kind = kind.Node; id = pos n }
@@ -90,3 +90,8 @@ told_way = search arith
 
 told_new : IsTold (record { kind = kind.Way; id = negsuc 0 }) told.Mentioned → ⊥
 told_new h = h
+
+-- an object that lives or is only referred to is there, one that is deleted isn't, nor one of which nothing is told
+told_there : (is_told_there (Some (told.Live 3 short empty_meta)) ≡ true) × (is_told_there (Some told.Mentioned) ≡ true) × (is_told_there (Some (told.Gone 4 empty_meta)) ≡ false)
+    × (is_told_there None ≡ false)
+told_there = (refl, refl, refl, refl)

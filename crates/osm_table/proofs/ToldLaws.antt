@@ -14,11 +14,12 @@ use Rattle.osm_base.specs.RankLaws.{rank_total, rank_exact, rank_ties}
 use Rattle.osm_base.specs.declared.key.Key.{Key}
 use Rattle.osm_table.specs.declared.entry.Entry.{Entry}
 use Rattle.osm_table.specs.declared.told.Told.{Told}
-use Rattle.osm_table.specs.declared.told.Told.TheVariants.{Mentioned, Live, Gone}
-use Rattle.osm_table.specs.Told.{ToldEntries, IsTold, IsToldMap, entry_told, told_of}
-use Rattle.osm_table.specs.ToldCode.{each_told, told_kept, AreTold}
+use Rattle.osm_table.specs.Told.{ToldEntries, ToldValue, IsTold, IsToldMap, entry_told, told_of, told_at, with_told, is_told_there}
+use Rattle.osm_table.specs.ToldCode.{each_told, told_kept, AreTold, AreThere}
 use Rattle.osm_table.proofs.Each.{with_cases}
+use Rattle.osm_base.proofs.ByRank.{rises_keys}
 use Rattle.osm_base.proofs.MapViews.{get_view, inserted, distinct_len}
+use Rattle.osm_base.proofs.RisingKeys.{key_itself, same_keys}
 
 -- what may be told of a key keeps a told map one
 pub told_with : (m : ToldEntries) (k : Key) (u : Told) → IsToldMap m → IsTold k u → IsToldMap (fin.insert m k u)
@@ -26,6 +27,18 @@ told_with m k u all here j t has = with_cases IsTold j k u t (fin.get m j) (is_k
 
 pub told_empty : IsToldMap fin.empty
 told_empty j t has = let h : None ≡ Some t = sym (fin.get-empty rank_cmp j) ∙ has in cc
+
+-- what is told of as there leaves all that is told of there
+pub there_with : (m : ToldEntries) (k : Key) (u : Told) → AreThere m → is_told_there (Some u) ≡ true → AreThere (fin.insert m k u)
+there_with m k u all here j t has =
+    with_cases (λ _ v. is_told_there (Some v) ≡ true) j k u t (fin.get m j) (is_key j k) refl (sym (fin.get-insert rank_total m k u j) ∙ has) here (all j t)
+
+pub there_empty : AreThere fin.empty
+there_empty j t has = let h : None ≡ Some t = sym (fin.get-empty rank_cmp j) ∙ has in cc
+
+-- what is told last of a key is what is told of it
+pub told_last : (m : ToldValue) (k : Key) (u : Told) → told_at (with_told m k u) k ≡ Some u
+told_last m k u = fin.get-insert rank_total m.told k u k ∙ ap (λ b. cond b (Some u) (told_at m k)) (key_itself k)
 
 -- What is told, and the entries that are kept.
 
@@ -94,3 +107,10 @@ order_any es q = ap (list_any (is_key q)) (sym (keys_told es)) ∙ sym (is_some-
 -- as many are told of as there are entries
 pub told_len : (es : List (Key × Entry)) → IsDistinct eq (keys_of es) → length es ≡ fin.len (told_kept es)
 told_len es h = sym (length-map es (λ (e : Key × Entry). (e.0, told_of e.1))) ∙ distinct_len rank_total rank_exact rank_ties (each_told es) (subst (IsDistinct eq) (sym (keys_told es)) h)
+
+-- the keys that are told of by rank are those of the entries
+pub keys_kept : (es : List (Key × Entry)) → fin.keys (fin.from_entries {R = rank_cmp} es) ≡ fin.keys (told_kept es)
+keys_kept es =
+    let m = fin.from_entries {R = rank_cmp} es in
+    same_keys (fin.keys m) (fin.keys (told_kept es)) (rises_keys m) (rises_keys (told_kept es))
+    (λ q. sym (fin.contains_key-keys m q) ∙ ap is_some (sym (get_view rank_total rank_exact rank_ties es q)) ∙ some_told (lookup (eq q) es) ∙ ap is_some (sym (told_kept_at es q)) ∙ fin.contains_key-keys (told_kept es) q)

@@ -1,11 +1,12 @@
 -- What a download tells of the objects.
-use Rattle.std.specs.Prelude.{◌≡◌, ◌≤◌, ◌++◌, ℕ, if◌then◌else◌, is_some, List, [], ◌∷◌, Option, Some, None}
+use Rattle.std.specs.Prelude.{◌≡◌, ◌≤◌, ◌++◌, ℕ, Bool, true, false, if◌then◌else◌, is_some, List, [], ◌∷◌, Option, Some, None}
 use Rattle.std.specs.List.{AllByRecursion}
 use Rattle.std.specs.FinMap as fin
 use Rattle.osm_base.specs.Rank.{rank_cmp}
 use Rattle.osm_base.specs.Content.{refs_of, kind_of_content}
 use Rattle.osm_base.specs.declared.key.Key.{Key}
 use Rattle.osm_base.specs.declared.content.Content.{Content}
+use Rattle.osm_base.specs.declared.meta.Meta.{Meta}
 use Rattle.osm_table.specs.Table.{IsPositive}
 use Rattle.osm_table.specs.declared.entry.Base.TheVariants as base
 use Rattle.osm_table.specs.declared.entry.Entry.{Entry}
@@ -63,3 +64,15 @@ IsTold key (Gone version meta) = IsPositive key.id × IsVersion version
 -- All that is told may be told of its key.
 abbrev pub IsToldMap : ToldEntries → Type 0
 IsToldMap told = (key : Key) (t : Told) → fin.get told key ≡ Some t → IsTold key t
+
+-- whether an object is told of as living, or at least mentioned
+abbrev pub is_told_there : Option Told → Bool
+is_told_there None = false
+is_told_there (Some Mentioned) = true
+is_told_there (Some (Live version content meta)) = true
+is_told_there (Some (Gone version meta)) = false
+
+-- Each reference of an object that is told of as living is told of as there.
+abbrev pub IsClosed : ToldEntries → Type 0
+IsClosed told = (key : Key) (version : ℕ) (content : Content) (meta : Meta) → fin.get told key ≡ Some (Live version content meta)
+    → AllByRecursion (λ r. is_told_there (fin.get told r) ≡ true) (refs_of content)

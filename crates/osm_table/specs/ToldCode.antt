@@ -1,5 +1,5 @@
 -- How a told map is stored, and how it keeps what is told.
-use Rattle.std.specs.Prelude.{◌≡◌, List, map, Some, refl}
+use Rattle.std.specs.Prelude.{◌≡◌, List, map, true, Some, refl}
 use Rattle.std.specs.Coded.{Coded, code_by, coded×, coded_list}
 use Rattle.std.specs.FinMap as fin
 use Rattle.std.specs.Map.{lookup}
@@ -9,7 +9,7 @@ use Rattle.osm_base.specs.contracts.key.Key as key
 use Rattle.osm_table.specs.contracts.told.Told as told
 use Rattle.osm_table.specs.declared.entry.Entry.{Entry}
 use Rattle.osm_table.specs.declared.told.Told.{Told}
-use Rattle.osm_table.specs.Told.{ToldEntries, ToldValue, entry_told, told_of}
+use Rattle.osm_table.specs.Told.{ToldEntries, ToldValue, entry_told, told_of, is_told_there}
 
 -- a told map is stored as its entries and its order
 abbrev pub told_code : Coded ToldValue
@@ -28,3 +28,7 @@ told_kept es = fin.from_entries (each_told es)
 -- each entry that is kept is one of which no more is known than what is told
 abbrev pub AreTold : List (Key × Entry) → Type 0
 AreTold es = (key : Key) (e : Entry) → lookup (eq key) es ≡ Some e → entry_told (told_of e) ≡ e
+
+-- all that is told of is told of as there
+abbrev pub AreThere : ToldEntries → Type 0
+AreThere told = (key : Key) (t : Told) → fin.get told key ≡ Some t → is_told_there (Some t) ≡ true

@@ -11,6 +11,7 @@
 #![tactic(auto)]
 
 mod entry;
+mod key_map;
 mod shared;
 mod shared_entry;
 mod table;

@@ -1,12 +1,10 @@
 //! The entries of all objects.
 ghost use Rattle.std.specs.Prelude.{◌≡◌, OnOk, OnErr, None, IfOk, IsSome, IsOk};
-ghost use Rattle.std.specs.Option.{option_copied};
+ghost use Rattle.std.specs.Option.{option_copied, option_map};
 ghost use Rattle.std.specs.FinMap as map;
-ghost use Rattle.std.specs.Map.{keys_of};
-ghost use Rattle.std.specs.List.{IsDistinct};
-ghost use Rattle.osm_base.specs.KeyEq.{eq};
 ghost use Rattle.osm_table.specs.Table.{entry_of, with_entry, without_entry, keys_by_rank};
 
+use crate::key_map::{get_near, ordered};
 use crate::shared_entry::SharedEntry;
 use indexmap::IndexMap;
 use osm_base::{Key, Keys};
@@ -69,6 +67,26 @@ impl Table {
         self.entries.get(&key)
     }
 
+    /// As `get`, with a place to look at first, and with the place behind the one where the key
+    /// stands. Who goes over keys in the order in which they were set, each time from the place that
+    /// the last gave, pays no look-up; a key that isn't at the place costs one.
+    pub fn get_near(&self, near: usize, key: Key) -> Option<(usize, &SharedEntry)>
+        ensures { option_map (λ found. found.1.now) result ≡ entry_of self.now key }
+    {
+        get_near(&self.entries, near, key)
+    }
+
+    /// Makes room for so many keys that aren't there yet. Where there is none it makes room for as
+    /// many as there are at least, as `set` does, so that many calls cost no more than the keys.
+    ///
+    /// # Errors
+    /// Answers want of memory.
+    pub fn reserve(&mut self, keys: usize) -> Result<(), AllocError>
+        ensures { self.new ≡ self.old }
+    {
+        self.entries.reserve(keys)
+    }
+
     /// Sets the entry of a key, and drops the one that it had.
     ///
     /// # Errors
@@ -97,22 +115,14 @@ impl Table {
         self.entries.len()
     }
 
-    /// Its keys by rank. It sorts them once, so n keys cost n log n steps.
+    /// Its keys by rank. It sorts them once, so n keys cost n log n steps, and n where they were set by
+    /// rank.
     ///
     /// # Errors
     /// Answers want of memory.
     pub fn ordered(&self) -> Result<Keys, AllocError>
         ensures { IfOk result (λ keys. keys ≡ keys_by_rank self.now) }
     {
-        let mut keys = keys(&self.entries)?;
-        keys.sort()?;
-        Ok(Keys::from_vec(keys))
+        ordered(&self.entries)
     }
-}
-
-fn keys(entries: &IndexMap<Key, SharedEntry>) -> Result<Vec<Key>, AllocError>
-    ensures listed { IfOk result (λ keys. keys.items ≡ keys_of entries.now.entries) }
-    ensures unique { IfOk result (λ _. IsDistinct eq (keys_of entries.now.entries)) }
-{
-    entries.keys().copied().collect(*entries.allocator())
 }

@@ -1,17 +1,19 @@
 //! What a download tells of the objects.
-ghost use Rattle.std.specs.Prelude.{◌≡◌, ◌<◌, [], Some, IfOk, OnOk, OnErr, length, slice_get, is_some};
+ghost use Rattle.std.specs.Prelude.{◌≡◌, ◌<◌, true, [], Some, IfOk, OnOk, OnErr, length, slice_get, is_some};
 ghost use Rattle.std.specs.Option.{option_copied, option_map};
 ghost use Rattle.std.specs.List.{list_any, IsDistinct};
 ghost use Rattle.std.specs.FinMap as map;
 ghost use Rattle.osm_base.specs.KeyEq.{eq};
 ghost use Rattle.osm_base.specs.Rank.{is_key};
 ghost use Rattle.osm_table.specs.Table.{IsPositive};
-ghost use Rattle.osm_table.specs.Told.{entry_told, told_of, told_at, with_told, with_mention, IsTold, IsToldMap};
+ghost use Rattle.osm_table.specs.Told.{entry_told, told_of, told_at, with_told, with_mention, is_told_there, IsClosed, IsTold, IsToldMap};
 
-use crate::shared_entry::SharedEntry;
+use crate::entry::Base;
+use crate::key_map::{get_near, ordered};
+use crate::shared_entry::{EntryParts, SharedEntry};
 use crate::told::Told;
 use indexmap::IndexMap;
-use osm_base::Key;
+use osm_base::{Key, Keys};
 use std::alloc::{AllocError, Global};
 use std::marker::Model;
 
@@ -24,16 +26,20 @@ use std::marker::Model;
 pub struct ToldMap {
     entries: IndexMap<Key, SharedEntry>,
     mentioned: SharedEntry,
+    /// Nothing is told of as deleted. While that is so a mention needs no look at an entry.
+    all_there: bool,
+    /// Each reference of an object that is told of as living is known to be told of as there.
+    closed: bool,
 }
 
 impl Model for ToldMap {
-    ghost use Rattle.std.specs.Prelude.{◌≡◌};
+    ghost use Rattle.std.specs.Prelude.{◌≡◌, true};
     ghost use Rattle.std.specs.Map.{keys_of};
     ghost use Rattle.std.specs.List.{IsDistinct};
     ghost use Rattle.osm_base.specs.KeyEq.{eq};
     ghost use Rattle.osm_table.specs.declared.entry.Entry.TheVariants.{Incomplete};
-    ghost use Rattle.osm_table.specs.Told.{ToldValue, IsToldMap};
-    ghost use Rattle.osm_table.specs.ToldCode.{told_code, told_kept, AreTold};
+    ghost use Rattle.osm_table.specs.Told.{ToldValue, IsClosed, IsToldMap};
+    ghost use Rattle.osm_table.specs.ToldCode.{told_code, told_kept, AreTold, AreThere};
 
     ghost Value = { ToldValue };
 
@@ -41,7 +47,7 @@ impl Model for ToldMap {
 
     ghost view = { λ m. record { told = told_kept m.entries.entries; order = keys_of m.entries.entries } };
 
-    ghost invariant = { λ m. IsToldMap (told_kept m.entries.entries) × AreTold m.entries.entries × IsDistinct eq (keys_of m.entries.entries) × (m.mentioned ≡ Incomplete) };
+    ghost invariant = { λ m. IsToldMap (told_kept m.entries.entries) × AreTold m.entries.entries × IsDistinct eq (keys_of m.entries.entries) × (m.mentioned ≡ Incomplete) × (m.all_there ≡ true → AreThere (told_kept m.entries.entries)) × (m.closed ≡ true → IsClosed (told_kept m.entries.entries)) };
 }
 
 impl ToldMap {
@@ -55,6 +61,8 @@ impl ToldMap {
         Ok(ToldMap {
             entries: IndexMap::with_capacity(alloc, keys)?,
             mentioned: SharedEntry::told(alloc, Told::Mentioned)?,
+            all_there: true,
+            closed: false,
         })
     }
 
@@ -71,20 +79,23 @@ impl ToldMap {
         self.set(key, entry)
     }
 
-    /// Mentions a key, where nothing is told of it yet. One look-up, and one more for a new key.
+    /// Mentions a key, where nothing is told of it yet, and answers whether it is told of as there.
+    /// One look-up, and one more for a new key.
     ///
     /// # Errors
     /// Answers want of memory, and then nothing has changed.
-    pub fn mention(&mut self, key: Key) -> Result<(), AllocError>
+    pub fn mention(&mut self, key: Key) -> Result<bool, AllocError>
         requires { IsPositive key.id }
         ensures ok { OnOk result (self.new ≡ with_mention self.old key) }
+        ensures there { IfOk result (λ there. there ≡ is_told_there (told_at self.new key)) }
         ensures err { OnErr result (self.new ≡ self.old) }
     {
         match self.get(key) {
-            Some(_) => Ok(()),
+            Some(entry) => Ok(self.all_there || is_there(entry)),
             None => {
                 let entry = self.mentioned.copy()?;
-                self.set(key, entry)
+                self.set(key, entry)?;
+                Ok(true)
             }
         }
     }
@@ -95,8 +106,28 @@ impl ToldMap {
         ensures ok { OnOk result (self.new ≡ with_told self.old key (told_of entry)) }
         ensures err { OnErr result (self.new ≡ self.old) }
     {
+        let all_there = self.all_there && is_there(&entry);
         self.entries.insert(key, entry)?;
+        self.all_there = all_there;
+        self.closed = false;
         Ok(())
+    }
+
+    /// Notes that each reference of an object that is told of as living is told of as there. What
+    /// is told later takes the note away. Costs nothing.
+    pub fn close(&mut self)
+        requires { IsClosed self.old.told }
+        ensures { self.new ≡ self.old }
+    {
+        self.closed = true;
+    }
+
+    /// Whether it is known that each reference of an object that is told of as living is told of as
+    /// there. Costs nothing.
+    pub fn is_closed(&self) -> bool
+        ensures { result ≡ true → IsClosed self.now.told }
+    {
+        self.closed
     }
 
     /// The entry of an object of which no more is known than what is told of this key.
@@ -105,6 +136,15 @@ impl ToldMap {
         ensures told_map { IsToldMap self.now.told }
     {
         self.entries.get(&key)
+    }
+
+    /// As `get`, with a place to look at first, and with the place behind the one where the key
+    /// stands. Who goes over keys in the order in which they were put, each time from the place that
+    /// the last gave, pays no look-up; a key that isn't at the place costs one.
+    pub fn get_near(&self, near: usize, key: Key) -> Option<(usize, &SharedEntry)>
+        ensures { option_map (λ found. found.1.now) result ≡ option_map entry_told (told_at self.now key) }
+    {
+        get_near(&self.entries, near, key)
     }
 
     /// The number of its keys.
@@ -138,11 +178,34 @@ impl ToldMap {
         (*key, entry)
     }
 
+    /// Its keys by rank. Sorts them once, which is one pass where they were put by rank.
+    ///
+    /// # Errors
+    /// Answers want of memory.
+    pub fn ordered(&self) -> Result<Keys, AllocError>
+        ensures { IfOk result (λ keys. keys ≡ map.keys self.now.told) }
+    {
+        ordered(&self.entries)
+    }
+
     /// What every told map keeps. Costs nothing.
     pub fn sound(&self)
         ensures told_map { IsToldMap self.now.told }
         ensures each { (key : Key) → list_any (is_key key) self.now.order ≡ is_some (told_at self.now key) }
     {
         let _ = &self.entries;
+    }
+}
+
+/// Whether an object is told of as there by an entry of which no more is known.
+fn is_there(entry: &SharedEntry) -> bool
+    ensures { result ≡ is_told_there (Some (told_of entry.now)) }
+{
+    match entry.parts() {
+        EntryParts::Incomplete => true,
+        EntryParts::Known { base, .. } => match base {
+            Base::Gone { .. } => false,
+            _ => true,
+        },
     }
 }

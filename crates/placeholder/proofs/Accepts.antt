@@ -1,6 +1,6 @@
 -- A server's answers are taken, and make the confirmed table.
 use Rattle.std.proofs.Common.{◌≡◌, ℕ, ◌+◌, ◌==◌, ◌≤◌, ℤ, pos, negsuc, nat_lt, nat_le, Bool, true, false, cond, is_some, List, [], ◌∷◌, ◌++◌, Option, Result, Ok, Err, refl, ◌∙◌, ap, arith}
-use Rattle.std.proofs.lemmas.Bool.{lt-ltb, le-leb}
+use Rattle.std.proofs.lemmas.Bool.{lt-ltb, le-leb, and_from}
 use Rattle.osm_base.specs.Rank.{is_key}
 use Rattle.osm_base.proofs.RisingKeys.{key_itself}
 use Rattle.osm_table.specs.declared.entry.Entry.{Entry}
@@ -9,7 +9,6 @@ use Rattle.upload_order.specs.declared.change.Change.{Change}
 use Rattle.upload_order.specs.declared.change.Change.TheVariants.{Create, Modify, Delete}
 use Rattle.upload_order.specs.Rename.{Names, called}
 use Rattle.upload_order.specs.Run.{pick_for, picks_left}
-use Rattle.upload_order.proofs.PlanUps.{both_and}
 use Rattle.upload_order.proofs.Ups.{nat_self}
 use Rattle.placeholder.specs.declared.fault.ConfirmFault.{ConfirmFault}
 use Rattle.placeholder.specs.declared.fault.ConfirmFault.TheVariants.{WrongAnswer, IdTaken}
@@ -18,16 +17,16 @@ use Rattle.placeholder.specs.Confirm.{is_given, is_next, is_answer, is_taken, id
 use Rattle.placeholder.specs.Confirmed.{moved_change, named_by, confirmed, confirmed_from, confirmed_all}
 
 given_back : (id : ℤ) → IsPositive id → is_given id ≡ true
-given_back (pos n) h = both_and (nat_lt 0 n) (nat_le n 1000000000000000000) (lt-ltb 0 n (omega (arith, h.0))) (le-leb n 1000000000000000000 h.1)
+given_back (pos n) h = and_from (nat_lt 0 n) (nat_le n 1000000000000000000) (lt-ltb 0 n (omega (arith, h.0))) (le-leb n 1000000000000000000 h.1)
 given_back (negsuc n) h = absurd h
 
 next_back : (v : ℕ) → v + 1 ≤ 2000000000 → is_next v (v + 1) ≡ true
-next_back v h = both_and (nat_lt v 2000000000) (v + 1 == v + 1) (lt-ltb v 2000000000 (omega (arith, h))) (nat_self (v + 1))
+next_back v h = and_from (nat_lt v 2000000000) (v + 1 == v + 1) (lt-ltb v 2000000000 (omega (arith, h))) (nat_self (v + 1))
 
 is_one : (c : Change) (ps : List ℤ) → IsWithin c (pick_for c ps) → is_answer c (answer_of c (pick_for c ps)) ≡ true
-is_one (Create k c) ps h = both_and (is_key k k) (is_given (pick_for (Create k c) ps)) (key_itself k) (given_back (pick_for (Create k c) ps) h)
-is_one (Modify k v c) ps h = both_and (is_key k k) (is_next v (v + 1)) (key_itself k) (next_back v h)
-is_one (Delete k v) ps h = both_and (is_key k k) (is_next v (v + 1)) (key_itself k) (next_back v h)
+is_one (Create k c) ps h = and_from (is_key k k) (is_given (pick_for (Create k c) ps)) (key_itself k) (given_back (pick_for (Create k c) ps) h)
+is_one (Modify k v c) ps h = and_from (is_key k k) (is_next v (v + 1)) (key_itself k) (next_back v h)
+is_one (Delete k v) ps h = and_from (is_key k k) (is_next v (v + 1)) (key_itself k) (next_back v h)
 
 not_taken : (u : TableValue) (c : Change) (ps : List ℤ) → IsNewTo u c (pick_for c ps) → is_taken u (answer_of c (pick_for c ps)) ≡ false
 not_taken u (Create k c) ps h = ap (λ (o : Option Entry). is_some o) h

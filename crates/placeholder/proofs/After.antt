@@ -1,5 +1,6 @@
 -- After the answers to any number of first changes the table is again clear to be sent, and its plan is the rest.
 use Rattle.std.proofs.Common.{◌≡◌, ℕ, ◌+◌, ℤ, List, [], ◌∷◌, ◌++◌, map, Option, Some, None, refl, sym, ◌∙◌, ap, subst, inl, inr}
+use Rattle.std.proofs.lemmas.Bool.{cases_Bool}
 use Rattle.osm_base.specs.Rank.{is_key}
 use Rattle.osm_base.specs.Meta.{empty_meta}
 use Rattle.osm_base.specs.declared.key.Key.{Key}
@@ -13,15 +14,15 @@ use Rattle.renamed_content.specs.Renamed.{renamed}
 use Rattle.upload_order.specs.Run.{Ran, Ended, Stopped, on_refusal, run_from, pick_for, picks_left, picked, IsAmong, AreFresh}
 use Rattle.upload_order.specs.World.{World, Accepts, IsEdited, Refusal, IsFresh, refusal, after}
 use Rattle.upload_order.proofs.Accepted.{plan_accepted}
-use Rattle.upload_order.proofs.Basics.{decide}
 use Rattle.upload_order.proofs.Runs.{sound_backs, runs_through, accepts_front, fresh_first, fresh_rest, other_pick}
-use Rattle.placeholder.specs.Answers.{IsNewTo, AreNew, AreNewFrom, IsAnswer, IsWithin, AreAnswers}
+use Rattle.placeholder.specs.Answers.{IsNewTo, AreNew, AreNewFrom, IsAnswer, AreAnswers}
 use Rattle.placeholder.specs.Confirmed.{based_on, moved_change, named_by, confirmed, confirmed_from, confirmed_all, names_from, names_of}
 use Rattle.placeholder.specs.Resumed.{IsReady}
 use Rattle.placeholder.proofs.LookUps.{made_none, set_none}
 use Rattle.placeholder.proofs.Names.{AreAmong, head_name, tail_name, changes_stay, after_same}
 use Rattle.placeholder.proofs.Named.{AreNamed, IsGivenTo, known_moved, named_again, left_again, none_named}
 use Rattle.placeholder.proofs.Resumed.{IsKnownIn, first_known, ready_again, rest_again}
+use Rattle.placeholder.proofs.Steadily.{within_moved}
 
 -- What is asked of a change with other references, and what follows it.
 module _ (f : Key → Key) where
@@ -29,11 +30,6 @@ module _ (f : Key → Key) where
   fresh_moved w t (Create k c) p h = h
   fresh_moved w t (Modify k v c) p h = h
   fresh_moved w t (Delete k v) p h = h
-
-  within_moved : (c : Change) (p : ℤ) → IsWithin c p → IsWithin (moved_change f c) p
-  within_moved (Create k c) p h = h
-  within_moved (Modify k v c) p h = h
-  within_moved (Delete k v) p h = h
 
 fresh_table : (w : World) (t u : TableValue) (cs : List Change) (ps : List ℤ) → ((q : Key) → IsAmong q (picked cs ps) → entry_of t q ≡ None → entry_of u q ≡ None) → AreFresh w t cs ps → AreFresh w u cs ps
 fresh_table w t u [] ps h f = tt
@@ -53,8 +49,8 @@ fresh_confirmed f w v t (Delete k x) cs ps known fresh later =
     fresh_table v t (with_entry t k (based_on (Gone (x + 1) empty_meta) (entry_of t k))) cs ps (λ q i n. set_none t k q known.0 (based_on (Gone (x + 1) empty_meta) (entry_of t k)) known.1 n) later
 
 -- the server has the names too
-among_again : (ns : Names) (w : World) (c : Change) (p : ℤ) → AreAmong ns w.names → AreAmong (named_by c p ns) (after w c p).names
-among_again ns w (Create k c) p m = λ r x h. elim (decide (is_key r k)) [
+pub among_again : (ns : Names) (w : World) (c : Change) (p : ℤ) → AreAmong ns w.names → AreAmong (named_by c p ns) (after w c p).names
+among_again ns w (Create k c) p m = λ r x h. elim (cases_Bool (is_key r k)) [
   | inl i ↦ head_name k p w.names r i ∙ sym (head_name k p ns r i) ∙ h
   | inr i ↦ tail_name k p w.names r i ∙ m r x (sym (tail_name k p ns r i) ∙ h)
 ]

@@ -1,5 +1,6 @@
 -- After one object was changed on the server the table is again clear to be sent, and its plan is the rest.
 use Rattle.std.proofs.Common.{◌≡◌, ◌+◌, ◌≤◌, Bool, true, false, not, List, ◌∷◌, ◌++◌, map, length, Option, Some, None, refl, sym, ◌∙◌, ap, subst, inl, inr, arith}
+use Rattle.std.proofs.lemmas.Bool.{and_parts, and_from, cases_Bool}
 use Rattle.std.specs.Option.{option_map_or}
 use Rattle.osm_base.specs.Rank.{is_key}
 use Rattle.osm_base.specs.Content.{refers, fits}
@@ -10,6 +11,7 @@ use Rattle.osm_base.specs.declared.key.Key.{Key}
 use Rattle.osm_base.specs.declared.content.Content.{Content}
 use Rattle.osm_base.proofs.RisingKeys.{one_key, key_itself}
 use Rattle.osm_base.proofs.SameLaws.{same_content_decides}
+use Rattle.osm_base.proofs.Tests.{never, some_passed}
 use Rattle.osm_table.specs.declared.entry.Entry.{Entry}
 use Rattle.osm_table.specs.declared.entry.Entry.TheVariants.{Known}
 use Rattle.osm_table.specs.declared.entry.Base.TheVariants.{Live}
@@ -26,23 +28,23 @@ use Rattle.upload_order.specs.Refused.{is_open, vouches, keeps}
 use Rattle.upload_order.specs.Rename.{called}
 use Rattle.renamed_content.specs.Renamed.{renamed}
 use Rattle.upload_order.specs.World.{World, WorldEntry, content_in, Holds, Alone, put_in}
-use Rattle.upload_order.proofs.Along.{at_is, passed, means_itself}
-use Rattle.upload_order.proofs.Basics.{decide, true_false, both, at_key_put, at_other}
+use Rattle.upload_order.proofs.Along.{at_is, means_itself, new_rising, up_based}
+use Rattle.upload_order.proofs.Basics.{both, at_key_put, at_other}
 use Rattle.upload_order.proofs.Conditions.{Sound}
 use Rattle.upload_order.proofs.Entries.{IsIn, map_in}
 use Rattle.upload_order.proofs.PlanDowns.{downs_ordered}
-use Rattle.upload_order.proofs.PlanUps.{and_both, both_and}
 use Rattle.upload_order.proofs.Renaming.{renamed_itself}
 use Rattle.upload_order.proofs.Sounds.{sound_of, positive_is}
 use Rattle.upload_order.proofs.Static.{IsUp}
 use Rattle.upload_order.proofs.Where.{keys_where, rising_of, falling_of, falling_items, falling_both, in_where}
 use Rattle.upload_order.proofs.Worlds.{called_meant}
+use Rattle.upload_order.proofs.Turn.{mine_stays}
 use Rattle.placeholder.proofs.Alike.{fall_same, steps_same, ups_same}
 use Rattle.placeholder.proofs.Clear.{IsClear}
 use Rattle.placeholder.proofs.Parts.{not_rising, not_falling}
 use Rattle.placeholder.proofs.Rest.{same_where, without_where, ups_again, stuck_again, once, ordered}
 use Rattle.placeholder.proofs.Settled.{IsServed, settled_sound, answered_up}
-use Rattle.placeholder.proofs.Whole.{given_id, up_falls, based_up, new_up, first_calm}
+use Rattle.placeholder.proofs.Whole.{given_id, first_calm}
 
 -- The first change of t changes the object of k on the server, and u has its answer.
 module _ (t : TableValue) (is : IsSound t) (ok : IsClear t) (k : Key) (e : Entry) (c : Content) (up : IsUp t k e c) (old : is_new (base_in e) ≡ false) (ks : List Key) (head : ups t ≡ k ∷ ks) (bound : version_of (base_in e) + 1 ≤ 2000000000) where
@@ -63,14 +65,14 @@ module _ (t : TableValue) (is : IsSound t) (ok : IsClear t) (k : Key) (e : Entry
 
   -- an entry of u is the new one, or one of t
   cases_u : (P : Key → Entry → Type 0) → ((j : Key) (f : Entry) → is_key j k ≡ false → entry_of t j ≡ Some f → P j f) → P k e2 → (j : Key) (f : Entry) → entry_of answered j ≡ Some f → P j f
-  cases_u P there here j f h = elim (decide (is_key j k)) [
+  cases_u P there here j f h = elim (cases_Bool (is_key j k)) [
     | inl i ↦ subst (λ (x : Key). P x f) (sym (one_key j k i)) (subst (λ (x : Entry). P k x) (both e2 f (entry_of answered j) (at_u j i) h) here)
     | inr i ↦ there j f i (sym (off_u j i) ∙ h)
   ]
 
   back : (test : Key → Entry → Bool) → ((j : Key) → test j e2 ≡ false) → (j : Key) (f : Entry) → entry_of answered j ≡ Some f → test j f ≡ true → (is_key j k ≡ false) × ((g : Entry) × (entry_of t j ≡ Some g) × (test j g ≡ true))
-  back test idle j f h g = elim (decide (is_key j k)) [
-    | inl i ↦ true_false (test j f) g (ap (test j) (both f e2 (entry_of answered j) h (at_u j i)) ∙ idle j)
+  back test idle j f h g = elim (cases_Bool (is_key j k)) [
+    | inl i ↦ never (test j f) g (ap (test j) (both f e2 (entry_of answered j) h (at_u j i)) ∙ idle j)
     | inr i ↦ (i, (f, sym (off_u j i) ∙ h, g))
   ]
 
@@ -94,8 +96,8 @@ module _ (t : TableValue) (is : IsSound t) (ok : IsClear t) (k : Key) (e : Entry
 
   -- k doesn't fall
   not_fallen : (j : Key) (f : Entry) → entry_of t j ≡ Some f → is_falling f ≡ true → is_key j k ≡ false
-  not_fallen j f h g = elim (decide (is_key j k)) [
-    | inl i ↦ true_false (is_falling f) g (ap is_falling (both f e (entry_of t k) (ap (entry_of t) (sym (one_key j k i)) ∙ h) up.entry) ∙ up_falls e c up.mine)
+  not_fallen j f h g = elim (cases_Bool (is_key j k)) [
+    | inl i ↦ never (is_falling f) g (ap is_falling (both f e (entry_of t k) (ap (entry_of t) (sym (one_key j k i)) ∙ h) up.entry) ∙ mine_stays e c up.mine)
     | inr i ↦ i
   ]
 
@@ -121,7 +123,7 @@ module _ (t : TableValue) (is : IsSound t) (ok : IsClear t) (k : Key) (e : Entry
   -- The plan of u is the rest of the plan of t.
   pub plan_rest : plan t ≡ up_of t k ∷ plan answered
   plan_rest =
-      let not_k : (j : Key) → IsIn j ks → is_key j k ≡ false = λ j i. elim (decide (is_key j k)) [
+      let not_k : (j : Key) → IsIn j ks → is_key j k ≡ false = λ j i. elim (cases_Bool (is_key j k)) [
         | inl x ↦ absurd (once t answered s ok.no_stuck k ks head rising updates same (subst (λ (y : Key). IsIn y ks) (one_key j k x) i))
         | inr x ↦ x
       ] in
@@ -131,7 +133,7 @@ module _ (t : TableValue) (is : IsSound t) (ok : IsClear t) (k : Key) (e : Entry
       ∙ ap (λ (cs : List Change). up_of t k ∷ (map (up_of answered) (ups answered) ++ cs)) (steps_same t answered (λ j f h g. ap version_at (sym (off_u j (not_fallen j f h g)))) _ d.0 (downs t) d.1 ∙ ap (map (down_of answered)) downs_rest)
 
   based : is_based e ≡ true
-  based = based_up e c up.mine old
+  based = up_based e c up.mine old
 
   -- k comes first, so its mine refers to no rising key
   calm : (r : Key) → refers c r ≡ true → at_key t is_rising r ≡ true → ⊥
@@ -139,10 +141,10 @@ module _ (t : TableValue) (is : IsSound t) (ok : IsClear t) (k : Key) (e : Entry
 
   positive_key : (r : Key) → refers c r ≡ true → IsPositive r.id
   positive_key r h = elim (s.refs k r e c up.entry up.mine h) [
-    | inl i ↦ (let p = passed is_incomplete (entry_of t r) i in given_id t is r p.0 p.1 (inl p.2))
-    | inr l ↦ (elim (decide (is_new (base_in l.0))) [
-      | inl n ↦ absurd (calm r h (at_is t is_rising r l.0 true l.2 (new_up l.0 l.1 l.3 n)))
-      | inr n ↦ given_id t is r l.0 l.2 (inr (based_up l.0 l.1 l.3 n))
+    | inl i ↦ (let p = some_passed is_incomplete (entry_of t r) i in given_id t is r p.0 p.1 (inl p.2))
+    | inr l ↦ (elim (cases_Bool (is_new (base_in l.0))) [
+      | inl n ↦ absurd (calm r h (at_is t is_rising r l.0 true l.2 (new_rising l.0 l.1 l.3 n)))
+      | inr n ↦ given_id t is r l.0 l.2 (inr (up_based l.0 l.1 l.3 n))
     ])
   ]
 
@@ -159,13 +161,13 @@ module _ (t : TableValue) (is : IsSound t) (ok : IsClear t) (k : Key) (e : Entry
 
   -- A voucher still vouches.
   vouches_again : (w r : Key) (f : Entry) → entry_of t w ≡ Some f → vouches f r ≡ true → (u : Key) × (g : Entry) × (entry_of answered u ≡ Some g) × (vouches g r ≡ true)
-  vouches_again w r f h v = elim (decide (is_key w k)) [
+  vouches_again w r f h v = elim (cases_Bool (is_key w k)) [
     | inr i ↦ (w, f, off_u w i ∙ h, v)
     | inl i ↦ (
         let one : f ≡ e = both f e (entry_of t k) (ap (entry_of t) (sym (one_key w k i)) ∙ h) up.entry in
-        let x = (and_both (option_map_or (λ c. refers c r) (held_of e) false) (keeps (mine_of e) r) (ap (λ (y : Entry). vouches y r) (sym one) ∙ v)).1 in
+        let x = (and_parts (option_map_or (λ c. refers c r) (held_of e) false) (keeps (mine_of e) r) (ap (λ (y : Entry). vouches y r) (sym one) ∙ v)).1 in
         let y : refers c r ≡ true = ap (λ o. option_map_or (λ c. refers c r) o true) (sym up.mine) ∙ x in
-        (k, e2, at_u k (key_itself k), both_and (refers c r) (refers c r) y y))
+        (k, e2, at_u k (key_itself k), and_from (refers c r) (refers c r) y y))
   ]
 
   pub clear_again : IsClear answered
@@ -173,10 +175,10 @@ module _ (t : TableValue) (is : IsSound t) (ok : IsClear t) (k : Key) (e : Entry
     no_conflict = λ j f h. cases_u (λ j f. is_open f ≡ false) (λ j f n x. ok.no_conflict j f x) refl j f h;
     vouched = λ j r f d h m sent g i. cases_u (λ j f. (d : Content) → mine_of f ≡ Some d → is_sent f ≡ true → refers d r ≡ true → (u : Key) × (g : Entry) × (entry_of answered u ≡ Some g) × (vouches g r ≡ true))
         (λ j f n x d m sent g.
-        let away : is_key r k ≡ false = elim (decide (is_key r k)) [ inl y ↦ (let z : at_key answered is_incomplete r ≡ false = ap (λ (o : Option Entry). option_map_or is_incomplete o false) (at_u r y) in true_false (at_key answered is_incomplete r) i z) | inr y ↦ y ] in
+        let away : is_key r k ≡ false = elim (cases_Bool (is_key r k)) [ inl y ↦ (let z : at_key answered is_incomplete r ≡ false = ap (λ (o : Option Entry). option_map_or is_incomplete o false) (at_u r y) in never (at_key answered is_incomplete r) i z) | inr y ↦ y ] in
         let v = ok.vouched j r f d x m sent g (ap (λ (o : Option Entry). option_map_or is_incomplete o false) (sym (off_u r away)) ∙ i) in
         vouches_again v.0 r v.1 v.2 v.3)
-        (λ d m sent g. true_false (is_sent e2) sent no_update) j f h d m sent g;
+        (λ d m sent g. never (is_sent e2) sent no_update) j f h d m sent g;
     no_stuck = stuck_again t answered s ok.no_stuck k ks head rising updates same;
   }
 
@@ -188,7 +190,7 @@ module _ (t : TableValue) (is : IsSound t) (ok : IsClear t) (k : Key) (e : Entry
     kept_refs = renamed_itself (called w.names) c (λ r h. called_meant w.names r r (means_itself w.names r (positive_is r.id (positive_key r h))))
 
     pub holds_again : Holds w2 answered
-    holds_again j f h b = elim (decide (is_key j k)) [
+    holds_again j f h b = elim (cases_Bool (is_key j k)) [
       | inl i ↦ (
           let one : e2 ≡ f = both e2 f (entry_of answered j) (at_u j i) h in
           at_key_put w.entries k j _ i
@@ -199,7 +201,7 @@ module _ (t : TableValue) (is : IsSound t) (ok : IsClear t) (k : Key) (e : Entry
 
     pub alone_again : Alone w2 answered
     alone_again q r d n h f =
-        let away : is_key q k ≡ false = elim (decide (is_key q k)) [ inl i ↦ (let z : at_key answered is_based q ≡ true = ap (λ (o : Option Entry). option_map_or is_based o false) (at_u q i) in true_false (at_key answered is_based q) z n) | inr i ↦ i ] in
-        let p = passed is_falling (entry_of answered r) f in
+        let away : is_key q k ≡ false = elim (cases_Bool (is_key q k)) [ inl i ↦ (let z : at_key answered is_based q ≡ true = ap (λ (o : Option Entry). option_map_or is_based o false) (at_u q i) in never (at_key answered is_based q) z n) | inr i ↦ i ] in
+        let p = some_passed is_falling (entry_of answered r) f in
         let g = back (λ j e. is_falling e) (λ j. refl) r p.0 p.1 p.2 in
         alone q r d (ap (λ (o : Option Entry). option_map_or is_based o false) (sym (off_u q away)) ∙ n) (sym (ap content_in (at_other w.entries k q _ away)) ∙ h) (at_is t is_falling r g.1.0 true g.1.1 g.1.2)

@@ -1,11 +1,13 @@
 -- What a table is that is clear to be sent.
 use Rattle.std.proofs.Common.{◌≡◌, Bool, true, false, not, ◌&&◌, is_some, cond, List, [], ◌∷◌, Option, Some, None, refl, sym, ◌∙◌, ap, inl, inr}
+use Rattle.std.proofs.lemmas.Bool.{cases_Bool, and_right, not_from_true}
 use Rattle.std.specs.List.{list_any, find, filter}
 use Rattle.std.specs.Option.{option_map_or, option_map, option_or}
 use Rattle.std.specs.FinMap as fin
 use Rattle.osm_base.specs.Content.{refers, refs_of}
 use Rattle.osm_base.specs.declared.key.Key.{Key}
 use Rattle.osm_base.specs.declared.content.Content.{Content}
+use Rattle.osm_base.proofs.Tests.{never, some_passed, none_of_both}
 use Rattle.osm_table.specs.declared.entry.Entry.{Entry}
 use Rattle.osm_table.specs.Table.{TableValue, entry_of, keys_by_rank, mine_of, is_incomplete}
 use Rattle.upload_order.specs.declared.refusal.PlanRefusal.{PlanRefusal}
@@ -13,8 +15,7 @@ use Rattle.upload_order.specs.declared.refusal.PlanRefusal.TheVariants.{Incomple
 use Rattle.upload_order.specs.Kinds.{at_key, is_sent}
 use Rattle.upload_order.specs.Plan.{made}
 use Rattle.upload_order.specs.Refused.{is_open, open_of, open_refusal, vouches, vouches_at, is_loose, refs_sent, loose_of, loose_among, loose_refusal, stuck_of, stuck_refusal, upload_refusal}
-use Rattle.upload_order.proofs.Basics.{decide, true_false}
-use Rattle.upload_order.proofs.ClearLaw.{or_none, none_among, and_not, entry_is, clear_stuck}
+use Rattle.upload_order.proofs.ClearLaw.{none_among, and_not, entry_is, clear_stuck}
 use Rattle.upload_order.proofs.Entries.{IsIn, find_none, none_found, in_filter, filter_in, any_in, in_any}
 use Rattle.upload_order.proofs.Lists.{any_is, any_of}
 
@@ -35,19 +36,15 @@ pub no_member : {A : Type 0} (xs : List A) → ((x : A) → IsIn x xs → ⊥) �
 no_member [] h = refl
 no_member (x ∷ xs) h = absurd (h x (inl refl))
 
-entry_at : (test : Entry → Bool) (o : Option Entry) → option_map_or test o false ≡ true → (e : Entry) × (o ≡ Some e) × (test e ≡ true)
-entry_at test None h = cc
-entry_at test (Some e) h = (e, refl, h)
-
 -- a table that isn't refused is clear
 pub is_clear : (t : TableValue) → upload_refusal t ≡ None → IsClear t
 is_clear t h = record {
-  no_conflict = λ k e is. elim (decide (is_open e)) [
-    | inl o ↦ absurd (not_open (filter (at_key t is_open) (keys_by_rank t)) (or_none (open_refusal t) _ h).0 k (filter_in (at_key t is_open) (keys_by_rank t) k (is_there t k e is) (ap (λ x. option_map_or is_open x false) is ∙ o)))
+  no_conflict = λ k e is. elim (cases_Bool (is_open e)) [
+    | inl o ↦ absurd (not_open (filter (at_key t is_open) (keys_by_rank t)) (none_of_both (open_refusal t) _ h).0 k (filter_in (at_key t is_open) (keys_by_rank t) k (is_there t k e is) (ap (λ x. option_map_or is_open x false) is ∙ o)))
     | inr o ↦ o
   ];
   vouched = λ k r e c is m sent f i.
-      let none = (or_none (loose_refusal t) (stuck_refusal t) (or_none (open_refusal t) _ h).1).0 in
+      let none = (none_of_both (loose_refusal t) (stuck_refusal t) (none_of_both (open_refusal t) _ h).1).0 in
       let refs : refs_sent (entry_of t k) ≡ refs_of c =
       ap refs_sent is ∙ ap (λ b. cond b (option_map_or refs_of (mine_of e) []) []) sent ∙ ap (λ (o : Option Content). option_map_or refs_of o []) m in
       let not_loose = none_found (is_loose t) (refs_of c) r (ap (find (is_loose t)) (sym refs) ∙ none_among (is_loose t) t (keys_by_rank t) k none (is_there t k e is)) (any_in (refs_of c) r f) in
@@ -71,23 +68,18 @@ sent_ref : (o : Option Entry) (r : Key) → IsIn r (refs_sent o) → (e : Entry)
 sent_ref None r i = absurd i
 sent_ref (Some e) r i = let x = sent_case (is_sent e) (mine_of e) r i in (e, x.1.0, refl, x.1.1, x.0, in_any (refs_of x.1.0) r x.1.2)
 
-and_true : (a b : Bool) → b ≡ true → (a && not b) ≡ false
-and_true true true e = refl
-and_true true false e = cc
-and_true false b e = refl
-
 -- and a clear one isn't refused
 pub not_refused : (t : TableValue) → IsClear t → upload_refusal t ≡ None
 not_refused t ok =
     let none_open : open_refusal t ≡ None = ap open_of (no_member (filter (at_key t is_open) (keys_by_rank t)) (λ k i.
-    let x = entry_at is_open (entry_of t k) (in_filter (at_key t is_open) (keys_by_rank t) k i).1 in
-    true_false (is_open x.0) x.2 (ok.no_conflict k x.0 x.1))) in
+    let x = some_passed is_open (entry_of t k) (in_filter (at_key t is_open) (keys_by_rank t) k i).1 in
+    never (is_open x.0) x.2 (ok.no_conflict k x.0 x.1))) in
     let loose : loose_refusal t ≡ None = none_of_any (is_loose t) t (keys_by_rank t) (λ k. find_none (is_loose t) (refs_sent (entry_of t k)) (λ r i.
-    elim (decide (at_key t is_incomplete r)) [
+    elim (cases_Bool (at_key t is_incomplete r)) [
       | inl y ↦ (
           let x = sent_ref (entry_of t k) r i in
           let v = ok.vouched k r x.0 x.1 x.2 x.3 x.4 x.5 y in
-          and_true (at_key t is_incomplete r) (list_any (vouches_at t r) (keys_by_rank t)) (any_of (vouches_at t r) (keys_by_rank t) v.0 (is_there t v.0 v.1 v.2) (ap (λ o. option_map_or (λ e. vouches e r) o false) v.2 ∙ v.3)))
+          and_right (at_key t is_incomplete r) _ (not_from_true (list_any (vouches_at t r) (keys_by_rank t)) (any_of (vouches_at t r) (keys_by_rank t) v.0 (is_there t v.0 v.1 v.2) (ap (λ o. option_map_or (λ e. vouches e r) o false) v.2 ∙ v.3))))
       | inr n ↦ ap (λ b. b && not (list_any (vouches_at t r) (keys_by_rank t))) n
     ])) in
     let stuck : stuck_refusal t ≡ None = ap stuck_of ok.no_stuck in

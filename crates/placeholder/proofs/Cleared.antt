@@ -1,5 +1,6 @@
 -- After one relation was emptied on the server, the steps down are the rest.
 use Rattle.std.proofs.Common.{◌≡◌, ℕ, zero, suc, ◌+◌, ◌≤◌, Bool, true, false, cond, not, ◌&&◌, ◌||◌, List, [], ◌∷◌, map, length, Option, Some, None, refl, sym, ◌∙◌, ap, subst, inl, inr, arith}
+use Rattle.std.proofs.lemmas.Bool.{and_parts, not-true, cases_Bool}
 use Rattle.std.specs.List.{list_any, find}
 use Rattle.std.specs.Option.{option_map}
 use Rattle.osm_base.specs.Rank.{is_key}
@@ -12,11 +13,11 @@ use Rattle.upload_order.specs.Kinds.{held_refers}
 use Rattle.upload_order.specs.Fall.{Item, whole, item_uses, is_unused, uses_some, without_item, emptied, fall, fall_next, fall_clear}
 use Rattle.upload_order.specs.declared.down.Down.TheVariants.{Clear, Remove}
 use Rattle.osm_base.proofs.RisingKeys.{one_key, key_itself}
-use Rattle.upload_order.proofs.Basics.{decide, true_false}
+use Rattle.osm_base.proofs.Tests.{never}
 use Rattle.upload_order.proofs.Entries.{IsIn, found_in, in_filter, in_map, map_in}
-use Rattle.upload_order.proofs.PlanUps.{and_both}
-use Rattle.upload_order.proofs.PlanDowns.{not_true, weight, lighter_drop, lighter_mark, positive_worth}
+use Rattle.upload_order.proofs.PlanDowns.{weight, lighter_drop, lighter_mark, positive_worth}
 use Rattle.upload_order.proofs.Lists.{any_is}
+use Rattle.upload_order.proofs.Basics.{with_more}
 
 -- t has k emptied among its items; in u the object of k is empty, and k stands as one that was not emptied
 abbrev pub unmarked : Key → Item → Item
@@ -32,7 +33,7 @@ module _ (t u : TableValue) (k : Key) (empty : (r : Key) → held_refers u k r �
     pub version : (i : Item) → IsIn i items → is_key i.0 k ≡ false → version_at (entry_of t i.0) ≡ version_at (entry_of u i.0)
 
   use_same : (items : List Item) (a : Alike items) (i j : Item) → IsIn i items → IsIn j items → item_uses (held_refers u) j.0 (g i) ≡ item_uses (held_refers t) j.0 i
-  use_same items a i j x y = elim (decide (is_key i.0 k)) [
+  use_same items a i j x y = elim (cases_Bool (is_key i.0 k)) [
     | inl m ↦ (λ l. (not (cond (m l) false i.1) && held_refers u (one_key i.0 k m l) j.0)) ∙ empty j.0 ∙ sym (ap (λ b. not b && held_refers t i.0 j.0) (a.marked i x m))
     | inr m ↦ (λ l. (not (cond (m l) false i.1) && held_refers u i.0 j.0)) ∙ ap (λ b. not i.1 && b) (sym (a.held i j x y m))
   ]
@@ -88,18 +89,15 @@ module _ (t u : TableValue) (k : Key) (empty : (r : Key) → held_refers u k r �
     marked = λ x m h.
         let v = map_in (emptied j) items x m in
         let e : v.0.0 ≡ x.0 = ap (λ (z : Item). z.0) v.2 in
-        ap (λ (z : Item). z.1) (sym v.2) ∙ still (is_key v.0.0 j) v.0.1 (a.marked v.0 v.1 (ap (λ (z : Key). is_key z k) e ∙ h));
+        ap (λ (z : Item). z.1) (sym v.2) ∙ with_more (is_key v.0.0 j) v.0.1 (a.marked v.0 v.1 (ap (λ (z : Key). is_key z k) e ∙ h));
     version = λ x m h.
         let v = map_in (emptied j) items x m in
         let e : v.0.0 ≡ x.0 = ap (λ (z : Item). z.0) v.2 in
         subst (λ (z : Key). version_at (entry_of t z) ≡ version_at (entry_of u z)) e (a.version v.0 v.1 (ap (λ (z : Key). is_key z k) e ∙ h));
-  } where
-    still : (b c : Bool) → c ≡ true → cond b true c ≡ true
-    still true c e = refl
-    still false c e = e
+  }
 
   remove_same : (items : List Item) (a : Alike items) (i : Item) → IsIn i items → down_of t (Remove i.0 i.1) ≡ down_of u (Remove i.0 (g i).1)
-  remove_same items a i x = elim (decide (is_key i.0 k)) [
+  remove_same items a i x = elim (cases_Bool (is_key i.0 k)) [
     | inl m ↦ (
         let one : i.0 ≡ k = one_key i.0 k m in
         ap (λ b. let d : Change = Delete i.0 (later b (version_at (entry_of t i.0))) in d) (a.marked i x m)
@@ -127,8 +125,8 @@ module _ (t u : TableValue) (k : Key) (empty : (r : Key) → held_refers u k r �
   clear_step n m go items h l a (Some i) e =
       let f = found_in (uses_some (held_refers t) items) items i e in
       let j = any_is (λ j. item_uses (held_refers t) j.0 i) items f.1 in
-      let whole : i.1 ≡ false = not_true i.1 (and_both (not i.1) (held_refers t i.0 j.0.0) j.2).0 in
-      let away : is_key i.0 k ≡ false = elim (decide (is_key i.0 k)) [ inl x ↦ true_false i.1 (a.marked i f.0 x) whole | inr x ↦ x ] in
+      let whole : i.1 ≡ false = not-true i.1 (and_parts (not i.1) (held_refers t i.0 j.0.0) j.2).0 in
+      let away : is_key i.0 k ≡ false = elim (cases_Bool (is_key i.0 k)) [ inl x ↦ never i.1 (a.marked i f.0 x) whole | inr x ↦ x ] in
       let here = in_map g items i f.0 in
       let down : (g i).1 ≡ false = ap (λ b. cond b false i.1) away ∙ whole in
       let less = lighter_mark i.0 items i f.0 refl whole in

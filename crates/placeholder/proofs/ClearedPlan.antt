@@ -1,5 +1,6 @@
 -- The plan after a relation was emptied is the rest of the plan.
 use Rattle.std.proofs.Common.{◌≡◌, ℕ, zero, suc, ◌+◌, ◌≤◌, Bool, true, false, cond, not, List, [], ◌∷◌, ◌++◌, map, length, Option, Some, None, refl, sym, ◌∙◌, ap, subst, ◌⊎◌, inl, inr, arith}
+use Rattle.std.proofs.lemmas.Bool.{and_parts, not-true, cases_Bool}
 use Rattle.std.specs.List.{find}
 use Rattle.osm_base.specs.declared.key.Kind.TheVariants as kind
 use Rattle.osm_base.specs.Rank.{is_key}
@@ -15,20 +16,21 @@ use Rattle.upload_order.specs.Plan.{empty_relation, plain_removes, downs, down_o
 use Rattle.upload_order.specs.Bases.{base_in}
 use Rattle.upload_order.specs.Kinds.{is_falling, held_refers, held_at, content_refers}
 use Rattle.osm_base.specs.Meta.{empty_meta}
-use Rattle.upload_order.proofs.PlanUps.{kind_is, and_both, kind_self}
+use Rattle.upload_order.proofs.PlanUps.{kind_is, kind_self}
 use Rattle.upload_order.proofs.Where.{falling_of, falling_both, keys_where, falling_items, in_where}
 use Rattle.upload_order.specs.Fall.{Item, is_unused, uses_some, item_uses, without_item, emptied, fall, falls, fall_next, fall_clear}
 use Rattle.upload_order.specs.declared.down.Down.{Down}
 use Rattle.upload_order.specs.declared.down.Down.TheVariants.{Clear, Remove}
 use Rattle.osm_base.proofs.RisingKeys.{one_key, key_itself}
-use Rattle.upload_order.proofs.Basics.{decide, true_false, both, at_key_put, at_other}
+use Rattle.osm_base.proofs.Tests.{never}
+use Rattle.upload_order.proofs.Basics.{both, at_key_put, at_other}
 use Rattle.upload_order.proofs.Entries.{IsIn, found_in, map_in}
 use Rattle.upload_order.proofs.Lists.{any_is}
-use Rattle.upload_order.proofs.PlanDowns.{not_true, weight, lighter_mark}
+use Rattle.upload_order.proofs.PlanDowns.{weight, lighter_mark}
+use Rattle.upload_order.proofs.Downs.{version_case}
 use Rattle.placeholder.proofs.Rest.{same_where}
 use Rattle.placeholder.proofs.Cleared.{unmarked, Alike, cleared_same, whole_weight}
 use Rattle.placeholder.proofs.Parts.{falling_alike}
-use Rattle.placeholder.proofs.Whole.{version_case}
 
 abbrev cleared_key : Key → List Down → Key
 cleared_key d [] = d
@@ -87,11 +89,11 @@ module _ (t : TableValue) (k : Key) (e : Entry) (entry : entry_of t k ≡ Some e
 
   falling : (kd : Kind) → keys_where t (falling_of kd) ≡ keys_where u (falling_of kd)
   falling kd = same_where t u (falling_of kd) (falling_of kd)
-      (λ j f h g. elim (decide (is_key j k)) [
+      (λ j f h g. elim (cases_Bool (is_key j k)) [
         | inl i ↦ (e2, at_u j i, sym (falling_alike kd j.kind f e2 (ap is_falling (both f e (entry_of t k) (ap (entry_of t) (sym (one_key j k i)) ∙ h) entry) ∙ still_falls)) ∙ g)
         | inr i ↦ (f, off_u j i ∙ h, g)
       ])
-      (λ j f h g. elim (decide (is_key j k)) [
+      (λ j f h g. elim (cases_Bool (is_key j k)) [
         | inl i ↦ (e, ap (entry_of t) (one_key j k i) ∙ entry, falling_alike kd j.kind e f (still_falls ∙ ap is_falling (both e2 f (entry_of u j) (at_u j i) h)) ∙ g)
         | inr i ↦ (f, sym (off_u j i) ∙ h, g)
       ])
@@ -107,9 +109,9 @@ module _ (t : TableValue) (k : Key) (e : Entry) (entry : entry_of t k ≡ Some e
   kept kd n x i =
       let y = in_where t (falling_of kd) x i in
       let z = (falling_both kd x.kind y.0 y.2).0 in
-      sym (off_u x (apart x z (decide (is_key x k)))) where
+      sym (off_u x (apart x z (cases_Bool (is_key x k)))) where
         apart : (x : Key) → x.kind ≡ kd → ((is_key x k ≡ true) ⊎ (is_key x k ≡ false)) → is_key x k ≡ false
-        apart x z (inl h) = true_false (kind_is kd kind.Relation) (subst (λ (y : Kind). kind_is kd y ≡ true) (sym z ∙ ap (λ (y : Key). y.kind) (one_key x k h) ∙ is_relation) (kind_self kd)) n
+        apart x z (inl h) = never (kind_is kd kind.Relation) (subst (λ (y : Kind). kind_is kd y ≡ true) (sym z ∙ ap (λ (y : Key). y.kind) (one_key x k h) ∙ is_relation) (kind_self kd)) n
         apart x z (inr h) = h
 
   removes_same : (xs : List Key) → ((x : Key) → IsIn x xs → entry_of t x ≡ entry_of u x) → map (down_of t) (plain_removes xs) ≡ map (down_of u) (plain_removes xs)
@@ -142,7 +144,7 @@ module _ (t : TableValue) (k : Key) (e : Entry) (entry : entry_of t k ≡ Some e
             let b = starts t both_lengths (falling_items t) k a.0 a.1 in
             let f = found_in (uses_some (held_refers t) (falling_items t)) (falling_items t) b.2.0 b.2.1 in
             let j = any_is (λ j. item_uses (held_refers t) j.0 b.2.0) (falling_items t) f.1 in
-            let whole : b.2.0.1 ≡ false = not_true b.2.0.1 (and_both (not b.2.0.1) (held_refers t b.2.0.0 j.0.0) j.2).0 in
+            let whole : b.2.0.1 ≡ false = not-true b.2.0.1 (and_parts (not b.2.0.1) (held_refers t b.2.0.0 j.0.0) j.2).0 in
             let less = lighter_mark k (falling_items t) b.2.0 f.0 b.2.2 whole in
             let w = whole_weight (keys_where t (falling_of kind.Relation)) in
             let c = b.1 in

@@ -1,6 +1,6 @@
 -- What is drafted of answers is the confirmed table, and that is sound.
 use Rattle.std.proofs.Common.{◌≡◌, ℕ, ◌+◌, ◌==◌, ◌≤◌, ℤ, pos, negsuc, nat_lt, nat_le, Bool, true, false, cond, is_some, List, [], ◌∷◌, map, Option, Some, None, Result, Ok, Err, IfOk, refl, sym, ◌∙◌, ap, subst, inl, inr, arith, eqb-true}
-use Rattle.std.proofs.lemmas.Bool.{ltb-true, leb-true}
+use Rattle.std.proofs.lemmas.Bool.{ltb-true, leb-true, and_parts, cases_Bool}
 use Rattle.osm_base.specs.Rank.{is_key}
 use Rattle.std.specs.Option.{option_map, option_map_or}
 use Rattle.osm_base.specs.Meta.{empty_meta}
@@ -10,7 +10,7 @@ use Rattle.osm_table.proofs.Each.{each_with}
 use Rattle.osm_table.specs.declared.entry.Base.{Base}
 use Rattle.osm_table.specs.declared.entry.Entry.TheVariants.{Incomplete, Known}
 use Rattle.upload_order.specs.Refused.{upload_refusal}
-use Rattle.upload_order.proofs.Basics.{decide, true_false, both}
+use Rattle.upload_order.proofs.Basics.{both}
 use Rattle.upload_order.proofs.Renaming.{renamed_from, renamed_itself}
 use Rattle.upload_order.proofs.Sounds.{sound_of, positive_is}
 use Rattle.placeholder.proofs.Created as created
@@ -24,6 +24,7 @@ use Rattle.placeholder.proofs.Whole.{used_ref}
 use Rattle.osm_base.specs.declared.key.Key.{Key}
 use Rattle.osm_base.specs.declared.content.Content.{Content}
 use Rattle.osm_base.proofs.RisingKeys.{one_key}
+use Rattle.osm_base.proofs.Tests.{never, none_from_test}
 use Rattle.osm_table.specs.declared.entry.Base.TheVariants.{Live, Gone}
 use Rattle.osm_table.specs.declared.entry.Entry.{Entry}
 use Rattle.osm_table.specs.Table.{TableValue, entry_of, with_entry, mine_of, users, uses, IsPositive}
@@ -35,7 +36,6 @@ use Rattle.upload_order.specs.declared.change.Change.TheVariants.{Create, Modify
 use Rattle.upload_order.specs.Plan.{plan}
 use Rattle.upload_order.specs.Rename.{Names, called, with_id, is_positive}
 use Rattle.renamed_content.specs.Renamed.{renamed}
-use Rattle.upload_order.proofs.PlanUps.{and_both}
 use Rattle.placeholder.specs.declared.answer.Answer.{Answer}
 use Rattle.placeholder.specs.declared.answer.Answer.TheVariants as answer
 use Rattle.placeholder.specs.declared.fault.ConfirmFault.{ConfirmFault}
@@ -46,29 +46,26 @@ use Rattle.placeholder.specs.Confirmed.{moved, moved_entry, moved_change, named_
 use Rattle.placeholder.specs.Drafting.{answered_by, sent_content, made_from, drafts_from}
 
 given_is : (id : ℤ) → is_given id ≡ true → IsPositive id
-given_is (pos n) h = let x = and_both (nat_lt 0 n) (nat_le n 1000000000000000000) h in (ltb-true 0 n x.0, leb-true n 1000000000000000000 x.1)
+given_is (pos n) h = let x = and_parts (nat_lt 0 n) (nat_le n 1000000000000000000) h in (ltb-true 0 n x.0, leb-true n 1000000000000000000 x.1)
 given_is (negsuc n) h = cc
 
 next_is : (v w : ℕ) → is_next v w ≡ true → (v + 1 ≤ 2000000000) × (w ≡ v + 1)
-next_is v w h = let x = and_both (nat_lt v 2000000000) (w == v + 1) h in let y = ltb-true v 2000000000 x.0 in (omega (arith, y), eqb-true w (v + 1) x.1)
+next_is v w h = let x = and_parts (nat_lt v 2000000000) (w == v + 1) h in let y = ltb-true v 2000000000 x.0 in (omega (arith, y), eqb-true w (v + 1) x.1)
 
 -- an answer is within the limits
 answer_within : (c : Change) (a : Answer) → is_answer c a ≡ true → IsWithin c (id_told a)
-answer_within (Create k c) (answer.Create placeholder id) h = given_is id (and_both (is_key k placeholder) (is_given id) h).1
+answer_within (Create k c) (answer.Create placeholder id) h = given_is id (and_parts (is_key k placeholder) (is_given id) h).1
 answer_within (Create k c) (answer.Modify key v) h = cc
 answer_within (Create k c) (answer.Delete key v) h = cc
 answer_within (Modify k x c) (answer.Create placeholder id) h = cc
-answer_within (Modify k x c) (answer.Modify key v) h = (next_is x v (and_both (is_key k key) (is_next x v) h).1).0
+answer_within (Modify k x c) (answer.Modify key v) h = (next_is x v (and_parts (is_key k key) (is_next x v) h).1).0
 answer_within (Modify k x c) (answer.Delete key v) h = cc
 answer_within (Delete k x) (answer.Create placeholder id) h = cc
 answer_within (Delete k x) (answer.Modify key v) h = cc
-answer_within (Delete k x) (answer.Delete key v) h = (next_is x v (and_both (is_key k key) (is_next x v) h).1).0
+answer_within (Delete k x) (answer.Delete key v) h = (next_is x v (and_parts (is_key k key) (is_next x v) h).1).0
 
 free_id : (u : TableValue) (c : Change) (a : Answer) → is_answer c a ≡ true → is_taken u a ≡ false → IsNewTo u c (id_told a)
-free_id u (Create k c) (answer.Create placeholder id) h n = none_is (entry_of u (with_id k id)) (ap (λ (x : Key). is_some (entry_of u (with_id x id))) (one_key k placeholder (and_both (is_key k placeholder) (is_given id) h).0) ∙ n) where
-  none_is : (o : Option Entry) → is_some o ≡ false → o ≡ None
-  none_is None e = refl
-  none_is (Some e) x = cc
+free_id u (Create k c) (answer.Create placeholder id) h n = none_from_test (entry_of u (with_id k id)) (ap (λ (x : Key). is_some (entry_of u (with_id x id))) (one_key k placeholder (and_parts (is_key k placeholder) (is_given id) h).0) ∙ n)
 free_id u (Create k c) (answer.Modify key v) h n = cc
 free_id u (Create k c) (answer.Delete key v) h n = cc
 free_id u (Modify k x c) a h n = tt
@@ -81,7 +78,7 @@ draft_create t u k c cs p a from =
     let n = negative_key u a.sound k c x in
     drafted_made t u k p c n (ap mine_at x.there ∙ x.mine) a.settled
     (λ j e b h m. renamed_itself (moved k p) b (λ r y. called_self ((k, p) ∷ []) r ((sound_of u a.sound).held_refs j r e b h m y)))
-    (λ d y. renamed_itself (moved k p) d (λ r z. created.f_other k p n r (elim (decide (is_key r k)) as (λ _. is_key r k ≡ false) [ inl i ↦ true_false (refers d r) z (ap (refers d) (one_key r k i) ∙ y) | inr i ↦ i ])))
+    (λ d y. renamed_itself (moved k p) d (λ r z. created.f_other k p n r (elim (cases_Bool (is_key r k)) as (λ _. is_key r k ≡ false) [ inl i ↦ never (refers d r) z (ap (refers d) (one_key r k i) ∙ y) | inr i ↦ i ])))
     from
 
 sent_is : (u : TableValue) (k : Key) (c : Content) → IsSentAs u k c → sent_content (mine_at (entry_of u k)) ≡ c
@@ -90,13 +87,13 @@ sent_is u k c (inr x) = ap (λ o. sent_content (mine_at o)) x.0.there ∙ ap sen
 
 draft_one : (t u : TableValue) (c : Change) (cs : List Change) (a : Answer) → IsSteady u (c ∷ cs) → AreUsersOf t u → is_answer c a ≡ true → answered_by t u a ≡ confirmed u c (id_told a)
 draft_one t u (Create k c) cs (answer.Create placeholder id) s from h =
-    let one = one_key k placeholder (and_both (is_key k placeholder) (is_given id) h).0 in
+    let one = one_key k placeholder (and_parts (is_key k placeholder) (is_given id) h).0 in
     (λ i. made_from u (sym one i) id (users t (sym one i)) (mine_at (entry_of u (sym one i)))) ∙ draft_create t u k c cs id s from
 draft_one t u (Create k c) cs (answer.Modify key v) s from h = cc
 draft_one t u (Create k c) cs (answer.Delete key v) s from h = cc
 draft_one t u (Modify k x c) cs (answer.Create placeholder id) s from h = cc
 draft_one t u (Modify k x c) cs (answer.Modify key v) s from h =
-    let both = and_both (is_key k key) (is_next x v) h in
+    let both = and_parts (is_key k key) (is_next x v) h in
     let one = one_key k key both.0 in
     (λ i. with_entry u (sym one i) (based_on (Live ((next_is x v both.1).1 i) (sent_content (mine_at (entry_of u (sym one i)))) empty_meta) (entry_of u (sym one i))))
     ∙ ap (λ (d : Content). with_entry u k (based_on (Live (x + 1) d empty_meta) (entry_of u k))) (sent_is u k c s.steady.0)
@@ -104,7 +101,7 @@ draft_one t u (Modify k x c) cs (answer.Delete key v) s from h = cc
 draft_one t u (Delete k x) cs (answer.Create placeholder id) s from h = cc
 draft_one t u (Delete k x) cs (answer.Modify key v) s from h = cc
 draft_one t u (Delete k x) cs (answer.Delete key v) s from h =
-    let both = and_both (is_key k key) (is_next x v) h in
+    let both = and_parts (is_key k key) (is_next x v) h in
     let one = one_key k key both.0 in
     λ i. with_entry u (sym one i) (based_on (Gone ((next_is x v both.1).1 i) empty_meta) (entry_of u (sym one i)))
 
@@ -135,8 +132,8 @@ users_again t u (Create k c) cs p a new within from =
     let d = used_ref (mine_of (moved_entry f g)) r x in
     let b = some_of f (mine_of g) d.0 (sym (moved_mine f g) ∙ d.1) in
     let s = renamed_from ((k, p) ∷ []) b.0 r (subst (λ (y : Content). refers y r ≡ true) (sym b.2) d.2) in
-    elim (decide (is_key s.0 k)) [
-      | inl i ↦ true_false (is_positive r.id) (ap (λ (y : Key). is_positive y.id) (sym s.2 ∙ created.f_here k p neg s.0 i) ∙ positive_is p within) n
+    elim (cases_Bool (is_key s.0 k)) [
+      | inl i ↦ never (is_positive r.id) (ap (λ (y : Key). is_positive y.id) (sym s.2 ∙ created.f_here k p neg s.0 i) ∙ positive_is p within) n
       | inr i ↦ (
           let one : s.0 ≡ r = sym (created.f_other k p neg s.0 i) ∙ s.2 in
           from j r g h (ap (λ o. option_map_or (λ c. refers c r) o false) b.1 ∙ subst (λ (y : Key). refers b.0 y ≡ true) one s.1) n)
@@ -144,7 +141,7 @@ users_again t u (Create k c) cs p a new within from =
     (λ r x n.
     let s = renamed_from ((k, p) ∷ []) c r x in
     let pos = positive_is s.0.id (served c a.steady.2 s.0 s.1) in
-    true_false (is_positive r.id) (ap (λ (y : Key). is_positive y.id) (sym s.2 ∙ called_self ((k, p) ∷ []) s.0 pos) ∙ pos) n)
+    never (is_positive r.id) (ap (λ (y : Key). is_positive y.id) (sym s.2 ∙ called_self ((k, p) ∷ []) s.0 pos) ∙ pos) n)
     j g h r x n
 users_again t u (Modify k v c) cs p a new within from = let e = known_in u (Modify k v c) cs a in users_set t u k e.0 (Live (v + 1) c empty_meta) e.1 from
 users_again t u (Delete k v) cs p a new within from = let e = known_in u (Delete k v) cs a in users_set t u k e.0 (Gone (v + 1) empty_meta) e.1 from

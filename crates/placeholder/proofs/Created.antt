@@ -1,5 +1,6 @@
 -- After one object was made on the server the table is again clear to be sent, and its plan is the rest, renamed.
 use Rattle.std.proofs.Common.{◌≡◌, ◌+◌, ℤ, Bool, true, false, cond, not, ◌&&◌, ◌||◌, List, [], ◌∷◌, ◌++◌, map, length, Option, Some, None, refl, sym, ◌∙◌, ap, subst, ◌⊎◌, inl, inr, arith}
+use Rattle.std.proofs.lemmas.Bool.{cases_Bool, cond-true, cond-false, and_left}
 use Rattle.std.specs.Option.{option_map, option_map_or, unwrap_or}
 use Rattle.std.specs.Cmp.{both_ways}
 use Rattle.std.specs.FinMap as fin
@@ -14,6 +15,7 @@ use Rattle.osm_base.specs.declared.key.Key.{Key}
 use Rattle.osm_base.specs.declared.content.Content.{Content}
 use Rattle.osm_base.proofs.RisingKeys.{one_key, key_itself}
 use Rattle.osm_base.proofs.SameLaws.{same_content_decides}
+use Rattle.osm_base.proofs.Tests.{never, some_passed}
 use Rattle.osm_table.specs.declared.entry.Entry.{Entry}
 use Rattle.osm_table.specs.declared.entry.Entry.TheVariants.{Incomplete, Known}
 use Rattle.osm_table.specs.declared.entry.Base.TheVariants.{New, Live, Gone}
@@ -32,33 +34,26 @@ use Rattle.upload_order.specs.Plan.{ups, up_of, up_entry, plain_removes, downs, 
 use Rattle.upload_order.specs.Refused.{is_open, vouches}
 use Rattle.upload_order.specs.Rename.{called, with_id, is_positive}
 use Rattle.renamed_content.specs.Renamed.{renamed}
+use Rattle.renamed_content.proofs.Refs.{renamed_kind}
 use Rattle.upload_order.specs.World.{World, WorldEntry, stands, content_in, content_at, IsSoundWorld, Holds, Alone}
-use Rattle.upload_order.proofs.Along.{at_is, passed, means_itself, not_based}
-use Rattle.upload_order.proofs.Basics.{key_same, decide, true_false, both, none_some, at_key_put, at_other}
+use Rattle.upload_order.proofs.Along.{at_is, means_itself, not_based, new_rising, up_based, held_based}
+use Rattle.upload_order.proofs.Basics.{key_same, both, none_some, at_key_put, at_other}
 use Rattle.upload_order.proofs.Conditions.{Sound}
 use Rattle.upload_order.proofs.Entries.{IsIn, map_in}
 use Rattle.upload_order.proofs.PlanDowns.{downs_ordered}
 use Rattle.upload_order.proofs.Renaming.{renamed_from, renamed_to, renamed_itself}
 use Rattle.upload_order.proofs.Sounds.{sound_of, positive_is}
 use Rattle.upload_order.proofs.Static.{IsOrdered, no_more, next, with_key}
-use Rattle.upload_order.proofs.Turn.{same_law}
+use Rattle.upload_order.proofs.Turn.{same_law, mine_stays}
 use Rattle.upload_order.proofs.Where.{keys_where, rising_of, falling_of, falling_items, falling_both, in_where}
 use Rattle.upload_order.proofs.Worlds.{called_meant}
 use Rattle.placeholder.specs.Confirmed.{moved, moved_entry, moved_entries, moved_change, confirmed}
 use Rattle.placeholder.proofs.Alike.{fall_same, steps_same}
 use Rattle.placeholder.proofs.Clear.{IsClear}
-use Rattle.placeholder.proofs.Moved.{same_rising, same_falling, moved_mine, moved_held, get_moved, kind_moved, same_incomplete, same_based, same_version, same_version_at, same_open, fits_renamed, moved_sound, moved_there}
+use Rattle.placeholder.proofs.Moved.{same_rising, same_falling, moved_mine, moved_held, get_moved, same_incomplete, same_based, same_version, same_version_at, same_open, fits_renamed, moved_sound, moved_there}
 use Rattle.placeholder.proofs.Parts.{rising_alike, falling_alike, not_rising, not_falling}
 use Rattle.placeholder.proofs.Rest.{same_where, without_where, ups_again, stuck_again, once, ordered}
-use Rattle.placeholder.proofs.Whole.{given_id, all_refs, stands_there, used_ref, up_falls, based_up, new_up, first_calm}
-
-cond_on : {A : Type 0} (b : Bool) (x y : A) → b ≡ true → cond b x y ≡ x
-cond_on true x y e = refl
-cond_on false x y e = cc
-
-cond_off : {A : Type 0} (b : Bool) (x y : A) → b ≡ false → cond b x y ≡ y
-cond_off true x y e = cc
-cond_off false x y e = refl
+use Rattle.placeholder.proofs.Whole.{given_id, all_refs, stands_there, used_ref, first_calm}
 
 pub ordered_up : (t : TableValue) (done last : Key → Bool) (ks : List Key) → IsOrdered t done ks last → (j : Key) → IsIn j ks → (e : Entry) × (entry_of t j ≡ Some e)
 ordered_up t done last ks (no_more d) j i = absurd i
@@ -91,8 +86,8 @@ module _ (k : Key) (p : ℤ) (negative : is_positive k.id ≡ false) where
   renamed_other c r n m = both_ways (refers (renamed f c) r) (refers c r)
       (λ h.
       let x = renamed_from ((k, p) ∷ []) c r h in
-      elim (decide (is_key x.0 k)) [
-        | inl i ↦ true_false (is_key r q) (key_same r q (sym x.2 ∙ f_here x.0 i)) m
+      elim (cases_Bool (is_key x.0 k)) [
+        | inl i ↦ never (is_key r q) (key_same r q (sym x.2 ∙ f_here x.0 i)) m
         | inr i ↦ subst (λ (y : Key). refers c y ≡ true) (sym (f_other x.0 i) ∙ x.2) x.1
       ])
       (λ h. subst (λ (y : Key). refers (renamed f c) y ≡ true) (f_other r n) (renamed_to ((k, p) ∷ []) c r h))
@@ -103,16 +98,16 @@ module _ (k : Key) (p : ℤ) (negative : is_positive k.id ≡ false) where
 
   -- a content without k stays
   renamed_free : (c : Content) → refers c k ≡ false → renamed f c ≡ c
-  renamed_free c n = renamed_itself f c (λ r h. f_other r (elim (decide (is_key r k)) as (λ _. is_key r k ≡ false) [ inl i ↦ true_false (refers c r) h (ap (refers c) (one_key r k i) ∙ n) | inr i ↦ i ]))
+  renamed_free c n = renamed_itself f c (λ r h. f_other r (elim (cases_Bool (is_key r k)) as (λ _. is_key r k ≡ false) [ inl i ↦ never (refers c r) h (ap (refers c) (one_key r k i) ∙ n) | inr i ↦ i ]))
 
   -- a renamed mine never comes to equal its base
   same_again : (c b : Content) → refers b k ≡ false → refers b q ≡ false → same_content (renamed f c) b ≡ same_content c b
-  same_again c b n m = elim (decide (refers c k)) [
+  same_again c b n m = elim (cases_Bool (refers c k)) [
     | inr i ↦ ap (λ x. same_content x b) (renamed_free c i)
     | inl i ↦ (
         let new : refers (renamed f c) q ≡ true = subst (λ (y : Key). refers (renamed f c) y ≡ true) (f_here k (key_itself k)) (renamed_to ((k, p) ∷ []) c k i) in
-        let a : same_content (renamed f c) b ≡ false = elim (decide (same_content (renamed f c) b)) [ inl x ↦ true_false (refers b q) (ap (λ y. refers y q) (sym (same_law (renamed f c) b x)) ∙ new) m | inr x ↦ x ] in
-        let d : same_content c b ≡ false = elim (decide (same_content c b)) [ inl x ↦ true_false (refers b k) (ap (λ y. refers y k) (sym (same_law c b x)) ∙ i) n | inr x ↦ x ] in
+        let a : same_content (renamed f c) b ≡ false = elim (cases_Bool (same_content (renamed f c) b)) [ inl x ↦ never (refers b q) (ap (λ y. refers y q) (sym (same_law (renamed f c) b x)) ∙ new) m | inr x ↦ x ] in
+        let d : same_content c b ≡ false = elim (cases_Bool (same_content c b)) [ inl x ↦ never (refers b k) (ap (λ y. refers y k) (sym (same_law c b x)) ∙ i) n | inr x ↦ x ] in
         a ∙ sym d)
   ]
 
@@ -134,8 +129,8 @@ module _ (k : Key) (p : ℤ) (negative : is_positive k.id ≡ false) where
   update_back Incomplete h x = cc
   update_back (Known New m d) h x = cc
   update_back (Known (Live v b n) None d) h x = cc
-  update_back (Known (Live v b n) (Some c) d) h x = elim (decide (refers c k)) [
-    | inl i ↦ (elim (decide (same_content c b)) [ inl y ↦ true_false (refers b k) (ap (λ y. refers y k) (sym (same_law c b y)) ∙ i) (h b refl) | inr y ↦ ap not y ])
+  update_back (Known (Live v b n) (Some c) d) h x = elim (cases_Bool (refers c k)) [
+    | inl i ↦ (elim (cases_Bool (same_content c b)) [ inl y ↦ never (refers b k) (ap (λ y. refers y k) (sym (same_law c b y)) ∙ i) (h b refl) | inr y ↦ ap not y ])
     | inr i ↦ (λ l. not (same_content (sym (renamed_free c i) l) (sym (renamed_free b (h b refl)) l))) ∙ x
   ]
   update_back (Known (Gone v n) m d) h x = cc
@@ -159,10 +154,10 @@ module _ (k : Key) (p : ℤ) (negative : is_positive k.id ≡ false) where
     at_u j i = at_key_put (fin.remove (moved_entries f t.entries) k) q j e2 i
 
     off_u : (j : Key) → is_key j q ≡ false → is_key j k ≡ false → entry_of u j ≡ option_map (moved_entry f) (entry_of t j)
-    off_u j i n = at_other (fin.remove (moved_entries f t.entries) k) q j e2 i ∙ fin.get-remove rank_total (moved_entries f t.entries) k j ∙ cond_off (is_key j k) None (fin.get (moved_entries f t.entries) j) n ∙ get_moved f t.entries j
+    off_u j i n = at_other (fin.remove (moved_entries f t.entries) k) q j e2 i ∙ fin.get-remove rank_total (moved_entries f t.entries) k j ∙ cond-false (is_key j k) None (fin.get (moved_entries f t.entries) j) n ∙ get_moved f t.entries j
 
     gone_u : (j : Key) → is_key j q ≡ false → is_key j k ≡ true → entry_of u j ≡ None
-    gone_u j i n = at_other (fin.remove (moved_entries f t.entries) k) q j e2 i ∙ fin.get-remove rank_total (moved_entries f t.entries) k j ∙ cond_on (is_key j k) None (fin.get (moved_entries f t.entries) j) n
+    gone_u j i n = at_other (fin.remove (moved_entries f t.entries) k) q j e2 i ∙ fin.get-remove rank_total (moved_entries f t.entries) k j ∙ cond-true (is_key j k) None (fin.get (moved_entries f t.entries) j) n
 
     some_moved : (o : Option Entry) (g : Entry) → option_map (moved_entry f) o ≡ Some g → (h : Entry) × (o ≡ Some h) × (moved_entry f h ≡ g)
     some_moved None g h = cc
@@ -170,26 +165,26 @@ module _ (k : Key) (p : ℤ) (negative : is_positive k.id ≡ false) where
 
     -- what has an entry in t isn't the pick
     not_q : (j : Key) (g : Entry) → entry_of t j ≡ Some g → is_key j q ≡ false
-    not_q j g h = elim (decide (is_key j q)) [ inl i ↦ none_some g (entry_of t q) absent (ap (entry_of t) (sym (one_key j q i)) ∙ h) | inr i ↦ i ]
+    not_q j g h = elim (cases_Bool (is_key j q)) [ inl i ↦ none_some g (entry_of t q) absent (ap (entry_of t) (sym (one_key j q i)) ∙ h) | inr i ↦ i ]
 
     pub there : (j : Key) (g : Entry) → is_key j k ≡ false → entry_of t j ≡ Some g → entry_of u j ≡ Some (moved_entry f g)
     there j g n h = off_u j (not_q j g h) n ∙ ap (option_map (moved_entry f)) h
 
     pub cases_u : (P : Key → Entry → Type 0) → ((j : Key) (g : Entry) → is_key j k ≡ false → is_key j q ≡ false → entry_of t j ≡ Some g → P j (moved_entry f g)) → P q e2 → (j : Key) (g : Entry) → entry_of u j ≡ Some g → P j g
-    cases_u P old here j g h = elim (decide (is_key j q)) [
+    cases_u P old here j g h = elim (cases_Bool (is_key j q)) [
       | inl i ↦ subst (λ (x : Key). P x g) (sym (one_key j q i)) (subst (λ (x : Entry). P q x) (both e2 g (entry_of u j) (at_u j i) h) here)
-      | inr i ↦ (elim (decide (is_key j k)) [
+      | inr i ↦ (elim (cases_Bool (is_key j k)) [
         | inl n ↦ none_some g (entry_of u j) (gone_u j i n) h
         | inr n ↦ (let x = some_moved (entry_of t j) g (sym (off_u j i n) ∙ h) in subst (λ (y : Entry). P j y) x.2 (old j x.0 n i x.1))
       ])
     ]
 
     not_refers : (b : Content) (r : Key) → (refers b r ≡ true → ⊥) → refers b r ≡ false
-    not_refers b r h = elim (decide (refers b r)) [ inl x ↦ absurd (h x) | inr x ↦ x ]
+    not_refers b r h = elim (cases_Bool (refers b r)) [ inl x ↦ absurd (h x) | inr x ↦ x ]
 
     -- no base refers to the placeholder
     free_base : (j : Key) (g : Entry) (b : Content) → entry_of t j ≡ Some g → held_of g ≡ Some b → refers b k ≡ false
-    free_base j g b h m = not_refers b k (λ x. true_false (is_positive k.id) (s.held_refs j k g b h m x) negative)
+    free_base j g b h m = not_refers b k (λ x. never (is_positive k.id) (s.held_refs j k g b h m x) negative)
 
     some_of : (o : Option Content) (d : Content) → option_map (renamed f) o ≡ Some d → (b : Content) × (o ≡ Some b) × (renamed f b ≡ d)
     some_of None d h = cc
@@ -199,10 +194,10 @@ module _ (k : Key) (p : ℤ) (negative : is_positive k.id ≡ false) where
     old_mine g d h = some_of (mine_of g) d (sym (moved_mine f g) ∙ h)
 
     there_u : (r : Key) → IsThere (entry_of t r) → IsThere (entry_of u (f r))
-    there_u r x = elim (decide (is_key r k)) [
+    there_u r x = elim (cases_Bool (is_key r k)) [
       | inl i ↦ subst IsThere (sym (at_u (f r) (key_same (f r) q (f_here r i)))) refl
       | inr i ↦ (
-          let away : is_key r q ≡ false = elim (decide (is_key r q)) [ inl l ↦ absurd (subst IsThere (ap (entry_of t) (one_key r q l) ∙ absent) x) | inr l ↦ l ] in
+          let away : is_key r q ≡ false = elim (cases_Bool (is_key r q)) [ inl l ↦ absurd (subst IsThere (ap (entry_of t) (one_key r q l) ∙ absent) x) | inr l ↦ l ] in
           subst (λ (y : Key). IsThere (entry_of u y)) (sym (f_other r i)) (subst IsThere (sym (off_u r away i)) (moved_there f (entry_of t r) x)))
     ]
 
@@ -212,10 +207,10 @@ module _ (k : Key) (p : ℤ) (negative : is_positive k.id ≡ false) where
     -- sound again, on every server
     module _ (fit : fits c ≡ true) (server : (r : Key) → refers c r ≡ true → IsPositive r.id) where
       content_kept : renamed f c ≡ c
-      content_kept = renamed_free c (not_refers c k (λ h. true_false (is_positive k.id) (positive_is k.id (server k h)) negative))
+      content_kept = renamed_free c (not_refers c k (λ h. never (is_positive k.id) (positive_is k.id (server k h)) negative))
 
       own_sound : IsSoundEntry t.next q e2
-      own_sound = let kind = kind_moved f c ∙ s.kinds k e c entry (inl mine) in record {
+      own_sound = let kind = renamed_kind f c ∙ s.kinds k e c entry (inl mine) in record {
         id = given;
         kinds = (kind, kind, tt);
         server = (all_refs (λ r. IsPositive r.id) (renamed f c) (λ r h. server r (subst (λ (y : Content). refers y r ≡ true) content_kept h)), tt);
@@ -246,14 +241,9 @@ module _ (k : Key) (p : ℤ) (negative : is_positive k.id ≡ false) where
       base_free j g b h m = (
         free_base j g b h m,
         not_refers b q (λ x.
-            let y = sound j q b (ap content_in (holds j g h (based_held g b m)) ∙ m) x in
+            let y = sound j q b (ap content_in (holds j g h (held_based g b m)) ∙ m) x in
             none_some y.0 (content_at w q) (ap content_in empty) y.1),
-      ) where
-        based_held : (g : Entry) (b : Content) → held_of g ≡ Some b → is_based g ≡ true
-        based_held Incomplete b h = cc
-        based_held (Known New m d) b h = cc
-        based_held (Known (Live v x n) m d) b h = refl
-        based_held (Known (Gone v n) m d) b h = refl
+      )
 
       update_kept : (j : Key) (g : Entry) → entry_of t j ≡ Some g → is_update (moved_entry f g) ≡ is_update g
       update_kept j g h = same_update g (λ b m. base_free j g b h m)
@@ -267,7 +257,7 @@ module _ (k : Key) (p : ℤ) (negative : is_positive k.id ≡ false) where
           (λ j g n h x. (moved_entry f g, there j g n h, same j g h ∙ x))
           (λ j g h x. cases_u (λ j g. test j g ≡ true → (is_key j k ≡ false) × ((i : Entry) × (entry_of t j ≡ Some i) × (test j i ≡ true)))
           (λ j g n m h x. (n, (g, h, sym (same j g h) ∙ x)))
-          (λ x. true_false (test q e2) x idle) j g h x)
+          (λ x. never (test q e2) x idle) j g h x)
 
       rising : (kd : Kind) → without k (keys_where t (rising_of kd)) ≡ keys_where u (rising_of kd)
       rising kd = tested (rising_of kd) (λ j g h. rising_alike kd j.kind (moved_entry f g) g (same_rising f g)) (not_rising kd q.kind e2 refl)
@@ -278,7 +268,7 @@ module _ (k : Key) (p : ℤ) (negative : is_positive k.id ≡ false) where
       rising_there : (j : Key) → IsIn j (keys_where u (rising_of kind.Relation)) → (is_key j k ≡ false) × (is_key j q ≡ false)
       rising_there j i =
           let x = in_where u (rising_of kind.Relation) j i in
-          cases_u (λ j g. (rising_of kind.Relation) j g ≡ true → (is_key j k ≡ false) × (is_key j q ≡ false)) (λ j g n m h y. (n, m)) (λ y. true_false (rising_of kind.Relation q e2) y (not_rising kind.Relation q.kind e2 refl)) j x.0 x.1 x.2
+          cases_u (λ j g. (rising_of kind.Relation) j g ≡ true → (is_key j k ≡ false) × (is_key j q ≡ false)) (λ j g n m h y. (n, m)) (λ y. never (rising_of kind.Relation q e2) y (not_rising kind.Relation q.kind e2 refl)) j x.0 x.1 x.2
 
       mine_moved : (o : Option Entry) → mine_at (option_map (moved_entry f) o) ≡ option_map (renamed f) (mine_at o)
       mine_moved None = refl
@@ -298,23 +288,23 @@ module _ (k : Key) (p : ℤ) (negative : is_positive k.id ≡ false) where
 
       positive_ref : (r : Key) → refers c r ≡ true → is_positive r.id ≡ true
       positive_ref r h = elim (s.refs k r e c entry mine h) [
-        | inl i ↦ (let x = passed is_incomplete (entry_of t r) i in s.positive r x.0 x.1 (inl x.2))
-        | inr l ↦ (elim (decide (is_new (base_in l.0))) [
-          | inl n ↦ absurd (calm r h (at_is t is_rising r l.0 true l.2 (new_up l.0 l.1 l.3 n)))
-          | inr n ↦ s.positive r l.0 l.2 (inr (based_up l.0 l.1 l.3 n))
+        | inl i ↦ (let x = some_passed is_incomplete (entry_of t r) i in s.positive r x.0 x.1 (inl x.2))
+        | inr l ↦ (elim (cases_Bool (is_new (base_in l.0))) [
+          | inl n ↦ absurd (calm r h (at_is t is_rising r l.0 true l.2 (new_rising l.0 l.1 l.3 n)))
+          | inr n ↦ s.positive r l.0 l.2 (inr (up_based l.0 l.1 l.3 n))
         ])
       ]
 
       -- so it stays as it is
       mine_kept : renamed f c ≡ c
-      mine_kept = renamed_free c (not_refers c k (λ h. true_false (is_positive k.id) (positive_ref k h) negative))
+      mine_kept = renamed_free c (not_refers c k (λ h. never (is_positive k.id) (positive_ref k h) negative))
 
       positive_key : (r : Key) → refers c r ≡ true → IsPositive r.id
       positive_key r h = elim (s.refs k r e c entry mine h) [
-        | inl i ↦ (let x = passed is_incomplete (entry_of t r) i in given_id t is r x.0 x.1 (inl x.2))
-        | inr l ↦ (elim (decide (is_new (base_in l.0))) [
-          | inl n ↦ absurd (calm r h (at_is t is_rising r l.0 true l.2 (new_up l.0 l.1 l.3 n)))
-          | inr n ↦ given_id t is r l.0 l.2 (inr (based_up l.0 l.1 l.3 n))
+        | inl i ↦ (let x = some_passed is_incomplete (entry_of t r) i in given_id t is r x.0 x.1 (inl x.2))
+        | inr l ↦ (elim (cases_Bool (is_new (base_in l.0))) [
+          | inl n ↦ absurd (calm r h (at_is t is_rising r l.0 true l.2 (new_rising l.0 l.1 l.3 n)))
+          | inr n ↦ given_id t is r l.0 l.2 (inr (up_based l.0 l.1 l.3 n))
         ])
       ]
 
@@ -322,7 +312,7 @@ module _ (k : Key) (p : ℤ) (negative : is_positive k.id ≡ false) where
       sound_again = made_sound (s.fit k e c entry mine up) positive_key
 
       pub holds_again : Holds (record { entries = fin.insert w.entries q (record { version = 1; content = Some (renamed (called w.names) c) }); names = (k, p) ∷ w.names }) u
-      holds_again j g h b = elim (decide (is_key j q)) [
+      holds_again j g h b = elim (cases_Bool (is_key j q)) [
         | inl i ↦ (
             let one : e2 ≡ g = both e2 g (entry_of u j) (at_u j i) h in
             let kept : renamed (called w.names) c ≡ c = renamed_itself (called w.names) c (λ r x. called_meant w.names r r (means_itself w.names r (positive_ref r x))) in
@@ -331,17 +321,13 @@ module _ (k : Key) (p : ℤ) (negative : is_positive k.id ≡ false) where
             ∙ ap (λ (y : Entry). let x : WorldEntry = record { version = version_of (base_in y); content = held_of y } in Some x) one)
         | inr i ↦ at_other w.entries q j _ i ∙ cases_u (λ j g. is_key j q ≡ false → is_based g ≡ true → stands w j ≡ Some (record { version = version_of (base_in g); content = held_of g }))
             (λ j g n a h i b. holds j g h (sym (same_based f g) ∙ b) ∙ (λ x. let y : WorldEntry = record { version = sym (same_version f g) x; content = held_moved j g h x } in Some y))
-            (λ i b. true_false (is_key q q) (key_itself q) i) j g h i b
+            (λ i b. never (is_key q q) (key_itself q) i) j g h i b
       ] where
         held_moved : (j : Key) (g : Entry) → entry_of t j ≡ Some g → held_of g ≡ held_of (moved_entry f g)
         held_moved j g h = stay (held_of g) (λ b m. (base_free j g b h m).0) ∙ sym (moved_held f g) where
           stay : (o : Option Content) → ((b : Content) → o ≡ Some b → refers b k ≡ false) → o ≡ option_map (renamed f) o
           stay None h = refl
           stay (Some b) h = ap (λ (y : Content). Some y) (sym (renamed_free b (h b refl)))
-
-      and_left : (a b : Bool) → a ≡ false → (a && b) ≡ false
-      and_left true b h = cc
-      and_left false b h = refl
 
       new_holds_nothing : (g : Entry) → is_new (base_in g) ≡ true → held_of g ≡ None
       new_holds_nothing Incomplete h = refl
@@ -352,18 +338,18 @@ module _ (k : Key) (p : ℤ) (negative : is_positive k.id ≡ false) where
       -- an Incomplete key of u is one of t, and neither the placeholder nor the pick
       incomplete_there : (r : Key) → at_key u is_incomplete r ≡ true → (is_key r k ≡ false) × (is_key r q ≡ false) × (at_key t is_incomplete r ≡ true)
       incomplete_there r i =
-          let x = passed is_incomplete (entry_of u r) i in
+          let x = some_passed is_incomplete (entry_of u r) i in
           cases_u (λ r g. is_incomplete g ≡ true → (is_key r k ≡ false) × (is_key r q ≡ false) × (at_key t is_incomplete r ≡ true))
           (λ r g n m h y. (n, m, at_is t is_incomplete r g true h (sym (same_incomplete f g) ∙ y)))
           (λ y. cc) r x.0 x.1 x.2
 
       vouches_again : (v r : Key) (g : Entry) → is_key r k ≡ false → is_key r q ≡ false → entry_of t v ≡ Some g → vouches g r ≡ true → (x : Key) × (y : Entry) × (entry_of u x ≡ Some y) × (vouches y r ≡ true)
-      vouches_again v r g n m h a = elim (decide (is_key v k)) [
+      vouches_again v r g n m h a = elim (cases_Bool (is_key v k)) [
         | inr i ↦ (v, moved_entry f g, there v g i h, same_vouch g r n m ∙ a)
         | inl i ↦ (
             let one : g ≡ e = both g e (entry_of t k) (ap (entry_of t) (sym (one_key v k i)) ∙ h) entry in
             let no : vouches g r ≡ false = and_left (content_refers (held_of g) r) (option_map_or (λ c. refers c r) (mine_of g) true) (ap (λ o. content_refers o r) (new_holds_nothing g (ap (λ y. is_new (base_in y)) one ∙ new))) in
-            true_false (vouches g r) a no)
+            never (vouches g r) a no)
       ]
 
       pub clear_again : IsClear u
@@ -377,7 +363,7 @@ module _ (k : Key) (p : ℤ) (negative : is_positive k.id ≡ false) where
             let was : is_sent g ≡ true = (λ l. (sym (same_rising f g) l || sym (update_kept j g h) l)) ∙ sent in
             let v = ok.vouched j r g b.0 h b.1 was y z.2 in
             vouches_again v.0 r v.1 z.0 z.1 v.2 v.3)
-            (λ d m sent x. true_false (is_sent e2) sent self_update) j g h d m sent x;
+            (λ d m sent x. never (is_sent e2) sent self_update) j g h d m sent x;
         no_stuck = stuck_again t u s ok.no_stuck k ks head rising updates same;
       }
 
@@ -387,18 +373,18 @@ module _ (k : Key) (p : ℤ) (negative : is_positive k.id ≡ false) where
 
       pub alone_again : Alone (record { entries = fin.insert w.entries q (record { version = 1; content = Some (renamed (called w.names) c) }); names = (k, p) ∷ w.names }) u
       alone_again x r d n h g =
-          let away : is_key x q ≡ false = elim (decide (is_key x q)) [ inl i ↦ (let z : at_key u is_based x ≡ true = ap (λ (o : Option Entry). option_map_or is_based o false) (at_u x i) in true_false (at_key u is_based x) z n) | inr i ↦ i ] in
-          let idle : at_key t is_based x ≡ false = elim (decide (is_key x k)) [
+          let away : is_key x q ≡ false = elim (cases_Bool (is_key x q)) [ inl i ↦ (let z : at_key u is_based x ≡ true = ap (λ (o : Option Entry). option_map_or is_based o false) (at_u x i) in never (at_key u is_based x) z n) | inr i ↦ i ] in
+          let idle : at_key t is_based x ≡ false = elim (cases_Bool (is_key x k)) [
             | inl i ↦ at_is t is_based x e false (ap (entry_of t) (one_key x k i) ∙ entry) (not_based e new)
             | inr i ↦ sym (based_moved (entry_of t x)) ∙ ap (λ (o : Option Entry). option_map_or is_based o false) (sym (off_u x away i)) ∙ n
           ] in
-          let y = passed is_falling (entry_of u r) g in
+          let y = some_passed is_falling (entry_of u r) g in
           let fall : at_key t is_falling r ≡ true = cases_u (λ r g. is_falling g ≡ true → at_key t is_falling r ≡ true) (λ r g a b h i. at_is t is_falling r g true h (sym (same_falling f g) ∙ i)) (λ i. cc) r y.0 y.1 y.2 in
           alone x r d idle (sym (ap content_in (at_other w.entries q x _ away)) ∙ h) fall
 
       not_fallen : (j : Key) (g : Entry) → entry_of t j ≡ Some g → is_falling g ≡ true → is_key j k ≡ false
-      not_fallen j g h i = elim (decide (is_key j k)) [
-        | inl x ↦ true_false (is_falling g) i (ap is_falling (both g e (entry_of t k) (ap (entry_of t) (sym (one_key j k x)) ∙ h) entry) ∙ up_falls e c mine)
+      not_fallen j g h i = elim (cases_Bool (is_key j k)) [
+        | inl x ↦ never (is_falling g) i (ap is_falling (both g e (entry_of t k) (ap (entry_of t) (sym (one_key j k x)) ∙ h) entry) ∙ mine_stays e c mine)
         | inr x ↦ x
       ]
 
@@ -407,7 +393,7 @@ module _ (k : Key) (p : ℤ) (negative : is_positive k.id ≡ false) where
           (λ j g h i. (moved_entry f g, there j g (not_fallen j g h (falling_both kd j.kind g i).1) h, falling_alike kd j.kind (moved_entry f g) g (same_falling f g) ∙ i))
           (λ j g h i. cases_u (λ j g. falling_of kd j g ≡ true → (x : Entry) × (entry_of t j ≡ Some x) × (falling_of kd j x ≡ true))
           (λ j g a b h i. (g, h, falling_alike kd j.kind g (moved_entry f g) (sym (same_falling f g)) ∙ i))
-          (λ i. true_false (falling_of kd q e2) i (not_falling kd q.kind e2 refl)) j g h i)
+          (λ i. never (falling_of kd q e2) i (not_falling kd q.kind e2 refl)) j g h i)
 
       held_same : (i j : Item) → IsIn i (falling_items t) → IsIn j (falling_items t) → held_refers t i.0 j.0 ≡ held_refers u i.0 j.0
       held_same i j a b =
@@ -464,7 +450,7 @@ module _ (k : Key) (p : ℤ) (negative : is_positive k.id ≡ false) where
       plan_rest =
           let line = ordered t u s ok.no_stuck k ks head rising updates same in
           let apart : (j : Key) → IsIn j ks → (is_key j k ≡ false) × (is_key j q ≡ false) = λ j i. (
-            elim (decide (is_key j k)) as (λ _. is_key j k ≡ false) [ inl x ↦ absurd (once t u s ok.no_stuck k ks head rising updates same (subst (λ (y : Key). IsIn y ks) (one_key j k x) i)) | inr x ↦ x ],
+            elim (cases_Bool (is_key j k)) as (λ _. is_key j k ≡ false) [ inl x ↦ absurd (once t u s ok.no_stuck k ks head rising updates same (subst (λ (y : Key). IsIn y ks) (one_key j k x) i)) | inr x ↦ x ],
             let y = ordered_up t _ _ (k ∷ ks) line j (inr i) in not_q j y.0 y.1,
           ) in
           let d = downs_ordered t s in (

@@ -1,5 +1,6 @@
 -- A draft that renames only the users in the table before all answers makes the confirmed table.
 use Rattle.std.proofs.Common.{◌≡◌, ℤ, ◌||◌, Bool, true, false, cond, List, [], ◌∷◌, Option, Some, None, refl, sym, ◌∙◌, ap, inl, inr}
+use Rattle.std.proofs.lemmas.Bool.{cases_Bool}
 use Rattle.std.specs.Prelude.{T}
 use Rattle.std.specs.Option.{option_map, option_map_or}
 use Rattle.std.specs.FinMap as fin
@@ -10,6 +11,7 @@ use Rattle.osm_base.specs.Content.{refers}
 use Rattle.osm_base.specs.declared.key.Key.{Key}
 use Rattle.osm_base.specs.declared.content.Content.{Content}
 use Rattle.osm_base.proofs.RisingKeys.{one_key}
+use Rattle.osm_base.proofs.Tests.{never}
 use Rattle.osm_table.specs.declared.entry.Base.TheVariants.{New, Live, Gone}
 use Rattle.osm_table.specs.declared.entry.Entry.{Entry}
 use Rattle.osm_table.specs.declared.entry.Entry.TheVariants.{Incomplete, Known}
@@ -22,7 +24,6 @@ use Rattle.upload_order.specs.Kinds.{held_of}
 use Rattle.upload_order.specs.Refused.{is_open}
 use Rattle.upload_order.specs.Rename.{with_id, is_positive}
 use Rattle.renamed_content.specs.Renamed.{renamed}
-use Rattle.upload_order.proofs.Basics.{decide, true_false}
 use Rattle.upload_order.proofs.Keys.{head_once, rises_tail}
 use Rattle.placeholder.specs.Confirmed.{moved, moved_entry, made_entry, confirmed}
 use Rattle.placeholder.specs.Drafting.{with_mine, mine_moved_at, all_moved, made_from}
@@ -60,7 +61,7 @@ module _ (f : Key → Key) where
 
         by_key : (b c : Bool) → is_key j x ≡ b → is_in j xs ≡ c
             → cond c (option_map (with_mine f) (entry_of (mine_moved_at f u x (entry_of u x)) j)) (entry_of (mine_moved_at f u x (entry_of u x)) j) ≡ cond (b || c) (option_map (with_mine f) (entry_of u j)) (entry_of u j)
-        by_key true true i l = true_false (is_in j xs) l (ap (λ (y : Key). is_in y xs) (one_key j x i) ∙ head_once x xs r)
+        by_key true true i l = never (is_in j xs) l (ap (λ (y : Key). is_in y xs) (one_key j x i) ∙ head_once x xs r)
         by_key true false i l = here ∙ ap (λ b. cond b (option_map (with_mine f) (entry_of u x)) (entry_of u j)) i ∙ ap (λ (y : Key). option_map (with_mine f) (entry_of u y)) (sym (one_key j x i))
         by_key false true i l = ap (option_map (with_mine f)) (here ∙ ap (λ b. cond b (option_map (with_mine f) (entry_of u x)) (entry_of u j)) i)
         by_key false false i l = here ∙ ap (λ b. cond b (option_map (with_mine f) (entry_of u x)) (entry_of u j)) i
@@ -98,7 +99,7 @@ module _ (t u : TableValue) (k : Key) (p : ℤ) (c : Content) (negative : is_pos
     by_user : (b : Bool) → is_in j (users t k) ≡ b → cond b (Some (with_mine f e)) (Some e) ≡ Some (moved_entry f e)
     by_user true i = ap (λ (x : Entry). Some x) same
     by_user false i =
-        let none : uses e k ≡ false = elim (decide (uses e k)) [ inl x ↦ true_false (is_in j (users t k)) (from j k e h x negative) i | inr x ↦ x ] in
+        let none : uses e k ≡ false = elim (cases_Bool (uses e k)) [ inl x ↦ never (is_in j (users t k)) (from j k e h x negative) i | inr x ↦ x ] in
         ap (λ (x : Entry). Some x) (sym (stays_is f e (λ d m. free d (uses_not e d none m))) ∙ same)
 
   pub drafted_made : made_from u k p (users t k) (mine_at (entry_of u k)) ≡ confirmed u (Create k c) p

@@ -1,5 +1,6 @@
 -- What a table has at each key after one answer.
 use Rattle.std.proofs.Common.{◌≡◌, ℤ, Bool, true, false, cond, Option, Some, None, refl, ◌∙◌, ap, inl, inr}
+use Rattle.std.proofs.lemmas.Bool.{cases_Bool}
 use Rattle.std.specs.Option.{option_map}
 use Rattle.std.specs.FinMap as fin
 use Rattle.osm_base.specs.Rank.{is_key}
@@ -13,7 +14,7 @@ use Rattle.osm_table.proofs.Each.{get_with}
 use Rattle.upload_order.specs.declared.change.Change.TheVariants.{Create}
 use Rattle.upload_order.specs.Rename.{with_id}
 use Rattle.renamed_content.specs.Renamed.{renamed}
-use Rattle.upload_order.proofs.Basics.{decide, none_some}
+use Rattle.upload_order.proofs.Basics.{none_some}
 use Rattle.placeholder.specs.Confirmed.{moved, moved_entry, moved_entries, made_entry, confirmed}
 use Rattle.placeholder.proofs.Moved.{get_moved}
 
@@ -50,5 +51,5 @@ made_gone t k c p j away here =
 -- what isn't there isn't there after the entry of another key was set
 pub set_none : (t : TableValue) (k j : Key) (e f : Entry) → entry_of t k ≡ Some e → entry_of t j ≡ None → entry_of (with_entry t k f) j ≡ None
 set_none t k j e f there none =
-    let away : is_key j k ≡ false = elim (decide (is_key j k)) [ inl i ↦ none_some e (entry_of t j) none (ap (entry_of t) (one_key j k i) ∙ there) | inr i ↦ i ] in
+    let away : is_key j k ≡ false = elim (cases_Bool (is_key j k)) [ inl i ↦ none_some e (entry_of t j) none (ap (entry_of t) (one_key j k i) ∙ there) | inr i ↦ i ] in
     get_with t k f j ∙ ap (λ b. cond b (Some f) (entry_of t j)) away ∙ none

@@ -8,7 +8,7 @@ use Rattle.std.specs.FinMap.Entries as list
 use Rattle.std.proofs.lemmas.List.{length-map}
 use Rattle.osm_base.specs.Rank.{rank_cmp, is_key}
 use Rattle.osm_base.specs.RankLaws.{rank_total}
-use Rattle.osm_base.specs.Content.{refs_of, kind_of_content, fits, tag_fits, role_fits, node}
+use Rattle.osm_base.specs.Content.{refs_of, fits, tag_fits, role_fits, node}
 use Rattle.osm_base.specs.declared.key.Key.{Key}
 use Rattle.osm_base.specs.declared.members.Member.{Member}
 use Rattle.osm_base.specs.declared.content.Content.{Content}
@@ -23,6 +23,7 @@ use Rattle.upload_order.specs.Kinds.{is_rising, is_update, is_falling, held_of}
 use Rattle.upload_order.specs.Plan.{version_at}
 use Rattle.upload_order.specs.Refused.{is_open}
 use Rattle.renamed_content.specs.Renamed.{renamed}
+use Rattle.renamed_content.proofs.Refs.{renamed_kind}
 use Rattle.placeholder.specs.Confirmed.{moved_entry, moved_entries}
 
 -- the tests of an entry don't see the names
@@ -59,11 +60,6 @@ find_moved f q (e ∷ es) = one (is_key q e.0) e.1 _ _ (find_moved f q es) where
 
 pub get_moved : (f : Key → Key) (m : fin.FinMap rank_cmp Entry) (q : Key) → fin.get (moved_entries f m) q ≡ option_map (moved_entry f) (fin.get m q)
 get_moved f m q = fin.get-from_entries rank_total (map (λ e. (e.0, moved_entry f e.1)) (fin.entries m)) q ∙ find_moved f q (fin.entries m) ∙ ap (option_map (moved_entry f)) (sym (fin.get-entries m q))
-
-pub kind_moved : (f : Key → Key) (c : Content) → kind_of_content (renamed f c) ≡ kind_of_content c
-kind_moved f (content.Node tags at) = refl
-kind_moved f (content.Way tags refs) = refl
-kind_moved f (content.Relation tags members) = refl
 
 pub same_new : (f : Key → Key) (g : Entry) → is_new (base_in (moved_entry f g)) ≡ is_new (base_in g)
 same_new f Incomplete = refl
@@ -111,7 +107,7 @@ fits_renamed f (content.Relation tags members) = λ i.
 
 kind_case : (f : Key → Key) (k : Key) (o : Option Content) → OfKind k o → OfKind k (option_map (renamed f) o)
 kind_case f k None h = tt
-kind_case f k (Some c) h = kind_moved f c ∙ h
+kind_case f k (Some c) h = renamed_kind f c ∙ h
 
 fits_case : (f : Key → Key) (o : Option Content) → IfContent o (λ c. IsTrue (fits c)) → IfContent (option_map (renamed f) o) (λ c. IsTrue (fits c))
 fits_case f None h = tt
@@ -138,7 +134,7 @@ moved_sound f n k (Known New m None) o h u s = record {
 }
 moved_sound f n k (Known (Live v b x) None None) o h u s = record {
   id = s.id;
-  kinds = (kind_moved f b ∙ s.kinds.0, tt, tt);
+  kinds = (renamed_kind f b ∙ s.kinds.0, tt, tt);
   server = (server_case f b (h b refl) s.server.0, tt);
   versions = s.versions;
   limits = λ changed. tt;
@@ -146,7 +142,7 @@ moved_sound f n k (Known (Live v b x) None None) o h u s = record {
 }
 moved_sound f n k (Known (Live v b x) (Some c) None) o h u s = record {
   id = s.id;
-  kinds = (kind_moved f b ∙ s.kinds.0, kind_moved f c ∙ s.kinds.1, tt);
+  kinds = (renamed_kind f b ∙ s.kinds.0, renamed_kind f c ∙ s.kinds.1, tt);
   server = (server_case f b (h b refl) s.server.0, tt);
   versions = s.versions;
   limits = λ changed. fits_renamed f c ∙ s.limits (u changed);
@@ -155,7 +151,7 @@ moved_sound f n k (Known (Live v b x) (Some c) None) o h u s = record {
 moved_sound f n k (Known (Gone v x) None None) o h u s = record { id = s.id; kinds = (tt, tt, tt); server = (tt, tt); versions = s.versions; limits = λ changed. tt; conflict = tt }
 moved_sound f n k (Known (Gone v x) (Some c) None) o h u s = record {
   id = s.id;
-  kinds = (tt, kind_moved f c ∙ s.kinds.1, tt);
+  kinds = (tt, renamed_kind f c ∙ s.kinds.1, tt);
   server = (tt, tt);
   versions = s.versions;
   limits = λ changed. fits_renamed f c ∙ s.limits refl;

@@ -1,9 +1,11 @@
 -- The placeholders that were answered, beside the table that is confirmed.
 use Rattle.std.proofs.Common.{◌≡◌, ◌+◌, ℤ, true, false, List, [], ◌∷◌, map, Option, Some, None, refl, sym, ◌∙◌, ap, subst, inl, inr}
+use Rattle.std.proofs.lemmas.Bool.{cases_Bool}
 use Rattle.osm_base.specs.Rank.{is_key}
 use Rattle.osm_base.specs.Meta.{empty_meta}
 use Rattle.osm_base.specs.declared.key.Key.{Key}
 use Rattle.osm_base.proofs.RisingKeys.{one_key}
+use Rattle.osm_base.proofs.Tests.{never}
 use Rattle.osm_table.specs.declared.entry.Base.TheVariants.{Live, Gone}
 use Rattle.osm_table.specs.declared.entry.Entry.{Entry}
 use Rattle.osm_table.specs.Table.{TableValue, entry_of}
@@ -11,7 +13,7 @@ use Rattle.upload_order.specs.declared.change.Change.{Change}
 use Rattle.upload_order.specs.declared.change.Change.TheVariants.{Create, Modify, Delete}
 use Rattle.upload_order.specs.Rename.{Names, named, called, with_id, is_positive}
 use Rattle.renamed_content.specs.Renamed.{renamed}
-use Rattle.upload_order.proofs.Basics.{decide, true_false, none_some, both}
+use Rattle.upload_order.proofs.Basics.{none_some, both}
 use Rattle.placeholder.specs.Confirmed.{moved, based_on, moved_change, named_by, confirmed}
 use Rattle.placeholder.specs.Resumed.{left_after}
 use Rattle.placeholder.proofs.LookUps.{made_none, made_gone, set_none}
@@ -39,7 +41,7 @@ known_moved f t (Delete k v) h = h
 
 -- a key that a server gave is no placeholder
 not_given : (r q : Key) → is_positive r.id ≡ false → is_positive q.id ≡ true → is_key r q ≡ false
-not_given r q n p = elim (decide (is_key r q)) [ inl i ↦ true_false (is_positive q.id) p (ap (λ (x : Key). is_positive x.id) (sym (one_key r q i)) ∙ n) | inr i ↦ i ]
+not_given r q n p = elim (cases_Bool (is_key r q)) [ inl i ↦ never (is_positive q.id) p (ap (λ (x : Key). is_positive x.id) (sym (one_key r q i)) ∙ n) | inr i ↦ i ]
 
 no_name : (ns : Names) (t : TableValue) (k : Key) (e : Entry) → AreNamed ns t → is_positive k.id ≡ false → entry_of t k ≡ Some e → named ns k ≡ None
 no_name ns t k e a n h = by_name (named ns k) refl where
@@ -49,13 +51,13 @@ no_name ns t k e a n h = by_name (named ns k) refl where
 
 pub named_again : (f : Key → Key) (ns : Names) (t : TableValue) (c : Change) (p : ℤ) → AreNamed ns t → IsKnownIn t c → IsGivenTo c p → AreNamed (named_by c p ns) (confirmed t (moved_change f c) p)
 named_again f ns t (Create k c) p a known positive = record {
-  given = λ r x h. elim (decide (is_key r k)) [
+  given = λ r x h. elim (cases_Bool (is_key r k)) [
     | inl i ↦ subst (λ y. is_positive y ≡ true) (both p x (named ((k, p) ∷ ns) r) (head_name k p ns r i) h) positive
     | inr i ↦ a.given r x (sym (tail_name k p ns r i) ∙ h)
   ];
   gone = λ r x h n.
       let away = not_given r (with_id k p) n positive in
-      elim (decide (is_key r k)) [
+      elim (cases_Bool (is_key r k)) [
         | inl i ↦ made_gone t k (renamed f c) p r away i
         | inr i ↦ made_none t k (renamed f c) p r away (a.gone r x (sym (tail_name k p ns r i) ∙ h) n)
       ];

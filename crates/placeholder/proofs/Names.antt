@@ -1,5 +1,6 @@
 -- Names given one after the other are names given at once.
 use Rattle.std.proofs.Common.{◌≡◌, ◌+◌, ℤ, Bool, true, false, cond, List, [], ◌∷◌, map, Option, Some, None, refl, sym, ◌∙◌, ap, inl, inr}
+use Rattle.std.proofs.lemmas.Bool.{cases_Bool}
 use Rattle.std.specs.Option.{unwrap_or}
 use Rattle.std.specs.FinMap as fin
 use Rattle.osm_base.specs.Rank.{is_key}
@@ -14,7 +15,7 @@ use Rattle.upload_order.specs.declared.change.Change.TheVariants.{Create, Modify
 use Rattle.upload_order.specs.Rename.{Names, named, with_id, called, is_positive}
 use Rattle.renamed_content.specs.Renamed.{renamed}
 use Rattle.upload_order.specs.World.{World, WorldEntry, put_in, after}
-use Rattle.upload_order.proofs.Basics.{decide, none_some}
+use Rattle.upload_order.proofs.Basics.{none_some}
 use Rattle.upload_order.proofs.Renaming.{renamed_same, renamed_itself}
 use Rattle.placeholder.specs.Confirmed.{moved, moved_change}
 
@@ -41,7 +42,7 @@ pub meaning : (ns : Names) (r : Key) → Meaning ns r
 meaning ns r = by_name (named ns r) refl where
   by_name : (o : Option ℤ) → named ns r ≡ o → Meaning ns r
   by_name None e = itself (called_none ns r e)
-  by_name (Some p) e = elim (decide (is_positive r.id)) [ inl h ↦ itself (called_self ns r h) | inr h ↦ given p h e ]
+  by_name (Some p) e = elim (cases_Bool (is_positive r.id)) [ inl h ↦ itself (called_self ns r h) | inr h ↦ given p h e ]
 
 -- the names are of ids that a server gave
 abbrev pub AreGiven : Names → Type 0
@@ -68,12 +69,12 @@ tail_name k p ns r e = ap (λ b. cond b (Some p) (named ns r)) e
 pub called_more : (k : Key) (p : ℤ) (ns : Names) → AreGiven ns → named ns k ≡ None → (r : Key) → moved k p (called ns r) ≡ called ((k, p) ∷ ns) r
 called_more k p ns positive new r = elim (meaning ns r) [
   | given x e n ↦ (
-      let away : is_key r k ≡ false = elim (decide (is_key r k)) [ inl i ↦ none_some x (named ns k) new (ap (named ns) (sym (one_key r k i)) ∙ n) | inr i ↦ i ] in
+      let away : is_key r k ≡ false = elim (cases_Bool (is_key r k)) [ inl i ↦ none_some x (named ns k) new (ap (named ns) (sym (one_key r k i)) ∙ n) | inr i ↦ i ] in
       ap (moved k p) (called_named ns r x e n) ∙ called_self ((k, p) ∷ []) (with_id r x) (positive r x n)
       ∙ sym (called_named ((k, p) ∷ ns) r x e (tail_name k p ns r away ∙ n)))
-  | itself e ↦ ap (moved k p) e ∙ (elim (decide (is_positive r.id)) [
+  | itself e ↦ ap (moved k p) e ∙ (elim (cases_Bool (is_positive r.id)) [
     | inl h ↦ called_self ((k, p) ∷ []) r h ∙ sym (called_self ((k, p) ∷ ns) r h)
-    | inr h ↦ (elim (decide (is_key r k)) [
+    | inr h ↦ (elim (cases_Bool (is_key r k)) [
       | inl i ↦ called_named ((k, p) ∷ []) r p h (head_name k p [] r i) ∙ sym (called_named ((k, p) ∷ ns) r p h (head_name k p ns r i))
       | inr i ↦ (
           let old : called ((k, p) ∷ ns) r ≡ called ns r = λ l. with_id r (unwrap_or (cond (is_positive r.id) (Some r.id) (tail_name k p ns r i l)) r.id) in

@@ -1,5 +1,6 @@
 -- The plan after an object was deleted is the rest of the plan.
 use Rattle.std.proofs.Common.{◌≡◌, ℕ, zero, suc, ◌+◌, ◌≤◌, Bool, true, false, cond, not, List, [], ◌∷◌, ◌++◌, map, length, Option, Some, None, refl, sym, ◌∙◌, ap, subst, ◌⊎◌, inl, inr, arith}
+use Rattle.std.proofs.lemmas.Bool.{cases_Bool}
 use Rattle.std.specs.List.{find}
 use Rattle.osm_base.specs.Rank.{is_key}
 use Rattle.osm_base.specs.Meta.{empty_meta}
@@ -7,6 +8,7 @@ use Rattle.osm_base.specs.declared.key.Kind.{Kind}
 use Rattle.osm_base.specs.declared.key.Kind.TheVariants as kind
 use Rattle.osm_base.specs.declared.key.Key.{Key}
 use Rattle.osm_base.proofs.RisingKeys.{key_itself}
+use Rattle.osm_base.proofs.Tests.{never}
 use Rattle.osm_table.specs.declared.entry.Entry.{Entry}
 use Rattle.osm_table.specs.declared.entry.Entry.TheVariants.{Known}
 use Rattle.osm_table.specs.declared.entry.Base.TheVariants.{Gone}
@@ -19,16 +21,16 @@ use Rattle.upload_order.specs.Kinds.{is_falling, held_refers, held_at, content_r
 use Rattle.upload_order.specs.Order.{without}
 use Rattle.upload_order.specs.Fall.{Item, whole, is_unused, uses_some, without_item, emptied, fall, fall_next, fall_clear}
 use Rattle.upload_order.specs.Plan.{plain_removes, downs, down_of, version_at}
-use Rattle.upload_order.proofs.Basics.{key_same, decide, true_false, both, at_key_put, at_other}
+use Rattle.upload_order.proofs.Basics.{key_same, both, at_key_put, at_other}
 use Rattle.upload_order.proofs.Entries.{IsIn, found_in, map_in}
 use Rattle.upload_order.proofs.Lists.{AreDistinct}
 use Rattle.upload_order.proofs.PlanUps.{kind_is, kind_self}
 use Rattle.upload_order.proofs.PlanDowns.{weight, lighter_drop}
 use Rattle.upload_order.proofs.Where.{keys_where, falling_of, falling_items, falling_both, distinct_where, in_where}
+use Rattle.upload_order.proofs.Downs.{version_case}
 use Rattle.placeholder.proofs.Cleared.{unmarked, Alike, cleared_same, whole_weight}
 use Rattle.placeholder.proofs.ClearedPlan.{map_joined, rest_of}
 use Rattle.placeholder.proofs.Rest.{without_where, without_absent, without_head}
-use Rattle.placeholder.proofs.Whole.{version_case}
 
 abbrev removed_key : Key → List Down → Key
 removed_key d [] = d
@@ -80,8 +82,8 @@ module _ (t : TableValue) (k : Key) (e : Entry) (entry : entry_of t k ≡ Some e
   off_u j i = at_other t.entries k j e2 i
 
   not_there : (kd : Kind) (j : Key) (f : Entry) → entry_of u j ≡ Some f → falling_of kd j f ≡ true → is_key j k ≡ false
-  not_there kd j f h g = elim (decide (is_key j k)) [
-    | inl i ↦ true_false (is_falling f) (falling_both kd j.kind f g).1 (ap is_falling (both f e2 (entry_of u j) h (at_u j i)))
+  not_there kd j f h g = elim (cases_Bool (is_key j k)) [
+    | inl i ↦ never (is_falling f) (falling_both kd j.kind f g).1 (ap is_falling (both f e2 (entry_of u j) h (at_u j i)))
     | inr i ↦ i
   ]
 
@@ -123,7 +125,7 @@ module _ (t : TableValue) (k : Key) (e : Entry) (entry : entry_of t k ≡ Some e
   alike : Alike t u k empty_now later_now (falling_items u)
   alike = record {
     held = λ i j x y n. ap (λ o. content_refers (held_at o) j.0) (sym (off_u i.0 n));
-    marked = λ i x h. true_false (is_key i.0 k) h (item_apart i x);
+    marked = λ i x h. never (is_key i.0 k) h (item_apart i x);
     version = λ i x n. ap version_at (sym (off_u i.0 n));
   }
 
@@ -157,7 +159,7 @@ module _ (t : TableValue) (k : Key) (e : Entry) (entry : entry_of t k ≡ Some e
 
   -- in the lists of other kinds k isn't
   other_kind : (a b : Kind) → k.kind ≡ a → kind_is a b ≡ false → keys_where t (falling_of b) ≡ keys_where u (falling_of b)
-  other_kind a b h n = sym (without_absent k (keys_where t (falling_of b)) (λ i. true_false (kind_is a b) (subst (λ (x : Kind). kind_is a x ≡ true) (sym h ∙ kind_at b i) (kind_self a)) n)) ∙ falling b
+  other_kind a b h n = sym (without_absent k (keys_where t (falling_of b)) (λ i. never (kind_is a b) (subst (λ (x : Kind). kind_is a x ≡ true) (sym h ∙ kind_at b i) (kind_self a)) n)) ∙ falling b
 
   head_in : (kd : Kind) (zs : List Key) → keys_where t (falling_of kd) ≡ k ∷ zs → (k.kind ≡ kd) × (zs ≡ keys_where u (falling_of kd))
   head_in kd zs e =

@@ -1,5 +1,6 @@
 -- The plan of a table whose first change is settled is the rest of the plan.
 use Rattle.std.proofs.Common.{◌≡◌, ℕ, zero, suc, ◌≤◌, Bool, true, false, cond, not, ◌||◌, List, [], ◌∷◌, ◌++◌, length, Option, Some, None, refl, sym, ◌∙◌, ap, subst, ◌⊎◌, inl, inr, arith}
+use Rattle.std.proofs.lemmas.Bool.{not-true, cases_Bool, cond-false, cond-true}
 use Rattle.std.specs.Prelude.{T}
 use Rattle.std.specs.List.{list_any, find}
 use Rattle.std.specs.Option.{option_map_or}
@@ -11,17 +12,17 @@ use Rattle.osm_base.specs.declared.key.Kind.TheVariants as kind
 use Rattle.osm_base.specs.declared.key.Key.{Key}
 use Rattle.osm_base.proofs.ByRank.{rises_keys}
 use Rattle.osm_base.proofs.RisingKeys.{one_key, key_itself, rises_filter, same_keys}
+use Rattle.osm_base.proofs.Tests.{never}
 use Rattle.osm_table.specs.declared.entry.Entry.{Entry}
 use Rattle.osm_table.specs.Table.{TableValue, entry_of, keys_by_rank}
 use Rattle.upload_order.specs.Kinds.{is_update, mine_refers}
 use Rattle.upload_order.specs.Order.{without, is_ready, Peeled, peel_found, peel}
 use Rattle.upload_order.specs.Plan.{made, ups}
-use Rattle.upload_order.proofs.Basics.{decide, true_false}
 use Rattle.upload_order.proofs.Conditions.{Sound}
 use Rattle.upload_order.proofs.Entries.{IsIn, any_in, in_any, found_in, in_filter, filter_in}
 use Rattle.upload_order.proofs.Lists.{less_filter}
 use Rattle.upload_order.proofs.Peel.{peel_from, peel_all}
-use Rattle.upload_order.proofs.PlanUps.{kind_is, ups_ordered, ups_done}
+use Rattle.upload_order.proofs.PlanUps.{ups_ordered, ups_done, apart_kinds}
 use Rattle.upload_order.proofs.Static.{IsOrdered, no_more, next, with_key}
 use Rattle.upload_order.proofs.Where.{keys_where, rising_of, rising_both, in_where, where_in}
 
@@ -32,10 +33,6 @@ rises_where t test = rises_filter (λ k. option_map_or (test k) (entry_of t k) f
 same_list : (ks js : List Key) → T (rises ks) → T (rises js) → ((x : Key) → IsIn x ks → IsIn x js) → ((x : Key) → IsIn x js → IsIn x ks) → ks ≡ js
 same_list ks js r s f g = same_keys ks js r s (λ q. both_ways (is_in q ks) (is_in q js) (λ h. in_any js q (f q (any_in ks q h))) (λ h. in_any ks q (g q (any_in js q h))))
 
-not_true : (b : Bool) → not b ≡ true → b ≡ false
-not_true true e = cc
-not_true false e = refl
-
 -- The test's keys in the one table are those in the other, without k.
 pub same_where : (t u : TableValue) (p q : Key → Entry → Bool) → ((j : Key) (e : Entry) → entry_of t j ≡ Some e → p j e ≡ true → (f : Entry) × (entry_of u j ≡ Some f) × (q j f ≡ true)) → ((j : Key) (e : Entry) → entry_of u j ≡ Some e → q j e ≡ true → (f : Entry) × (entry_of t j ≡ Some f) × (p j f ≡ true)) → keys_where t p ≡ keys_where u q
 same_where t u p q there back = same_list (keys_where t p) (keys_where u q) (rises_where t p) (rises_where u q)
@@ -44,25 +41,17 @@ same_where t u p q there back = same_list (keys_where t p) (keys_where u q) (ris
 
 pub without_where : (t u : TableValue) (k : Key) (p q : Key → Entry → Bool) → ((j : Key) (e : Entry) → is_key j k ≡ false → entry_of t j ≡ Some e → p j e ≡ true → (f : Entry) × (entry_of u j ≡ Some f) × (q j f ≡ true)) → ((j : Key) (e : Entry) → entry_of u j ≡ Some e → q j e ≡ true → (is_key j k ≡ false) × ((f : Entry) × (entry_of t j ≡ Some f) × (p j f ≡ true))) → without k (keys_where t p) ≡ keys_where u q
 without_where t u k p q there back = same_list (without k (keys_where t p)) (keys_where u q) (rises_filter (λ j. not (is_key j k)) (keys_where t p) (rises_where t p)) (rises_where u q)
-    (λ x i. let m = in_filter (λ j. not (is_key j k)) (keys_where t p) x i in let a = in_where t p x m.0 in let b = there x a.0 (not_true (is_key x k) m.1) a.1 a.2 in where_in u q x b.0 b.1 b.2)
+    (λ x i. let m = in_filter (λ j. not (is_key j k)) (keys_where t p) x i in let a = in_where t p x m.0 in let b = there x a.0 (not-true (is_key x k) m.1) a.1 a.2 in where_in u q x b.0 b.1 b.2)
     (λ x i. let a = in_where u q x i in let b = back x a.0 a.1 a.2 in filter_in (λ j. not (is_key j k)) (keys_where t p) x (where_in t p x b.1.0 b.1.1 b.1.2) (ap not b.0))
-
-cond_same : {A : Type 0} (b : Bool) (x y z : A) → b ≡ true → cond b x y ≡ x
-cond_same true x y z e = refl
-cond_same false x y z e = cc
-
-cond_other : {A : Type 0} (b : Bool) (x y : A) → b ≡ false → cond b x y ≡ y
-cond_other true x y e = cc
-cond_other false x y e = refl
 
 pub without_absent : (k : Key) (ks : List Key) → (IsIn k ks → ⊥) → without k ks ≡ ks
 without_absent k [] n = refl
 without_absent k (j ∷ js) n =
-    cond_same (not (is_key j k)) (j ∷ without k js) (without k js) [] (ap not (elim (decide (is_key j k)) as (λ _. is_key j k ≡ false) [ inl e ↦ absurd (n (inl (one_key j k e))) | inr e ↦ e ]))
+    cond-true (not (is_key j k)) (j ∷ without k js) (without k js) (ap not (elim (cases_Bool (is_key j k)) as (λ _. is_key j k ≡ false) [ inl e ↦ absurd (n (inl (one_key j k e))) | inr e ↦ e ]))
     ∙ ap (λ xs. j ∷ xs) (without_absent k js (λ i. n (inr i)))
 
 pub without_head : (k : Key) (ks : List Key) → (IsIn k ks → ⊥) → without k (k ∷ ks) ≡ ks
-without_head k ks n = cond_other (not (is_key k k)) (k ∷ without k ks) (without k ks) (ap not (key_itself k)) ∙ without_absent k ks n
+without_head k ks n = cond-false (not (is_key k k)) (k ∷ without k ks) (without k ks) (ap not (key_itself k)) ∙ without_absent k ks n
 
 append_one : {A : Type 0} (b : Bool) (x : A) (xs ys : List A) → cond b (x ∷ xs) xs ++ ys ≡ cond b (x ∷ (xs ++ ys)) (xs ++ ys)
 append_one true x xs ys = refl
@@ -82,7 +71,7 @@ not_before t done last ks (next d l k js e c u free h a) q (inr i) = off (is_key
   off false c e = e
 
 pub ordered_head : (t : TableValue) (done last : Key → Bool) (k : Key) (ks : List Key) → IsOrdered t done (k ∷ ks) last → IsIn k ks → ⊥
-ordered_head t done last k ks (next d l j js e c u free h a) i = true_false (with_key k d k) (ap (λ b. cond b true (d k)) (key_itself k)) (not_before t (with_key k d) l ks a k i)
+ordered_head t done last k ks (next d l j js e c u free h a) i = never (with_key k d k) (ap (λ b. cond b true (d k)) (key_itself k)) (not_before t (with_key k d) l ks a k i)
 
 -- Peeling depends on the references among those left alone.
 module _ (t u : TableValue) where
@@ -172,20 +161,13 @@ module _ (t u : TableValue) (s : Sound t) (clear : (made t).stuck ≡ []) (k : K
   starts : (kd : Kind) (zs : List Key) → keys_where t (rising_of kd) ≡ k ∷ zs → k.kind ≡ kd
   starts kd zs e = kind_at kd (subst (λ (xs : List Key). IsIn k xs) (sym e) (inl refl))
 
-  apart_kind : {P : Type 0} (a b : Kind) → k.kind ≡ a → k.kind ≡ b → kind_is a b ≡ false → P
-  apart_kind a b e f n = true_false (kind_is a b) (subst (λ (x : Kind). kind_is a x ≡ true) (sym e ∙ f) (self a)) n where
-    self : (a : Kind) → kind_is a a ≡ true
-    self kind.Node = refl
-    self kind.Way = refl
-    self kind.Relation = refl
-
   relation_first : IsIn k (keys_where t (rising_of kind.Relation)) → (zs : List Key) × ((made t).order ≡ k ∷ zs)
   relation_first i =
       let kd = kind_at kind.Relation i in
       elim (front (keys_where t (rising_of kind.Node)) _ k ks head) [
-        | inr a ↦ apart_kind kind.Node kind.Relation (starts kind.Node a.0 a.1) kd refl
+        | inr a ↦ apart_kinds kind.Node kind.Relation k.kind (starts kind.Node a.0 a.1) kd refl
         | inl a ↦ (elim (front (keys_where t (rising_of kind.Way)) _ k ks a.1) [
-          | inr b ↦ apart_kind kind.Way kind.Relation (starts kind.Way b.0 b.1) kd refl
+          | inr b ↦ apart_kinds kind.Way kind.Relation k.kind (starts kind.Way b.0 b.1) kd refl
           | inl b ↦ (elim (front (made t).order _ k ks b.1) [
             | inr c ↦ c
             | inl c ↦ (elim (peel_all t (length (keys_where t (rising_of kind.Relation))) (keys_where t (rising_of kind.Relation)) k i) [
@@ -197,9 +179,9 @@ module _ (t u : TableValue) (s : Sound t) (clear : (made t).stuck ≡ []) (k : K
       ]
 
   order_again : (m : ℕ) → length (keys_where u (rising_of kind.Relation)) ≤ m → ((peel (mine_refers u) m (keys_where u (rising_of kind.Relation))).order ≡ without k (made t).order) × ((peel (mine_refers u) m (keys_where u (rising_of kind.Relation))).stuck ≡ (made t).stuck)
-  order_again m b = elim (decide (list_any (is_key k) (keys_where t (rising_of kind.Relation)))) [
+  order_again m b = elim (cases_Bool (list_any (is_key k) (keys_where t (rising_of kind.Relation)))) [
     | inl i ↦ there (any_in (keys_where t (rising_of kind.Relation)) k i)
-    | inr n ↦ absent (λ i. true_false (list_any (is_key k) (keys_where t (rising_of kind.Relation))) (in_any (keys_where t (rising_of kind.Relation)) k i) n)
+    | inr n ↦ absent (λ i. never (list_any (is_key k) (keys_where t (rising_of kind.Relation))) (in_any (keys_where t (rising_of kind.Relation)) k i) n)
   ] where
     absent : (IsIn k (keys_where t (rising_of kind.Relation)) → ⊥) → ((peel (mine_refers u) m (keys_where u (rising_of kind.Relation))).order ≡ without k (made t).order) × ((peel (mine_refers u) m (keys_where u (rising_of kind.Relation))).stuck ≡ (made t).stuck)
     absent n =
@@ -213,7 +195,7 @@ module _ (t u : TableValue) (s : Sound t) (clear : (made t).stuck ≡ []) (k : K
     there i =
         let f = relation_first i in
         let g = begins t (length (keys_where t (rising_of kind.Relation))) (keys_where t (rising_of kind.Relation)) k f.0 (omega arith) f.1 in
-        let gone : IsIn k (peel (mine_refers t) g.0 (without k (keys_where t (rising_of kind.Relation)))).order → ⊥ = λ j. true_false (is_key k k) (key_itself k) (not_true (is_key k k) (in_filter (λ x. not (is_key x k)) (keys_where t (rising_of kind.Relation)) k (peel_from t g.0 (without k (keys_where t (rising_of kind.Relation))) k j)).1) in
+        let gone : IsIn k (peel (mine_refers t) g.0 (without k (keys_where t (rising_of kind.Relation)))).order → ⊥ = λ j. never (is_key k k) (key_itself k) (not-true (is_key k k) (in_filter (λ x. not (is_key x k)) (keys_where t (rising_of kind.Relation)) k (peel_from t g.0 (without k (keys_where t (rising_of kind.Relation))) k j)).1) in
         let shift : peel (mine_refers t) g.0 (keys_where u (rising_of kind.Relation)) ≡ peel (mine_refers u) m (keys_where u (rising_of kind.Relation)) = peel_same t u g.0 m (keys_where u (rising_of kind.Relation)) (let z = ap (λ (xs : List Key). length xs) (rising kind.Relation) in let y = g.1 in omega (arith, z, y)) b same in (
           ap (λ (p : Peeled). p.order) (sym shift) ∙ ap (λ (xs : List Key). (peel (mine_refers t) g.0 xs).order) (sym (rising kind.Relation)) ∙ sym (ap (without k) g.2 ∙ without_head k _ gone),
           ap (λ (p : Peeled). p.stuck) (sym shift) ∙ ap (λ (xs : List Key). (peel (mine_refers t) g.0 xs).stuck) (sym (rising kind.Relation)) ∙ sym g.3,

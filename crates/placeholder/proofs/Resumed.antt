@@ -25,7 +25,7 @@ use Rattle.upload_order.proofs.Accepted.{plan_accepted}
 use Rattle.upload_order.proofs.Along.{means_itself, mine_known, up_based}
 use Rattle.upload_order.proofs.Basics.{both}
 use Rattle.upload_order.proofs.Conditions.{Sound}
-use Rattle.upload_order.proofs.Downs.{falling_based}
+use Rattle.upload_order.proofs.Downs.{falling_based, version_case}
 use Rattle.upload_order.proofs.Entries.{found_in, map_in}
 use Rattle.upload_order.proofs.PlanUps.{ups_ordered, ups_done}
 use Rattle.upload_order.proofs.PlanDowns.{downs_ordered}
@@ -35,6 +35,7 @@ use Rattle.upload_order.proofs.Static.{IsUp, IsOrdered, next, IsDown, clear, rem
 use Rattle.upload_order.proofs.Turn.{start_left, to_go_some}
 use Rattle.upload_order.proofs.Where.{keys_where, falling_of, falling_items, falling_both, in_where}
 use Rattle.upload_order.proofs.Worlds.{called_meant, accepted_sound}
+use Rattle.upload_order.proofs.Ups.{up_case}
 use Rattle.placeholder.specs.Answers.{IsAnswer}
 use Rattle.placeholder.specs.Confirmed.{moved, moved_change, based_on, confirmed}
 use Rattle.placeholder.specs.Resumed.{IsReady, left_after}
@@ -45,7 +46,6 @@ use Rattle.placeholder.proofs.Created as created
 use Rattle.placeholder.proofs.Fallen as fallen
 use Rattle.placeholder.proofs.RemovedPlan as removed
 use Rattle.placeholder.proofs.Settled.{answered_up, answered_down}
-use Rattle.placeholder.proofs.Whole.{version_case, up_case}
 
 head_is : (c d : Change) (cs ds : List Change) → c ∷ cs ≡ d ∷ ds → (c ≡ d) × (cs ≡ ds)
 head_is c d cs ds e = (ap (λ l. first_or l c) e, ap rest_of e) where

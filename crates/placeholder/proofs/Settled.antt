@@ -1,5 +1,6 @@
 -- A table stays sound where an entry that isn't in conflict comes to stand on another base.
 use Rattle.std.proofs.Common.{◌≡◌, ℕ, true, false, Option, Some, None, refl, sym, ◌∙◌, ap, subst, inl, inr, IsTrue}
+use Rattle.std.proofs.lemmas.Bool.{cases_Bool}
 use Rattle.osm_base.specs.Rank.{is_key}
 use Rattle.osm_base.specs.Content.{refers, kind_of_content, fits}
 use Rattle.osm_base.specs.declared.key.Key.{Key}
@@ -11,22 +12,17 @@ use Rattle.osm_table.specs.declared.entry.Entry.{Entry}
 use Rattle.osm_table.specs.declared.entry.Entry.TheVariants.{Incomplete, Known}
 use Rattle.osm_table.specs.Table.{TableValue, entry_of, with_entry, mine_of, held_by, is_new, uses, IsThere, IfContent, IsPositive}
 use Rattle.osm_table.proofs.Each.{each_with, get_with_same, get_with_other}
-use Rattle.dataset.specs.Sound.{IsSound, IsSoundEntry, BaseFits, HasVersion, LivesIn, OfKind, FromTheServer}
+use Rattle.dataset.specs.Sound.{IsSound, IsSoundEntry, HasVersion, LivesIn, OfKind, FromTheServer}
+use Rattle.dataset.proofs.Ids.{base_fits}
 use Rattle.upload_order.specs.Bases.{is_based}
 use Rattle.upload_order.specs.Kinds.{is_falling}
 use Rattle.upload_order.specs.Refused.{is_open}
-use Rattle.upload_order.proofs.Basics.{decide}
 use Rattle.placeholder.specs.Confirmed.{based_on}
 use Rattle.placeholder.proofs.Whole.{all_refs, id_case}
 
 -- a content of the key's kind that refers to ids of servers alone
 abbrev pub IsServed : Key → Content → Type 0
 IsServed k c = (kind_of_content c ≡ k.kind) × ((r : Key) → refers c r ≡ true → IsPositive r.id)
-
-base_fits : (n : ℕ) (k : Key) (b : Base) (m : Option Content) → is_new b ≡ false → IsPositive k.id → BaseFits n k b m None
-base_fits n k New m h p = let f : true ≡ false = h in cc
-base_fits n k (Live v c x) m h p = p
-base_fits n k (Gone v x) m h p = p
 
 kind_case : (k : Key) (o : Option Content) → ((c : Content) → o ≡ Some c → IsServed k c) → OfKind k o
 kind_case k None h = tt
@@ -65,7 +61,7 @@ pub settled_sound : (t : TableValue) (k : Key) (e : Entry) (b : Base) → IsSoun
     → ((c : Content) → held_by b ≡ Some c → IsServed k c) → ((c : Content) → mine_of e ≡ Some c → fits c ≡ true) → IsSound (with_entry t k (based_on b (Some e)))
 settled_sound t k e b s entry o x known version served fit =
     let e2 = based_on b (Some e) in
-    let there : (r : Key) → IsThere (entry_of t r) → IsThere (entry_of (with_entry t k e2) r) = λ r h. elim (decide (is_key r k)) [
+    let there : (r : Key) → IsThere (entry_of t r) → IsThere (entry_of (with_entry t k e2) r) = λ r h. elim (cases_Bool (is_key r k)) [
       | inl i ↦ subst (λ (x : Key). IsThere (entry_of (with_entry t k e2) x)) (sym (one_key r k i)) (subst IsThere (sym (get_with_same t k e2)) (there_same e b (subst IsThere (ap (entry_of t) (one_key r k i) ∙ entry) h)))
       | inr i ↦ subst IsThere (sym (get_with_other t k e2 r i)) h
     ] in record {

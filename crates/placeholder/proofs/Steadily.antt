@@ -1,5 +1,6 @@
 -- Whoever answers the changes of a plan, the table stays sound.
 use Rattle.std.proofs.Common.{◌≡◌, ◌+◌, ℤ, true, false, not, List, [], ◌∷◌, ◌++◌, map, Option, Some, None, refl, sym, ◌∙◌, ap, subst, ◌⊎◌, inl, inr, arith}
+use Rattle.std.proofs.lemmas.Bool.{cases_Bool}
 use Rattle.std.specs.Option.{option_map}
 use Rattle.osm_base.specs.Rank.{is_key}
 use Rattle.osm_base.specs.Content.{refers, fits, kind_of_content}
@@ -7,6 +8,7 @@ use Rattle.osm_base.specs.Meta.{empty_meta}
 use Rattle.osm_base.specs.declared.key.Key.{Key}
 use Rattle.osm_base.specs.declared.content.Content.{Content}
 use Rattle.osm_base.proofs.RisingKeys.{one_key}
+use Rattle.osm_base.proofs.Tests.{never}
 use Rattle.osm_table.specs.declared.entry.Base.{Base}
 use Rattle.osm_table.specs.declared.entry.Base.TheVariants.{Live, Gone}
 use Rattle.osm_table.specs.declared.entry.Entry.{Entry}
@@ -23,7 +25,7 @@ use Rattle.upload_order.specs.Rename.{Names, called, with_id, is_positive}
 use Rattle.renamed_content.specs.Renamed.{renamed}
 use Rattle.upload_order.specs.Run.{pick_for, picks_left}
 use Rattle.upload_order.proofs.Along.{not_based, mine_known}
-use Rattle.upload_order.proofs.Basics.{decide, true_false, both, key_same}
+use Rattle.upload_order.proofs.Basics.{both, key_same}
 use Rattle.upload_order.proofs.Entries.{IsIn}
 use Rattle.upload_order.proofs.Renaming.{renamed_from}
 use Rattle.upload_order.proofs.Sounds.{sound_of, positive_is}
@@ -64,7 +66,7 @@ module _ (t : TableValue) (k : Key) (e : Entry) (b : Base) (entry : entry_of t k
   set_settled h = each_with (λ j g. is_open g ≡ false) t k e2 h (still_settled e ∙ h k e entry)
 
   on_set : (j : Key) (o : Option Content) → IsOn t j o → IsOn (with_entry t k e2) j o
-  on_set j o x = elim (decide (is_key j k)) [
+  on_set j o x = elim (cases_Bool (is_key j k)) [
     | inl i ↦ (
         let one : x.entry ≡ e = both x.entry e (entry_of t k) (ap (entry_of t) (sym (one_key j k i)) ∙ x.there) entry in record {
           entry = e2;
@@ -78,8 +80,8 @@ module _ (t : TableValue) (k : Key) (e : Entry) (b : Base) (entry : entry_of t k
 
   first_set : (j : Key) (c : Content) → IsFirst t j c → IsFirst (with_entry t k e2) j c
   first_set j c x =
-      let away : is_key j k ≡ false = elim (decide (is_key j k)) [
-        | inl i ↦ true_false (is_based e) based (ap is_based (both e x.entry (entry_of t k) entry (ap (entry_of t) (sym (one_key j k i)) ∙ x.there)) ∙ not_based x.entry x.new)
+      let away : is_key j k ≡ false = elim (cases_Bool (is_key j k)) [
+        | inl i ↦ never (is_based e) based (ap is_based (both e x.entry (entry_of t k) entry (ap (entry_of t) (sym (one_key j k i)) ∙ x.there)) ∙ not_based x.entry x.new)
         | inr i ↦ i
       ] in
       record { entry = x.entry; there = get_with_other t k e2 j away ∙ x.there; new = x.new; mine = x.mine; fit = x.fit }
@@ -109,8 +111,8 @@ module _ (k : Key) (p : ℤ) (negative : is_positive k.id ≡ false) (t : TableV
   made_settled j g h = created.cases_u k p negative t is settled first.entry c first.there first.mine given absent (λ j g. is_open g ≡ false) (λ j g n m h. same_open f g ∙ settled j g h) refl j g h
 
   away : (j : Key) (g : Entry) → entry_of t j ≡ Some g → is_based g ≡ true → is_key j k ≡ false
-  away j g h b = elim (decide (is_key j k)) [
-    | inl i ↦ true_false (is_based g) b (ap is_based (both g first.entry (entry_of t k) (ap (entry_of t) (sym (one_key j k i)) ∙ h) first.there) ∙ not_based first.entry first.new)
+  away j g h b = elim (cases_Bool (is_key j k)) [
+    | inl i ↦ never (is_based g) b (ap is_based (both g first.entry (entry_of t k) (ap (entry_of t) (sym (one_key j k i)) ∙ h) first.there) ∙ not_based first.entry first.new)
     | inr i ↦ i
   ]
 
@@ -125,11 +127,11 @@ module _ (k : Key) (p : ℤ) (negative : is_positive k.id ≡ false) (t : TableV
 
   module _ (made all : List Key) (more : (r : Key) → IsIn r all → (is_key r k ≡ true) ⊎ IsIn r made) where
     ref_moved : (s r : Key) → f s ≡ r → IsPositive s.id ⊎ IsIn s all → IsPositive r.id ⊎ IsIn r made
-    ref_moved s r e h = elim (decide (is_key s k)) [
+    ref_moved s r e h = elim (cases_Bool (is_key s k)) [
       | inl i ↦ inl (subst (λ (x : Key). IsPositive x.id) (sym (created.f_here k p negative s i) ∙ e) given)
       | inr i ↦ subst (λ (x : Key). IsPositive x.id ⊎ IsIn x made) (sym (created.f_other k p negative s i) ∙ e) (elim h [
         | inl x ↦ inl x
-        | inr x ↦ (elim (more s x) [ inl y ↦ true_false (is_key s k) y i | inr y ↦ inr y ])
+        | inr x ↦ (elim (more s x) [ inl y ↦ never (is_key s k) y i | inr y ↦ inr y ])
       ])
     ]
 
@@ -139,7 +141,7 @@ module _ (k : Key) (p : ℤ) (negative : is_positive k.id ≡ false) (t : TableV
   steady_moved : (made all : List Key) → ((r : Key) → IsIn r all → (is_key r k ≡ true) ⊎ IsIn r made) → ((r : Key) → IsIn r made → IsIn r all) → IsIn k all → (cs : List Change) → AreSteady t all cs → AreSteady u made (map (moved_change f) cs)
   steady_moved made all more less here [] h = tt
   steady_moved made all more less here (Create j d ∷ cs) h =
-      let apart : is_key j k ≡ false = elim (decide (is_key j k)) [ inl i ↦ absurd (h.1 (subst (λ (x : Key). IsIn x all) (sym (one_key j k i)) here)) | inr i ↦ i ] in (
+      let apart : is_key j k ≡ false = elim (cases_Bool (is_key j k)) [ inl i ↦ absurd (h.1 (subst (λ (x : Key). IsIn x all) (sym (one_key j k i)) here)) | inr i ↦ i ] in (
         record {
           entry = moved_entry f h.0.entry;
           there = still j h.0.entry apart h.0.there;

@@ -1,5 +1,6 @@
 -- The changes of a plan stand in the table in an order in which each can be answered, on every server.
 use Rattle.std.proofs.Common.{◌≡◌, ℕ, zero, suc, ◌+◌, Bool, true, false, cond, not, List, [], ◌∷◌, ◌++◌, map, length, Option, Some, None, refl, sym, ◌∙◌, ap, subst, ◌⊎◌, inl, inr}
+use Rattle.std.proofs.lemmas.Bool.{cases_Bool}
 use Rattle.std.specs.List.{find}
 use Rattle.osm_base.specs.Rank.{is_key}
 use Rattle.osm_base.specs.Content.{refers, fits}
@@ -7,6 +8,7 @@ use Rattle.osm_base.specs.declared.key.Kind.TheVariants as kind
 use Rattle.osm_base.specs.declared.key.Key.{Key}
 use Rattle.osm_base.specs.declared.content.Content.{Content}
 use Rattle.osm_base.proofs.RisingKeys.{one_key}
+use Rattle.osm_base.proofs.Tests.{never, some_passed}
 use Rattle.osm_table.specs.declared.entry.Entry.{Entry}
 use Rattle.osm_table.specs.Table.{TableValue, entry_of, mine_of, version_of, is_new, is_incomplete, IsPositive}
 use Rattle.dataset.specs.Sound.{IsSound}
@@ -19,8 +21,8 @@ use Rattle.upload_order.specs.Kinds.{at_key, is_rising, held_refers}
 use Rattle.upload_order.specs.Fall.{Item, is_unused, uses_some, without_item, emptied, fall, fall_next, fall_clear}
 use Rattle.upload_order.specs.Plan.{plan, ups, downs, up_of, up_entry, down_of, empty_relation, plain_removes}
 use Rattle.upload_order.specs.Refused.{is_open}
-use Rattle.upload_order.proofs.Along.{at_is, passed}
-use Rattle.upload_order.proofs.Basics.{decide, true_false, both, key_same}
+use Rattle.upload_order.proofs.Along.{at_is, new_rising, up_based}
+use Rattle.upload_order.proofs.Basics.{both, key_same, with_cases, with_more}
 use Rattle.upload_order.proofs.Conditions.{Sound}
 use Rattle.upload_order.proofs.Downs.{falling_based}
 use Rattle.upload_order.proofs.Entries.{IsIn, found_in, in_filter, map_in}
@@ -31,8 +33,9 @@ use Rattle.upload_order.proofs.Sounds.{sound_of}
 use Rattle.upload_order.proofs.Static.{IsUp, IsOrdered, no_more, next, with_key, Left, IsDown, clear, remove}
 use Rattle.upload_order.proofs.Turn.{start_left}
 use Rattle.upload_order.proofs.Where.{keys_where, falling_of, falling_items, falling_both, in_where}
+use Rattle.upload_order.proofs.Ups.{up_case}
 use Rattle.placeholder.proofs.Clear.{IsClear}
-use Rattle.placeholder.proofs.Whole.{given_id, falling_none, based_up, new_up, up_case}
+use Rattle.placeholder.proofs.Whole.{given_id, falling_none}
 
 -- each reference is an id of a server, or a key made before
 abbrev pub IsAfter : List Key → Content → Type 0
@@ -118,10 +121,6 @@ module _ (t : TableValue) (is : IsSound t) (ok : IsClear t) where
     all : (r : Key) → done r ≡ true → (e : Entry) → entry_of t r ≡ Some e → is_new (base_in e) ≡ true → IsIn r made
     only : (r : Key) → IsIn r made → done r ≡ true
 
-  with_cases : (b d : Bool) → cond b true d ≡ true → (b ≡ true) ⊎ (d ≡ true)
-  with_cases true d e = inl refl
-  with_cases false d e = inr e
-
   made_more : (k : Key) (done : Key → Bool) (made : List Key) → AreMade done made → AreMade (with_key k done) (k ∷ made)
   made_more k done made a = record {
     all = λ r d e h n. elim (with_cases (is_key r k) (done r) d) [ inl i ↦ inl (sym (one_key r k i)) | inr i ↦ inr (a.all r i e h n) ];
@@ -138,22 +137,19 @@ module _ (t : TableValue) (is : IsSound t) (ok : IsClear t) where
   made_same : (k : Key) (e : Entry) (done : Key → Bool) (made : List Key) → entry_of t k ≡ Some e → is_new (base_in e) ≡ false → AreMade done made → AreMade (with_key k done) made
   made_same k e done made h n a = record {
     all = λ r d f g m. elim (with_cases (is_key r k) (done r) d) [
-      | inl i ↦ true_false (is_new (base_in f)) m (ap (λ (x : Entry). is_new (base_in x)) (both f e (entry_of t k) (ap (entry_of t) (sym (one_key r k i)) ∙ g) h) ∙ n)
+      | inl i ↦ never (is_new (base_in f)) m (ap (λ (x : Entry). is_new (base_in x)) (both f e (entry_of t k) (ap (entry_of t) (sym (one_key r k i)) ∙ g) h) ∙ n)
       | inr i ↦ a.all r i f g m
     ];
-    only = λ r i. with_on (is_key r k) (done r) (a.only r i);
-  } where
-    with_on : (b d : Bool) → d ≡ true → cond b true d ≡ true
-    with_on true d h = refl
-    with_on false d h = h
+    only = λ r i. with_more (is_key r k) (done r) (a.only r i);
+  }
 
   -- the references of what comes next
   after_made : (done : Key → Bool) (made : List Key) (k : Key) (e : Entry) (c : Content) → IsUp t k e c → ((r : Key) → refers c r ≡ true → at_key t is_rising r ≡ true → done r ≡ true) → AreMade done made → IsAfter made c
   after_made done made k e c u h a r x = elim (s.refs k r e c u.entry u.mine x) [
-    | inl i ↦ (let y = passed is_incomplete (entry_of t r) i in inl (given_id t is r y.0 y.1 (inl y.2)))
-    | inr l ↦ (elim (decide (is_new (base_in l.0))) [
-      | inl n ↦ inr (a.all r (h r x (at_is t is_rising r l.0 true l.2 (new_up l.0 l.1 l.3 n))) l.0 l.2 n)
-      | inr n ↦ inl (given_id t is r l.0 l.2 (inr (based_up l.0 l.1 l.3 n)))
+    | inl i ↦ (let y = some_passed is_incomplete (entry_of t r) i in inl (given_id t is r y.0 y.1 (inl y.2)))
+    | inr l ↦ (elim (cases_Bool (is_new (base_in l.0))) [
+      | inl n ↦ inr (a.all r (h r x (at_is t is_rising r l.0 true l.2 (new_rising l.0 l.1 l.3 n))) l.0 l.2 n)
+      | inr n ↦ inl (given_id t is r l.0 l.2 (inr (up_based l.0 l.1 l.3 n)))
     ])
   ]
 
@@ -177,12 +173,12 @@ module _ (t : TableValue) (is : IsSound t) (ok : IsClear t) where
         by_base : ((m : List Key) → AreMade (with_key k d) m → AreSteady t m (map (up_of t) js ++ ds)) → (b : Bool) → is_new (base_in e) ≡ b → AreSteady t made (cond b (Create k c) (Modify k (version_of (base_in e)) c) ∷ (map (up_of t) js ++ ds))
         by_base go true n = (
           record { entry = e; there = u.entry; new = n; mine = u.mine; fit = s.fit k e c u.entry u.mine u.up },
-          λ i. true_false (d k) (a.only k i) free,
+          λ i. never (d k) (a.only k i) free,
           after_made d made k e c u h a,
           go (k ∷ made) (made_more k d made a),
         )
         by_base go false n = (
-          inl (record { entry = e; there = u.entry; based = based_up e c u.mine n; settled = ok.no_conflict k e u.entry; mine = u.mine }, s.fit k e c u.entry u.mine u.up),
+          inl (record { entry = e; there = u.entry; based = up_based e c u.mine n; settled = ok.no_conflict k e u.entry; mine = u.mine }, s.fit k e c u.entry u.mine u.up),
           after_made d made k e c u h a,
           go made (made_same k e d made u.entry n a),
         )

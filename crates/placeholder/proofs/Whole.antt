@@ -1,22 +1,21 @@
 -- What a sound table says of the entries of its changes.
-use Rattle.std.proofs.Common.{◌≡◌, ℕ, Bool, true, false, cond, List, [], ◌∷◌, Option, Some, None, refl, sym, ◌∙◌, ap, subst, ◌⊎◌, inl, inr}
+use Rattle.std.proofs.Common.{◌≡◌, ℕ, Bool, true, false, List, [], ◌∷◌, Option, Some, None, refl, sym, ◌∙◌, ap, subst, ◌⊎◌, inl, inr}
 use Rattle.std.specs.List.{AllByRecursion}
 use Rattle.std.specs.Option.{option_map_or}
 use Rattle.osm_base.specs.Content.{refers, refs_of}
 use Rattle.osm_base.specs.declared.key.Key.{Key}
 use Rattle.osm_base.specs.declared.content.Content.{Content}
+use Rattle.osm_base.proofs.Tests.{never}
 use Rattle.osm_table.specs.declared.entry.Base.TheVariants.{New, Live, Gone}
 use Rattle.osm_table.specs.declared.entry.Entry.{Entry}
 use Rattle.osm_table.specs.declared.entry.Entry.TheVariants.{Incomplete, Known}
-use Rattle.osm_table.specs.Table.{TableValue, entry_of, mine_of, version_of, is_incomplete, is_new, IsPositive, IsThere}
+use Rattle.osm_table.specs.Table.{TableValue, entry_of, mine_of, is_incomplete, IsPositive, IsThere}
 use Rattle.dataset.specs.Sound.{IsSound, IsSoundEntry}
-use Rattle.upload_order.specs.declared.change.Change.TheVariants.{Create, Modify}
-use Rattle.upload_order.specs.Plan.{version_at, up_entry}
-use Rattle.upload_order.specs.Bases.{base_in, is_based}
+use Rattle.upload_order.specs.Bases.{is_based}
 use Rattle.upload_order.specs.Kinds.{is_rising, is_falling, at_key}
 use Rattle.upload_order.proofs.Entries.{IsIn, in_any}
 use Rattle.upload_order.proofs.Static.{IsOrdered, next}
-use Rattle.upload_order.proofs.Basics.{both, true_false}
+use Rattle.upload_order.proofs.Basics.{both}
 
 pub all_from : (P : Key → Type 0) (ks : List Key) → ((r : Key) → IsIn r ks → P r) → AllByRecursion P ks
 all_from P [] h = tt
@@ -61,44 +60,13 @@ used_ref (Some c) r h = (c, refl, h)
 
 -- Kinds of change.
 
-pub up_falls : (e : Entry) (c : Content) → mine_of e ≡ Some c → is_falling e ≡ false
-up_falls Incomplete c h = refl
-up_falls (Known New m d) c h = refl
-up_falls (Known (Live v b n) None d) c h = cc
-up_falls (Known (Live v b n) (Some x) d) c h = refl
-up_falls (Known (Gone v n) m d) c h = refl
-
-pub based_up : (e : Entry) (c : Content) → mine_of e ≡ Some c → is_new (base_in e) ≡ false → is_based e ≡ true
-based_up Incomplete c h g = cc
-based_up (Known New m d) c h g = cc
-based_up (Known (Live v b n) m d) c h g = refl
-based_up (Known (Gone v n) m d) c h g = refl
-
-pub new_up : (e : Entry) (c : Content) → mine_of e ≡ Some c → is_new (base_in e) ≡ true → is_rising e ≡ true
-new_up Incomplete c h g = cc
-new_up (Known New m d) c h g = refl
-new_up (Known (Live v b n) m d) c h g = cc
-new_up (Known (Gone v n) m d) c h g = cc
-
 -- what comes first refers to nothing that is new
 pub first_calm : (t : TableValue) (done last : Key → Bool) (k : Key) (ks : List Key) → IsOrdered t done (k ∷ ks) last → (e : Entry) (c : Content) → entry_of t k ≡ Some e → mine_of e ≡ Some c
     → (r : Key) → refers c r ≡ true → at_key t is_rising r ≡ true → done r ≡ false → ⊥
 first_calm t done last k ks (next d l x js f b u free before a) e c h m r g i n =
     let one : e ≡ f = both e f (entry_of t k) h u.entry in
     let two : c ≡ b = both c b (mine_of f) (ap mine_of (sym one) ∙ m) u.mine in
-    true_false (d r) (before r (subst (λ (x : Content). refers x r ≡ true) two g) i) n
-
-pub version_case : (e : Entry) → version_at (Some e) ≡ version_of (base_in e)
-version_case Incomplete = refl
-version_case (Known b m d) = refl
-
--- the change that is sent of an object
-pub up_case : (k : Key) (e : Entry) (c : Content) → mine_of e ≡ Some c → up_entry k (Some e) ≡ cond (is_new (base_in e)) (Create k c) (Modify k (version_of (base_in e)) c)
-up_case k Incomplete c h = cc
-up_case k (Known b None d) c h = cc
-up_case k (Known New (Some x) d) c h = ap (Create k) (both x c (Some x) refl h)
-up_case k (Known (Live v b n) (Some x) d) c h = ap (Modify k v) (both x c (Some x) refl h)
-up_case k (Known (Gone v n) (Some x) d) c h = ap (Modify k v) (both x c (Some x) refl h)
+    never (d r) (before r (subst (λ (x : Content). refers x r ≡ true) two g) i) n
 
 pub falling_none : (e : Entry) → is_falling e ≡ true → mine_of e ≡ None
 falling_none Incomplete h = cc

@@ -1,10 +1,9 @@
 -- How often each pair is there after one more or one less, and that only pairs that are there more than once have a number.
-use Rattle.std.proofs.Common.{◌≡◌, ℕ, ◌+◌, ◌<◌, ◌≤◌, ◌&&◌, ◌||◌, Bool, true, false, not, cond, is_some, Option, Some, None, refl, sym, ◌∙◌, ap, arith, subst, Ordering}
+use Rattle.std.proofs.Common.{◌≡◌, ℕ, ◌+◌, ◌<◌, ◌≤◌, ◌&&◌, ◌||◌, Bool, true, false, not, cond, is_some, Option, Some, None, refl, sym, ◌∙◌, ap, arith, subst}
+use Rattle.std.proofs.lemmas.Bool.{or_right}
 use Rattle.std.specs.Map.{lookup}
 use Rattle.std.specs.Option.{unwrap_or, IfSome}
-use Rattle.std.specs.Ordering.{is_eq}
-use Rattle.std.specs.Cmp.{eq_by_cmp_equiv}
-use Rattle.std.specs.declared.cmp.Ordering.TheVariants.{Less, Equal, Greater}
+use Rattle.std.specs.Cmp.{eq_by_cmp_equiv, Equal-is}
 use Rattle.osm_base.specs.Rank.{rank_cmp, is_key}
 use Rattle.ref_index.specs.declared.pair.Pair.{Pair}
 use Rattle.ref_index.specs.Bag.{is_pair, pair_cmp, pair_eq}
@@ -12,13 +11,8 @@ use Rattle.ref_index.specs.PairRank.{pair_total, pair_exact, pair_ties, eq_then}
 use Rattle.ref_index.specs.Users.{Lists, is_listed}
 use Rattle.ref_index.specs.Repeats.{Repeats, AreRepeats, SetsNumber, number_of, times_there}
 
-tied : (o : Ordering) → is_eq o ≡ true → o ≡ Equal
-tied Less e = cc
-tied Equal e = refl
-tied Greater e = cc
-
 pub one_pair : (p q : Pair) → is_pair p q ≡ true → p ≡ q
-one_pair p q e = pair_exact p q (tied (pair_cmp p q) e)
+one_pair p q e = pair_exact p q ((Equal-is (pair_cmp p q)).0 e)
 
 pub pair_parts : (p q : Pair) → is_pair p q ≡ (is_key p.of q.of && is_key p.user q.user)
 pair_parts p q = eq_then (rank_cmp p.of q.of) (rank_cmp p.user q.user)
@@ -77,13 +71,9 @@ repeat_case (Some n) b c h g = (h.0, g refl h.1)
 listed_repeats : (repeats : Repeats) (old new : Lists) → AreRepeats repeats old → ((q : Pair) → is_some (lookup (pair_eq q) repeats) ≡ true → is_listed old q ≡ true → is_listed new q ≡ true) → AreRepeats repeats new
 listed_repeats repeats old new a stays q = repeat_case (lookup (pair_eq q) repeats) (is_listed old q) (is_listed new q) (a q) (stays q)
 
-or_true : (b c : Bool) → c ≡ true → (b || c) ≡ true
-or_true true c e = refl
-or_true false c e = e
-
 -- a pair that comes for the first time
 pub first_repeats : (repeats : Repeats) (old new : Lists) (p : Pair) → AreRepeats repeats old → ((q : Pair) → is_listed new q ≡ (is_pair q p || is_listed old q)) → AreRepeats repeats new
-first_repeats repeats old new p a puts = listed_repeats repeats old new a (λ q s e. puts q ∙ or_true (is_pair q p) (is_listed old q) e)
+first_repeats repeats old new p a puts = listed_repeats repeats old new a (λ q s e. puts q ∙ or_right (is_pair q p) (is_listed old q) e)
 
 first_case : (b l : Bool) (n : ℕ) → (b ≡ true → (l ≡ false) × (n ≡ 1)) → cond (b || l) n 0 ≡ cond b 1 0 + cond l n 0
 first_case true true n h = let e : true ≡ false = (h refl).0 in cc

@@ -9,9 +9,8 @@ use Rattle.std.proofs.lemmas.Bool.{lt-ltb}
 use Rattle.std.proofs.lemmas.Map.Made.{is_some-lookup}
 use Rattle.osm_base.specs.declared.key.Key.{Key}
 use Rattle.osm_base.specs.KeyEq.{eq}
-use Rattle.osm_base.specs.RankLaws.{rank_ties}
+use Rattle.osm_base.specs.RankLaws.{rank_ties, eq_decides}
 use Rattle.osm_base.specs.RisingKeys.{is_in}
-use Rattle.osm_base.proofs.RisingKeys.{one_key}
 use Rattle.osm_base.proofs.MapViews.{get_view}
 use Rattle.ref_index.specs.declared.pair.Pair.{Pair}
 use Rattle.ref_index.specs.Bag.{count, pair_eq}
@@ -48,16 +47,13 @@ key_case true b true d n h = rw (sym (h refl)) refl
 key_case true b false d n h = rw (sym (h refl)) (sym (no_user b n))
 key_case false b c d n h = refl
 
-same_key : (j k : Key) → eq j k ≡ true → j ≡ k
-same_key j k e = one_key j k (sym (rank_ties j k) ∙ e)
-
 -- the pairs of several
 of_keys : (repeats : Repeats) (lists : Lists) (ks : List Key) (q : Pair) → lookup (pair_eq q) (flat_map (λ k. map (λ u. numbered repeats (record { of = k; user = u })) (users_of lists k)) ks) ≡ cond (list_any (eq q.of) ks && is_listed lists q) (Some (number_of repeats q)) None
 of_keys repeats lists [] q = refl
 of_keys repeats lists (k ∷ ks) q =
     lookup_both (pair_eq q) (map (λ u. numbered repeats (record { of = k; user = u })) (users_of lists k)) _
     ∙ (λ i. option_or (of_key repeats k (users_of lists k) q i) (of_keys repeats lists ks q i))
-    ∙ key_case (eq q.of k) (list_any (eq q.of) ks) (is_in q.user (users_of lists k)) (is_listed lists q) (number_of repeats q) (λ e. ap (λ j. is_in q.user (users_of lists j)) (sym (same_key q.of k e)))
+    ∙ key_case (eq q.of k) (list_any (eq q.of) ks) (is_in q.user (users_of lists k)) (is_listed lists q) (number_of repeats q) (λ e. ap (λ j. is_in q.user (users_of lists j)) (sym ((eq_decides q.of k).0 e)))
 
 listed_case : (o : Option (List Key)) (u : Key) → (is_some o && is_in u (unwrap_or o [])) ≡ is_in u (unwrap_or o [])
 listed_case None u = refl

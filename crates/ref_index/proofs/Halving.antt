@@ -1,52 +1,35 @@
 -- Where a key stands in a list that rises, found by halving, and the list without it.
 use Rattle.std.proofs.Common.{◌≡◌, ℕ, zero, suc, ◌+◌, ◌<◌, ◌≤◌, ◌&&◌, ◌||◌, Bool, true, false, not, cond, List, [], ◌∷◌, length, get_or, refl, sym, ◌∙◌, ap, arith, subst, Ordering}
 use Rattle.std.specs.declared.cmp.Ordering.TheVariants.{Less, Equal, Greater}
-use Rattle.std.specs.Ordering.{is_lt, is_eq, ordering_reverse}
+use Rattle.std.specs.Ordering.{is_lt, is_eq}
 use Rattle.std.specs.List.{remove}
 use Rattle.std.specs.List.Sorted.{IsPartitionedBy, IsPartitionPoint}
 use Rattle.std.specs.Prelude.{nat_lt, T}
 use Rattle.std.specs.FinMap.Entries.{below_all}
-use Rattle.std.proofs.lemmas.Bool.{ltb-true, lt-ltb}
+use Rattle.std.proofs.lemmas.Bool.{ltb-true, lt-ltb, and_parts}
 use Rattle.std.proofs.lemmas.List.Sums.{prefix_len_is}
 use Rattle.osm_base.specs.declared.key.Key.{Key}
 use Rattle.osm_base.specs.Rank.{rank_cmp, is_key}
 use Rattle.osm_base.specs.RankLaws.{rank_total, rank_exact}
 use Rattle.osm_base.specs.RisingKeys.{marked, rises, is_in, without_key, place_in}
-use Rattle.osm_base.proofs.RisingKeys.{key_itself, in_with, in_without, put_there}
-
-first : (a b : Bool) → T (a && b) → T a
-first true b p = tt
-first false b p = p
-
-second : (a b : Bool) → T (a && b) → T b
-second true b p = p
-second false b p = absurd p
-
-less : (o : Ordering) → T (is_lt o) → o ≡ Less
-less Less p = refl
-less Equal p = absurd p
-less Greater p = absurd p
-
-test_less : (o : Ordering) → is_lt o ≡ true → o ≡ Less
-test_less Less e = refl
-test_less Equal e = cc
-test_less Greater e = cc
+use Rattle.osm_base.proofs.RisingKeys.{key_itself, in_with, in_without, put_there, turned}
+use Rattle.osm_base.proofs.Tests.{first_T, second_T, less_from_T, less_from_test}
 
 abbrev IsBelow : Key → List Key → Type 0
 IsBelow k ks = T (below_all rank_cmp k (marked ks))
 
 below_at : (k : Key) (ks : List Key) (j : ℕ) (d : Key) → IsBelow k ks → j < length ks → rank_cmp k (get_or ks j d) ≡ Less
 below_at k [] j d h l = absurd (omega arith)
-below_at k (x ∷ ks) zero d h l = less _ (first _ _ h)
-below_at k (x ∷ ks) (suc j) d h l = below_at k ks j d (second _ _ h) (omega arith)
+below_at k (x ∷ ks) zero d h l = less_from_T _ (first_T _ _ h)
+below_at k (x ∷ ks) (suc j) d h l = below_at k ks j d (second_T _ _ h) (omega arith)
 
 -- the keys before a key come first
 pub parted : (k : Key) (ks : List Key) → T (rises ks) → IsPartitionedBy (λ j. is_lt (rank_cmp j k)) ks
 parted k [] h i j d le l e = absurd (omega arith)
 parted k (x ∷ ks) h zero zero d le l e = e
-parted k (x ∷ ks) h zero (suc j) d le l e = ap is_lt (rank_total.trans x (get_or ks j d) k (below_at x ks j d (first _ _ h) (omega arith)) (test_less _ e))
+parted k (x ∷ ks) h zero (suc j) d le l e = ap is_lt (rank_total.trans x (get_or ks j d) k (below_at x ks j d (first_T _ _ h) (omega arith)) (less_from_test _ e))
 parted k (x ∷ ks) h (suc i) zero d le l e = absurd (omega arith)
-parted k (x ∷ ks) h (suc i) (suc j) d le l e = parted k ks (second _ _ h) i j d (omega arith) (omega arith) e
+parted k (x ∷ ks) h (suc i) (suc j) d le l e = parted k ks (second_T _ _ h) i j d (omega arith) (omega arith) e
 
 pub place_of : (k : Key) (ks : List Key) (at : ℕ) → at ≤ length ks → IsPartitionPoint (λ j. is_lt (rank_cmp j k) ≡ true) (λ j. is_lt (rank_cmp j k) ≡ false) ks at → at ≡ place_in k ks
 place_of k ks at bound point = sym (prefix_len_is (λ j. is_lt (rank_cmp j k)) ks at k bound (λ i l. point.0 i k (omega arith) l) (λ l. point.1 at k (omega arith) l))
@@ -55,18 +38,15 @@ place_of k ks at bound point = sym (prefix_len_is (λ j. is_lt (rank_cmp j k)) k
 below_less : (j k : Key) (ks : List Key) → rank_cmp k j ≡ Less → IsBelow j ks → IsBelow k ks
 below_less j k [] e h = tt
 below_less j k (x ∷ ks) e h =
-    let p : rank_cmp k x ≡ Less = rank_total.trans k j x e (less _ (first _ _ h)) in
-    rw p (below_less j k ks e (second _ _ h))
+    let p : rank_cmp k x ≡ Less = rank_total.trans k j x e (less_from_T _ (first_T _ _ h)) in
+    rw p (below_less j k ks e (second_T _ _ h))
 
 kept_step : (k j : Key) (ks : List Key) → rank_cmp k j ≡ Less → without_key k ks ≡ ks → without_key k (j ∷ ks) ≡ j ∷ ks
 kept_step k j ks e h = ap (λ o. cond (not (is_eq o)) (j ∷ without_key k ks) (without_key k ks)) e ∙ ap (λ (xs : List Key). j ∷ xs) h
 
 kept : (k : Key) (ks : List Key) → IsBelow k ks → without_key k ks ≡ ks
 kept k [] h = refl
-kept k (j ∷ ks) h = kept_step k j ks (less _ (first _ _ h)) (kept k ks (second _ _ h))
-
-turned : (k j : Key) (o : Ordering) → rank_cmp k j ≡ o → is_lt (rank_cmp j k) ≡ is_lt (ordering_reverse o)
-turned k j o e = ap is_lt (rank_total.antisymm j k ∙ ap ordering_reverse e)
+kept k (j ∷ ks) h = kept_step k j ks (less_from_T _ (first_T _ _ h)) (kept k ks (second_T _ _ h))
 
 abbrev IsThere : Key → List Key → Type 0
 IsThere k ks = (place_in k ks < length ks) × (is_key k (get_or ks (place_in k ks) k) ≡ true)
@@ -100,7 +80,7 @@ out_step k j ks Greater e h there rest =
 
 out : (k : Key) (ks : List Key) → T (rises ks) → IsThere k ks → remove ks (place_in k ks) ≡ without_key k ks
 out k [] h there = absurd (omega (arith, there.0))
-out k (j ∷ ks) h there = out_step k j ks (rank_cmp k j) refl (first _ _ h) there (out k ks (second _ _ h))
+out k (j ∷ ks) h there = out_step k j ks (rank_cmp k j) refl (first_T _ _ h) there (out k ks (second_T _ _ h))
 
 none_step : (k j : Key) (ks : List Key) (o : Ordering) → rank_cmp k j ≡ o → IsBelow j ks → IsNew k (j ∷ ks) → (IsNew k ks → ks ≡ without_key k ks) → j ∷ ks ≡ Left k j ks o
 none_step k j ks Less e h none rest = ap (λ (xs : List Key). j ∷ xs) (sym (kept k ks (below_less j k ks e h)))
@@ -118,11 +98,7 @@ none_step k j ks Greater e h none rest =
 
 none : (k : Key) (ks : List Key) → T (rises ks) → IsNew k ks → ks ≡ without_key k ks
 none k [] h new = refl
-none k (j ∷ ks) h new = none_step k j ks (rank_cmp k j) refl (first _ _ h) new (none k ks (second _ _ h))
-
-parts : (a b : Bool) → (a && b) ≡ true → (a ≡ true) × (b ≡ true)
-parts true b e = (refl, e)
-parts false b e = cc
+none k (j ∷ ks) h new = none_step k j ks (rank_cmp k j) refl (first_T _ _ h) new (none k ks (second_T _ _ h))
 
 abbrev Stands : Key → List Key → ℕ → Bool
 Stands k ks at = nat_lt at (length ks) && is_key k (get_or ks at k)
@@ -130,7 +106,7 @@ Stands k ks at = nat_lt at (length ks) && is_key k (get_or ks at k)
 pub take_there : (k : Key) (ks : List Key) (at : ℕ) → T (rises ks) → at ≡ place_in k ks → Stands k ks at ≡ true → remove ks at ≡ without_key k ks
 take_there k ks at h e test =
     let P : ℕ → Type 0 = λ n. Stands k ks n ≡ true in
-    let p = parts (nat_lt (place_in k ks) (length ks)) _ (subst P e test) in
+    let p = and_parts (nat_lt (place_in k ks) (length ks)) _ (subst P e test) in
     ap (λ n. remove ks n) e ∙ out k ks h (ltb-true _ _ p.0, p.1)
 
 pub take_none : (k : Key) (ks : List Key) (at : ℕ) → T (rises ks) → at ≡ place_in k ks → Stands k ks at ≡ false → ks ≡ without_key k ks

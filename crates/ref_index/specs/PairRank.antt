@@ -6,17 +6,12 @@ use Rattle.std.specs.FinMap.{IsAntisymmetric}
 use Rattle.std.specs.declared.cmp.Ordering.{Ordering}
 use Rattle.std.specs.declared.cmp.Ordering.TheVariants.{Less, Equal, Greater}
 use Rattle.osm_base.specs.Rank.{rank_cmp}
-use Rattle.osm_base.specs.RankLaws.{rank_total, rank_exact, rank_ties}
+use Rattle.osm_base.specs.RankLaws.{rank_total, rank_exact, rank_ties, both_equal}
 use Rattle.ref_index.specs.declared.pair.Pair.{Pair}
 use Rattle.ref_index.specs.Bag.{pair_cmp, pair_eq}
 
 pub pair_total : IsTotalOrder pair_cmp
 pair_total = then_total (on_total (λ p. p.of) rank_total) (on_total (λ p. p.user) rank_total)
-
-both_equal : (p q : Ordering) → ordering_then p q ≡ Equal → (p ≡ Equal) × (q ≡ Equal)
-both_equal Less q e = cc
-both_equal Equal q e = (refl, e)
-both_equal Greater q e = cc
 
 pub pair_exact : IsAntisymmetric pair_cmp
 pair_exact p q h =

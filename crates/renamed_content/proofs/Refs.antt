@@ -1,5 +1,6 @@
 -- What a renamed content refers to.
 use Rattle.std.proofs.Common.{◌≡◌, ◌||◌, ℤ, Bool, true, false, List, [], ◌∷◌, map, refl, sym, ◌∙◌, ap, subst}
+use Rattle.std.proofs.lemmas.Bool.{or_right}
 use Rattle.std.specs.List.{list_any}
 use Rattle.osm_base.specs.Rank.{is_key}
 use Rattle.osm_base.specs.Content.{node, refs_of, refers, kind_of_content}
@@ -15,10 +16,6 @@ pub renamed_kind : (f : Key → Key) (c : Content) → kind_of_content (renamed 
 renamed_kind f (Node tags at) = refl
 renamed_kind f (Way tags refs) = refl
 renamed_kind f (Relation tags members) = refl
-
-later : (a b : Bool) → b ≡ true → (a || b) ≡ true
-later true b h = refl
-later false b h = h
 
 -- and refers to what its references are called, where kinds stay
 module _ (f : Key → Key) (kinds : (k : Key) → (f k).kind ≡ k.kind) where
@@ -43,7 +40,7 @@ module _ (f : Key → Key) (kinds : (k : Key) → (f k).kind ≡ k.kind) where
   any_called P [] all r e = let h : false ≡ true = e in cc
   any_called P (k ∷ ks) all r e =
       first_or_rest P r k (is_key r (f k)) (list_any (is_key r) (map f ks)) refl e (all k (ap (λ b. b || list_any (is_key k) ks) (key_itself k)))
-      (any_called P ks (λ q h. all q (later (is_key q k) (list_any (is_key q) ks) h)) r)
+      (any_called P ks (λ q h. all q (or_right (is_key q k) (list_any (is_key q) ks) h)) r)
 
   -- what holds of what each reference is called holds of each reference of the renamed content
   pub renamed_refers : (P : Key → Type 0) (c : Content) → ((q : Key) → refers c q ≡ true → P (f q)) → (r : Key) → refers (renamed f c) r ≡ true → P r

@@ -1,24 +1,13 @@
 -- A key put behind others.
 use Rattle.std.proofs.Common.{◌≡◌, ◌<◌, ◌&&◌, ◌||◌, Bool, true, false, not, ℕ, List, [], ◌∷◌, ◌++◌, length, nat_lt, refl, sym, ◌∙◌, ap}
 use Rattle.std.specs.Prelude.{T}
-use Rattle.std.proofs.lemmas.Bool.{true≢false, lt-ltb}
+use Rattle.std.specs.Bool.{passes}
+use Rattle.std.proofs.lemmas.Bool.{true≢false, lt-ltb, or_parts}
 use Rattle.std.proofs.lemmas.List.Folds.{list_any-append}
 use Rattle.osm_base.specs.Same.{same_text}
 use Rattle.osm_base.proofs.SameLaws.{same_text_decides}
-use Rattle.osm_base.proofs.TagLaws.{fore, aft}
+use Rattle.osm_base.proofs.Tests.{both_T, first_T, second_T}
 use Rattle.resolution.specs.Keys.{is_listed, are_tag_keys}
-
-both : (a b : Bool) → T a → T b → T (a && b)
-both true b g h = h
-both false b g h = absurd g
-
-pub neither : (a b : Bool) → (a || b) ≡ false → (a ≡ false) × (b ≡ false)
-neither true b h = absurd (true≢false h)
-neither false b h = (refl, h)
-
-yes : (b : Bool) → b ≡ true → T b
-yes true e = tt
-yes false e = absurd (true≢false (sym e))
 
 turned : (a b : List ℕ) → same_text a b ≡ false → same_text b a ≡ false
 turned a b e = by (same_text b a) refl
@@ -33,16 +22,16 @@ still keys x key h e = by (is_listed keys x) refl h
   where
     by : (b : Bool) → is_listed keys x ≡ b → T (not b) → T (not (is_listed (keys ++ key ∷ []) x))
     by true g t = absurd t
-    by false g t = yes (not (is_listed (keys ++ key ∷ []) x)) (ap not (list_any-append (λ listed. same_text listed x) keys (key ∷ []) ∙ (λ i. g i || (e i || false))))
+    by false g t = passes (not (is_listed (keys ++ key ∷ []) x)) (ap not (list_any-append (λ listed. same_text listed x) keys (key ∷ []) ∙ (λ i. g i || (e i || false))))
 
 added : (key : List ℕ) (keys : List (List ℕ)) → T (nat_lt 0 (length key)) → is_listed keys key ≡ false → T (are_tag_keys keys) → T (are_tag_keys (keys ++ key ∷ []))
-added key [] n out h = both (nat_lt 0 (length key)) true n tt
+added key [] n out h = both_T (nat_lt 0 (length key)) true n tt
 added key (x ∷ xs) n out h =
-    let o = neither (same_text x key) (is_listed xs key) out in
-    both (nat_lt 0 (length x)) (not (is_listed (xs ++ key ∷ []) x) && are_tag_keys (xs ++ key ∷ [])) (fore (nat_lt 0 (length x)) _ h)
-    (both (not (is_listed (xs ++ key ∷ []) x)) (are_tag_keys (xs ++ key ∷ []))
-    (still xs x key (fore (not (is_listed xs x)) _ (aft (nat_lt 0 (length x)) _ h)) (turned x key o.0))
-    (added key xs n o.1 (aft (not (is_listed xs x)) _ (aft (nat_lt 0 (length x)) _ h))))
+    let o = or_parts (same_text x key) (is_listed xs key) out in
+    both_T (nat_lt 0 (length x)) (not (is_listed (xs ++ key ∷ []) x) && are_tag_keys (xs ++ key ∷ [])) (first_T (nat_lt 0 (length x)) _ h)
+    (both_T (not (is_listed (xs ++ key ∷ []) x)) (are_tag_keys (xs ++ key ∷ []))
+    (still xs x key (first_T (not (is_listed xs x)) _ (second_T (nat_lt 0 (length x)) _ h)) (turned x key o.0))
+    (added key xs n o.1 (second_T (not (is_listed xs x)) _ (second_T (nat_lt 0 (length x)) _ h))))
 
 pub pushed : (key : List ℕ) (keys : List (List ℕ)) → 0 < length key → is_listed keys key ≡ false → T (are_tag_keys keys) → T (are_tag_keys (keys ++ key ∷ []))
-pushed key keys n = added key keys (yes (nat_lt 0 (length key)) (lt-ltb 0 (length key) n))
+pushed key keys n = added key keys (passes (nat_lt 0 (length key)) (lt-ltb 0 (length key) n))

@@ -11,6 +11,7 @@ use Rattle.osm_base.specs.declared.key.Kind.TheVariants as kind
 use Rattle.osm_base.specs.declared.key.Key.{Key}
 use Rattle.osm_base.specs.declared.content.Content.{Content}
 use Rattle.osm_base.proofs.RisingKeys.{one_key, key_itself}
+use Rattle.osm_base.proofs.Tests.{option_or-assoc, option_or-none, cond-option_or}
 use Rattle.osm_table.specs.declared.told.Told.{Told}
 use Rattle.osm_table.specs.Told.{ToldValue, told_at, with_told}
 use Rattle.sample_city.specs.City.{all_of, all_told, as_told, city, junction, number_in, numbered, objects, route, street, told_by}
@@ -21,30 +22,18 @@ abbrev telling : List (Key × Content) → Key → Option Told
 telling [] k = None
 telling (o ∷ os) k = option_or (telling os k) (cond (is_key k o.0) (Some (as_told o.1)) None)
 
-or_assoc : {A : Type 0} (a b c : Option A) → option_or a (option_or b c) ≡ option_or (option_or a b) c
-or_assoc None b c = refl
-or_assoc (Some x) b c = refl
-
-or_none : {A : Type 0} (a : Option A) → option_or a None ≡ a
-or_none None = refl
-or_none (Some x) = refl
-
-cond_or : (b : Bool) (t : Told) (o : Option Told) → cond b (Some t) o ≡ option_or (cond b (Some t) None) o
-cond_or true t o = refl
-cond_or false t o = refl
-
 told_all : (os : List (Key × Content)) (m : ToldValue) (k : Key) → told_at (all_told m os) k ≡ option_or (telling os k) (told_at m k)
 told_all [] m k = refl
 told_all (o ∷ os) m k =
     told_all os (with_told m o.0 (as_told o.1)) k
-    ∙ ap (option_or (telling os k)) (fin.get-insert rank_total m.told o.0 (as_told o.1) k ∙ cond_or (is_key k o.0) (as_told o.1) (told_at m k))
-    ∙ or_assoc (telling os k) (cond (is_key k o.0) (Some (as_told o.1)) None) (told_at m k)
+    ∙ ap (option_or (telling os k)) (fin.get-insert rank_total m.told o.0 (as_told o.1) k ∙ cond-option_or (is_key k o.0) (as_told o.1) (told_at m k))
+    ∙ option_or-assoc (telling os k) (cond (is_key k o.0) (Some (as_told o.1)) None) (told_at m k)
 
 telling_both : (xs ys : List (Key × Content)) (k : Key) → telling (xs ++ ys) k ≡ option_or (telling ys k) (telling xs k)
-telling_both [] ys k = sym (or_none (telling ys k))
+telling_both [] ys k = sym (option_or-none (telling ys k))
 telling_both (x ∷ xs) ys k =
     ap (λ o. option_or o (cond (is_key k x.0) (Some (as_told x.1)) None)) (telling_both xs ys k)
-    ∙ sym (or_assoc (telling ys k) (telling xs k) (cond (is_key k x.0) (Some (as_told x.1)) None))
+    ∙ sym (option_or-assoc (telling ys k) (telling xs k) (cond (is_key k x.0) (Some (as_told x.1)) None))
 
 -- A row.
 
@@ -110,7 +99,7 @@ city_found streets k =
     let routes = all_of kind.Relation route (streets / 10) in
     told_all (objects streets) (record { told = fin.empty; order = [] }) k
     ∙ ap (option_or (telling (objects streets) k)) (fin.get-empty rank_cmp k)
-    ∙ or_none (telling (objects streets) k)
+    ∙ option_or-none (telling (objects streets) k)
     ∙ telling_both nodes (ways ++ routes) k
     ∙ ap (λ o. option_or o (telling nodes k)) (telling_both ways routes k)
 
@@ -127,14 +116,14 @@ of_kind streets kind.Way id =
     ∙ ap₂ option_or
     (ap₂ option_or (row_other kind.Relation route (streets / 10) k (λ e. cc)) (row_found kind.Way street streets id))
     (row_other kind.Node junction (9 * streets + 1) k (λ e. cc))
-    ∙ or_none _
+    ∙ option_or-none _
 of_kind streets kind.Relation id =
     let k : Key = record { kind = kind.Relation; id = id } in
     city_found streets k
     ∙ ap₂ option_or
-    (ap₂ option_or (row_found kind.Relation route (streets / 10) id) (row_other kind.Way street streets k (λ e. cc)) ∙ or_none _)
+    (ap₂ option_or (row_found kind.Relation route (streets / 10) id) (row_other kind.Way street streets k (λ e. cc)) ∙ option_or-none _)
     (row_other kind.Node junction (9 * streets + 1) k (λ e. cc))
-    ∙ or_none _
+    ∙ option_or-none _
 
 pub told_at_key : (streets : ℕ) (key : Key) → told_at (city streets) key ≡ told_by streets key
 told_at_key streets key = of_kind streets key.kind key.id

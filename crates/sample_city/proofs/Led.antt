@@ -2,6 +2,7 @@
 use Rattle.std.proofs.Common.{◌≡◌, ◌∙◌, ◌+◌, ◌-◌, ◌*◌, ◌/◌, ◌%◌, ◌≤◌, ◌&&◌, ℕ, ℤ, Bool, true, false, cond, pos, negsuc, suc, zero, nat_le, map, Some, None, is_some, option_map, unwrap_or, refl, sym, ap, subst, arith, true≢false}
 use Rattle.std.specs.List.{AllByRecursion, range_with_len}
 use Rattle.std.proofs.lemmas.Bool.Decides.{nat_tests}
+use Rattle.std.proofs.lemmas.Option.{same_Some}
 use Rattle.osm_base.specs.Content.{node, refs_of}
 use Rattle.osm_base.specs.OnMap.{is_on_map}
 use Rattle.osm_base.specs.Place.{place_at, place_if}
@@ -25,9 +26,6 @@ record IsOf (streets : ℕ) (kind : Kind) (id : ℤ) (t : Told) : Type 0 where
   high : number ≤ how_many streets kind
   told : as_told (content_of kind number) ≡ t
 
-some_is : {X : Type 0} {x y : X} → Some x ≡ Some y → x ≡ y
-some_is {X} {x} {y} e = ap (λ o. unwrap_or o x) e
-
 none_is : {X : Type 0} {A : Type 0} {x : X} → None ≡ Some x → A
 none_is e = cc
 
@@ -38,7 +36,7 @@ object_in streets kind (pos i) t e = go (nat_le 1 i && nat_le i (how_many street
         → IsOf streets kind (pos i) t
     go true is found =
         let bounds = within i (how_many streets kind) is in
-        record { number = i; id_is = refl; low = bounds.0; high = bounds.1; told = some_is found }
+        record { number = i; id_is = refl; low = bounds.0; high = bounds.1; told = same_Some _ _ found }
     go false is found = none_is found
 object_in streets kind (negsuc i) t e = none_is e
 

@@ -6,9 +6,10 @@ use Rattle.osm_base.specs.Rank.{rank_cmp, is_key}
 use Rattle.osm_base.specs.RankLaws.{rank_total, rank_exact}
 use Rattle.osm_base.proofs.RisingKeys.{key_itself, one_key}
 use Rattle.osm_base.specs.declared.key.Key.{Key}
+use Rattle.osm_base.proofs.Tests.{first_T, second_T}
 use Rattle.osm_table.specs.declared.entry.Entry.{Entry}
 use Rattle.osm_table.specs.Table.{keys_by_rank}
-use Rattle.dataset.proofs.Looked.{fore, aft, below_none}
+use Rattle.dataset.proofs.Looked.{below_none}
 use Rattle.saved_session.specs.Reading.{Entries, Session, table_of}
 
 -- each entry of a list meets a condition
@@ -33,8 +34,8 @@ later_found k f e es below found = later_by (is_key k e.0) k f e es refl below f
 pub every_found : (P : Key → Entry → Type 0) (es : Entries) → T (is_sorted rank_cmp es) → ((k : Key) (e : Entry) → find rank_cmp k es ≡ Some e → P k e) → Every P es
 every_found P [] sorted each = tt
 every_found P (e ∷ es) sorted each =
-    let below = fore (below_all rank_cmp e.0 es) (is_sorted rank_cmp es) sorted in
-    (each e.0 e.1 (first_found e es), every_found P es (aft (below_all rank_cmp e.0 es) (is_sorted rank_cmp es) sorted) (λ k f found. each k f (later_found k f e es below found)))
+    let below = first_T (below_all rank_cmp e.0 es) (is_sorted rank_cmp es) sorted in
+    (each e.0 e.1 (first_found e es), every_found P es (second_T (below_all rank_cmp e.0 es) (is_sorted rank_cmp es) sorted) (λ k f found. each k f (later_found k f e es below found)))
 
 -- entries by rank are those of their table
 pub entries_of : (es : Entries) → T (is_sorted rank_cmp es) → fin.entries (fin.from_entries {R = rank_cmp} es) ≡ es

@@ -7,13 +7,13 @@ use Rattle.osm_base.specs.RankLaws.{rank_total}
 use Rattle.osm_base.specs.RisingKeys.{is_in}
 use Rattle.osm_base.proofs.RisingKeys.{one_key}
 use Rattle.osm_base.specs.declared.key.Key.{Key}
+use Rattle.osm_base.proofs.Tests.{first_T, second_T, none_from_test}
 use Rattle.osm_table.specs.declared.entry.Entry.{Entry}
 use Rattle.osm_table.specs.Table.{TableValue, entry_of, with_entry, without_entry, keys_by_rank}
 use Rattle.osm_table.proofs.Each.{get_with, get_without, same_table}
 use Rattle.dataset.specs.Draft.{DraftValue, drafted}
 use Rattle.dataset.proofs.Changes.{drafted_none}
-use Rattle.dataset.proofs.Drafted.{none_at}
-use Rattle.dataset.proofs.Looked.{fore, aft, below_none}
+use Rattle.dataset.proofs.Looked.{below_none}
 use Rattle.saved_session.specs.Reading.{Entries, Session, table_of}
 use Rattle.saved_session.specs.Drafting.{with_all, without_all}
 
@@ -31,7 +31,7 @@ get_out (k ∷ ks) t q = get_out ks (without_entry t k) q ∙ ap (λ (o : Option
 
 all_out_case : (b : Bool) (o : Option Entry) → is_some o ≡ b → cond b None o ≡ None
 all_out_case true o e = refl
-all_out_case false o e = none_at o e
+all_out_case false o e = none_from_test o e
 
 -- without all its keys a table has no entry
 get_all_out : (t : TableValue) (q : Key) → entry_of (without_all (keys_by_rank t) t) q ≡ None
@@ -50,8 +50,8 @@ in_case false e f o none = refl
 get_in : (es : Entries) (t : TableValue) (q : Key) → T (is_sorted rank_cmp es) → entry_of (with_all es t) q ≡ or_else (find rank_cmp q es) (entry_of t q)
 get_in [] t q sorted = refl
 get_in (e ∷ es) t q sorted =
-    let below = fore (below_all rank_cmp e.0 es) (is_sorted rank_cmp es) sorted in
-    get_in es (with_entry t e.0 e.1) q (aft (below_all rank_cmp e.0 es) (is_sorted rank_cmp es) sorted)
+    let below = first_T (below_all rank_cmp e.0 es) (is_sorted rank_cmp es) sorted in
+    get_in es (with_entry t e.0 e.1) q (second_T (below_all rank_cmp e.0 es) (is_sorted rank_cmp es) sorted)
     ∙ ap (or_else (find rank_cmp q es)) (get_with t e.0 e.1 q)
     ∙ in_case (is_key q e.0) e.1 (find rank_cmp q es) (entry_of t q) (λ same. ap (λ (k : Key). find rank_cmp k es) (one_key q e.0 same) ∙ below_none e.0 es below)
 

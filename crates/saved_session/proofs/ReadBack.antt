@@ -2,16 +2,18 @@
 use Rattle.std.proofs.Common.{◌≡◌, ℕ, ◌+◌, Bool, true, false, cond, ◌&&◌, T, List, [], ◌∷◌, ◌++◌, map, Option, Some, None, Result, Ok, Err, is_some, refl, sym, ap, subst, ◌∙◌}
 use Rattle.std.specs.Prelude.{codes}
 use Rattle.std.specs.Ordering.{is_lt}
-use Rattle.std.specs.declared.cmp.Ordering.{Ordering}
-use Rattle.std.specs.declared.cmp.Ordering.TheVariants.{Less, Equal, Greater}
+use Rattle.std.specs.declared.cmp.Ordering.TheVariants.{Less}
 use Rattle.std.specs.FinMap.Entries.{is_sorted, below_all}
+use Rattle.std.specs.Bool.{passes}
 use Rattle.std.proofs.lemmas.Bool.{and_parts}
 use Rattle.std.proofs.lemmas.List.{append_assoc}
+use Rattle.std.proofs.lemmas.Option.{same_Some, cond_some}
 use Rattle.osm_base.specs.Number.{id_test}
 use Rattle.osm_base.specs.Rank.{rank_cmp}
 use Rattle.osm_base.specs.RankLaws.{rank_total}
 use Rattle.osm_base.specs.declared.key.Key.{Key}
 use Rattle.osm_base.specs.declared.content.Content.{Content}
+use Rattle.osm_base.proofs.Tests.{both_T, first_T, second_T, true_from_T, less_from_test}
 use Rattle.osm_table.specs.Same.{same_mine}
 use Rattle.osm_table.specs.Table.{held_by}
 use Rattle.osm_table.proofs.SameLaws.{same_mine_decides}
@@ -36,7 +38,7 @@ use Rattle.saved_session.specs.declared.words.Head.TheVariants.{Incomplete, Know
 use Rattle.saved_session.specs.declared.place.Place.{Place}
 use Rattle.saved_session.specs.declared.place.Place.TheVariants as place
 use Rattle.saved_session.specs.declared.place.Step.{Step}
-use Rattle.saved_session.proofs.LinesBack.{both_read, only_if, some_is, head_back, header_back, header_number, base_back, mine_back, theirs_back}
+use Rattle.saved_session.proofs.LinesBack.{both_read, head_back, header_back, header_number, base_back, mine_back, theirs_back}
 
 -- the first key comes behind the last one
 abbrev pub is_first_behind : Option Key → Entries → Bool
@@ -89,44 +91,19 @@ Left s es lines = left_by s.entry s.place es lines
 
 -- ---- entries by rank
 
-true_T : (b : Bool) → b ≡ true → T b
-true_T true e = tt
-true_T false e = cc
-
-both_T : (a b : Bool) → T a → T b → T (a && b)
-both_T true b p q = q
-both_T false b p q = p
-
-first_T : (a b : Bool) → T (a && b) → T a
-first_T true b h = tt
-first_T false b h = absurd h
-
-second_T : (a b : Bool) → T (a && b) → T b
-second_T true b h = h
-second_T false b h = absurd h
-
-T_true : (b : Bool) → T b → b ≡ true
-T_true true h = refl
-T_true false h = absurd h
-
-less_of : (o : Ordering) → is_lt o ≡ true → o ≡ Less
-less_of Less e = refl
-less_of Equal e = cc
-less_of Greater e = cc
-
 less_behind : (x y : Key) (es : Entries) → rank_cmp x y ≡ Less → T (below_all rank_cmp y es) → T (below_all rank_cmp x es)
 less_behind x y [] less below = tt
 less_behind x y (e ∷ es) less below =
     both_T (is_lt (rank_cmp x e.0)) (below_all rank_cmp x es)
-    (true_T (is_lt (rank_cmp x e.0)) (ap is_lt (rank_total.trans x y e.0 less (less_of (rank_cmp y e.0) (T_true (is_lt (rank_cmp y e.0)) (first_T (is_lt (rank_cmp y e.0)) (below_all rank_cmp y es) below))))))
+    (passes (is_lt (rank_cmp x e.0)) (ap is_lt (rank_total.trans x y e.0 less (less_from_test (rank_cmp y e.0) (true_from_T (is_lt (rank_cmp y e.0)) (first_T (is_lt (rank_cmp y e.0)) (below_all rank_cmp y es) below))))))
     (less_behind x y es less (second_T (is_lt (rank_cmp y e.0)) (below_all rank_cmp y es) below))
 
 -- what comes behind a key comes behind those before it
 below_others : (key : Key) (es : Entries) → T (is_sorted rank_cmp es) → is_first_behind (Some key) es ≡ true → T (below_all rank_cmp key es)
 below_others key [] sorted first = tt
 below_others key (e ∷ es) sorted first =
-    both_T (is_lt (rank_cmp key e.0)) (below_all rank_cmp key es) (true_T (is_lt (rank_cmp key e.0)) first)
-    (less_behind key e.0 es (less_of (rank_cmp key e.0) first) (first_T (below_all rank_cmp e.0 es) (is_sorted rank_cmp es) sorted))
+    both_T (is_lt (rank_cmp key e.0)) (below_all rank_cmp key es) (passes (is_lt (rank_cmp key e.0)) first)
+    (less_behind key e.0 es (less_from_test (rank_cmp key e.0) first) (first_T (below_all rank_cmp e.0 es) (is_sorted rank_cmp es) sorted))
 
 one_sorted : (key : Key) (e : Entry) (es : Entries) → T (is_sorted rank_cmp es) → is_first_behind (Some key) es ≡ true → T (is_sorted rank_cmp ((key, e) ∷ es))
 one_sorted key e es sorted first = both_T (below_all rank_cmp key es) (is_sorted rank_cmp es) (below_others key es sorted first) sorted
@@ -276,7 +253,7 @@ Goes s es lines = MayWait s.place → Left s es lines
 
 head_made : (last : Option Key) (head : Head) (line : List ℕ) (s : Step) (es : Entries) (lines : List (List ℕ)) → head_written head ≡ line → with_head last head ≡ Some s → Goes s es lines → AreLines last es (line ∷ lines)
 head_made last End line s es lines text e goes =
-    let left : es ≡ [] = subst (λ (s : Step). Goes s es lines) (sym (some_is (awaiting place.Behind) s e)) goes tt in
+    let left : es ≡ [] = subst (λ (s : Step). Goes s es lines) (sym (same_Some (awaiting place.Behind) s e)) goes tt in
     record {
       behind = lines;
       read = (λ i. sym text i ∷ lines) ∙ ap (λ (fs : Entries). entries_lines fs ++ lines) (sym left);
@@ -284,11 +261,11 @@ head_made last End line s es lines text e goes =
       first = ap (is_first_behind last) left;
     }
 head_made last (Incomplete key) line s es lines text e goes =
-    let p = only_if (is_behind last key) (ending key entry.Incomplete) s e in
+    let p = cond_some (is_behind last key) (ending key entry.Incomplete) s e in
     let (others, is, rest) = subst (λ (s : Step). Goes s es lines) (sym p.1) goes tt in
     entry_more last key entry.Incomplete others es lines (line ∷ lines) p.0 is (λ i. sym text i ∷ lines) rest
 head_made last (Known key words) line s es lines text e goes =
-    let p = only_if (is_behind last key && may_stand words.mine words.base) (with_words key words.base words) s e in
+    let p = cond_some (is_behind last key && may_stand words.mine words.base) (with_words key words.base words) s e in
     let tests = and_parts (is_behind last key) (may_stand words.mine words.base) p.0 in
     known_made last key words line es lines text tests.0
     (words_made key words.base words es lines refl tests.1 (subst (λ (s : Step). Goes s es lines) (sym p.1) goes (words_wait key words.base words tests.1)))
@@ -301,11 +278,11 @@ line_made (place.Head last) line s es lines wait e goes =
 line_made (place.Base key words) line s es lines wait e goes =
     let p = both_read (λ base. Some (with_base key base words.mine words.why)) (base_at key words.base line) s e in
     let b = base_back key words.base line p.0 p.1 in
-    base_made key words p.0 line es lines wait b.0 b.1 (subst (λ (s : Step). Goes s es lines) (sym (some_is (with_base key p.0 words.mine words.why) s p.2)) goes (base_waits key p.0 words.mine words.why))
+    base_made key words p.0 line es lines wait b.0 b.1 (subst (λ (s : Step). Goes s es lines) (sym (same_Some (with_base key p.0 words.mine words.why) s p.2)) goes (base_waits key p.0 words.mine words.why))
 line_made (place.Mine key base why) line s es lines wait e goes =
     let p = both_read (λ mine. Some (with_mine key base mine why)) (mine_at key base line) s e in
     let b = mine_back key base line p.0 p.1 in
-    let q = mine_left key base p.0 why es lines (subst (λ (s : Step). Goes s es lines) (sym (some_is (with_mine key base p.0 why) s p.2)) goes (mine_waits key base p.0 why)) in
+    let q = mine_left key base p.0 why es lines (subst (λ (s : Step). Goes s es lines) (sym (same_Some (with_mine key base p.0 why) s p.2)) goes (mine_waits key base p.0 why)) in
     record {
       base = q.base;
       mine = q.mine;
@@ -321,9 +298,9 @@ line_made (place.Theirs key base mine why) line s es lines wait e goes =
     let p = both_read (λ theirs. Some (ending key (entry.Known base mine (Some (record { why = why; theirs = theirs }))))) (theirs_at key line) s e in
     let text = theirs_back key line p.0 p.1 in
     let c : Conflict = record { why = why; theirs = p.0 } in
-    let (others, is, rest) = subst (λ (s : Step). Goes s es lines) (sym (some_is (ending key (entry.Known base mine (Some c))) s p.2)) goes tt in
+    let (others, is, rest) = subst (λ (s : Step). Goes s es lines) (sym (same_Some (ending key (entry.Known base mine (Some c))) s p.2)) goes tt in
     record { base = base; mine = mine; conflict = Some c; others = others; more = lines; entry_is = is; fits = (refl, refl, refl); read = λ i. sym text i ∷ lines; rest = rest }
-line_made place.Behind line s es lines wait e goes = subst (λ (s : Step). Goes s es lines) (sym (some_is (awaiting place.Behind) s e)) goes tt
+line_made place.Behind line s es lines wait e goes = subst (λ (s : Step). Goes s es lines) (sym (same_Some (awaiting place.Behind) s e)) goes tt
 
 -- ---- all lines
 

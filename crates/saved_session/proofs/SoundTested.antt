@@ -3,7 +3,7 @@ use Rattle.std.proofs.Common.{◌≡◌, ◌<◌, ◌≤◌, ℕ, ℤ, suc, pos,
 use Rattle.std.specs.Prelude.{nat_le, nat_lt}
 use Rattle.std.specs.List.{AllByRecursion, list_all}
 use Rattle.std.specs.FinMap as fin
-use Rattle.std.proofs.lemmas.Bool.{and_parts}
+use Rattle.std.proofs.lemmas.Bool.{and_parts, or_right, not-false, and_from}
 use Rattle.std.proofs.lemmas.Bool.Decides.{nat_tests, Decides-and, Decides-not, Decides-like}
 use Rattle.osm_base.specs.Rank.{is_key}
 use Rattle.osm_base.specs.RisingKeys.{is_in}
@@ -12,6 +12,7 @@ use Rattle.osm_base.specs.declared.key.Key.{Key}
 use Rattle.osm_base.specs.declared.content.Content.{Content}
 use Rattle.osm_base.proofs.SameLaws.{is_key_decides}
 use Rattle.osm_base.proofs.RisingKeys.{key_itself, one_key}
+use Rattle.osm_base.proofs.Tests.{by_either}
 use Rattle.osm_table.specs.Same.{same_base, same_mine}
 use Rattle.osm_table.proofs.SameLaws.{same_base_decides, same_mine_decides}
 use Rattle.osm_table.specs.Table.{IfContent, IsPositive, IsThere, TableValue, entry_of, held_by, is_changed, keys_by_rank, mine_of, version_of}
@@ -190,18 +191,6 @@ there_decides None = never
 there_decides (Some Incomplete) = always
 there_decides (Some (Known base mine conflict)) = bool_decides (is_some mine)
 
-by_or : {P : Type 0} (a b : Bool) → (a || b) ≡ true → (a ≡ true → P) → (b ≡ true → P) → P
-by_or true b e here later = here refl
-by_or false b e here later = later e
-
-or_later : (a b : Bool) → b ≡ true → (a || b) ≡ true
-or_later true b e = refl
-or_later false b e = e
-
-both_true : (a b : Bool) → a ≡ true → b ≡ true → (a && b) ≡ true
-both_true true b e f = f
-both_true false b e f = absurd cc
-
 abbrev AreThere : TableValue → List Key → Type 0
 AreThere t refs = (r : Key) → IsTrue (is_in r refs) → IsThere (entry_of t r)
 
@@ -209,15 +198,15 @@ all_there : (t : TableValue) (refs : List Key) → list_all (λ r. is_there (ent
 all_there t [] e r u = absurd cc
 all_there t (k ∷ ks) e r u =
     let p = and_parts (is_there (entry_of t k)) (list_all (λ r. is_there (entry_of t r)) ks) e in
-    by_or (is_key r k) (is_in r ks) u
+    by_either (is_key r k) (is_in r ks) u
     (λ same. subst (λ (q : Key). IsThere (entry_of t q)) (sym (one_key r k same)) ((there_decides (entry_of t k)).0 p.0))
     (λ later. all_there t ks p.1 r later)
 
 there_all : (t : TableValue) (refs : List Key) → AreThere t refs → list_all (λ r. is_there (entry_of t r)) refs ≡ true
 there_all t [] h = refl
 there_all t (k ∷ ks) h =
-    both_true (is_there (entry_of t k)) (list_all (λ r. is_there (entry_of t r)) ks)
-    ((there_decides (entry_of t k)).1 (h k (ap (λ b. b || is_in k ks) (key_itself k)))) (there_all t ks (λ r u. h r (or_later (is_key r k) (is_in r ks) u)))
+    and_from (is_there (entry_of t k)) (list_all (λ r. is_there (entry_of t r)) ks)
+    ((there_decides (entry_of t k)).1 (h k (ap (λ b. b || is_in k ks) (key_itself k)))) (there_all t ks (λ r u. h r (or_right (is_key r k) (is_in r ks) u)))
 
 refs_decide : (t : TableValue) (e : Entry) → Decides (refs_there t (mine_of e)) (LivesIn t e)
 refs_decide t Incomplete = (λ e r u. absurd cc, λ h. refl)
@@ -238,11 +227,7 @@ none_found : (p : Key → Bool) (keys : List Key) → find p keys ≡ None → (
 none_found p [] e q u = absurd cc
 none_found p (k ∷ ks) e q u =
     let n = none_parts (p k) k (find p ks) e in
-    by_or (is_key q k) (is_in q ks) u (λ same. ap p (one_key q k same) ∙ n.0) (λ later. none_found p ks n.1 q later)
-
-not_false : (b : Bool) → not b ≡ false → b ≡ true
-not_false true e = refl
-not_false false e = cc
+    by_either (is_key q k) (is_in q ks) u (λ same. ap p (one_key q k same) ∙ n.0) (λ later. none_found p ks n.1 q later)
 
 -- a table without an unsound key is sound
 pub tested_sound : (t : TableValue) → IsNumber t.next → least_unsound t ≡ None → IsSound t
@@ -250,7 +235,7 @@ tested_sound t number none =
     let each : (k : Key) (e : Entry) → entry_of t k ≡ Some e → IsSoundEntry t.next k e × LivesIn t e =
     λ k e has.
     (at_decides t k e).0
-    (not_false (is_sound_at t k e)
+    (not-false (is_sound_at t k e)
     (ap (breaks t k) (sym has) ∙ none_found (is_unsound t) (keys_by_rank t) none k (sym (fin.contains_key-keys t.entries k) ∙ ap is_some has))) in
     record { entries = λ k e has. (each k e has).0; closed = λ k e has. (each k e has).1; number = number }
 

@@ -1,9 +1,8 @@
 -- The text of a table gives the table again, whatever lines stand around it.
-use Rattle.std.proofs.Common.{◌≡◌, ℕ, ◌+◌, ◌==◌, ◌≤◌, Bool, true, false, not, List, [], ◌∷◌, ◌++◌, None, Ok, refl, sym, ap, ◌∙◌, append-nil, append_assoc, arith}
-use Rattle.std.specs.Prelude.{nat_lt}
+use Rattle.std.proofs.Common.{◌≡◌, ℕ, ◌+◌, ◌==◌, ◌≤◌, true, false, not, List, [], ◌∷◌, ◌++◌, None, Ok, refl, sym, ap, ◌∙◌, append-nil, append_assoc, arith}
 use Rattle.std.specs.List.{list_all}
 use Rattle.std.specs.FinMap as fin
-use Rattle.std.proofs.lemmas.Bool.{and_parts}
+use Rattle.std.proofs.lemmas.Bool.{and_parts, not-true, le-ltb}
 use Rattle.std.proofs.lemmas.Bool.Decides.{nat_tests}
 use Rattle.osm_base.specs.Number.{id_test}
 use Rattle.osm_base.specs.Rank.{rank_cmp}
@@ -14,6 +13,7 @@ use Rattle.dataset.specs.Sound.{IsSound}
 use Rattle.opl_line.specs.Line.{freed}
 use Rattle.opl_line.proofs.Unbroken.{Unbroken, AllUnbroken}
 use Rattle.opl_file.specs.Cut.{has_lf, lines_of}
+use Rattle.opl_file.proofs.Cutting.{lines_of-line}
 use Rattle.saved_session.specs.Words.{header_written}
 use Rattle.saved_session.specs.Saved.{ended, saved, saved_lines}
 use Rattle.saved_session.specs.Savable.{AreReadable, is_before}
@@ -21,7 +21,6 @@ use Rattle.saved_session.specs.Reading.{Entries, Session, is_header, session_fro
 use Rattle.saved_session.specs.Resumed.{if_sound, saved_table, tested, within}
 use Rattle.saved_session.proofs.ByKey.{Every}
 use Rattle.saved_session.proofs.EntryAgain.{entries_again, freed_plain}
-use Rattle.saved_session.proofs.Onto.{lines_of-line}
 use Rattle.saved_session.proofs.Pieces.{saved_is}
 use Rattle.saved_session.proofs.Plain.{entries_plain, header_plain, is_end}
 use Rattle.saved_session.proofs.ReadBack.{is_first_behind}
@@ -30,10 +29,6 @@ use Rattle.saved_session.proofs.WordsAgain.{header_again}
 use Rattle.saved_session.proofs.Writable.{IsSavableEntry, number_id, sound_savable}
 
 -- ---- lines ended by LF are cut again
-
-not_true : (b : Bool) → not b ≡ true → b ≡ false
-not_true true e = cc
-not_true false e = refl
 
 -- no line has an LF
 abbrev AreLines : List (List ℕ) → Type 0
@@ -55,7 +50,7 @@ before_lines [] h = tt
 before_lines (line ∷ lines) h =
     let p = and_parts (is_before line) (list_all is_before lines) h in
     let q = and_parts (not (has_lf line)) (not (is_header (freed line))) p.0 in
-    (not_true (has_lf line) q.0, before_lines lines p.1)
+    (not-true (has_lf line) q.0, before_lines lines p.1)
 
 lines_again : (lines : List (List ℕ)) (bytes : List ℕ) → AreLines lines → lines_of (ended lines ++ bytes) ≡ lines ++ lines_of bytes
 lines_again [] bytes h = refl
@@ -94,16 +89,13 @@ session_again n [] t behind before number good = from_header n t behind number g
 session_again n (line ∷ front) t behind before number good =
     let p = and_parts (is_before line) (list_all is_before front) before in
     let q = and_parts (not (has_lf line)) (not (is_header (freed line))) p.0 in
-    rw (not_true (is_header (freed line)) q.1) (session_again (n + 1) front t behind p.1 number good)
+    rw (not-true (is_header (freed line)) q.1) (session_again (n + 1) front t behind p.1 number good)
 
 table_again : (t : TableValue) → table_of (session_of t) ≡ t
 table_again t i = record { entries = entries_back t.entries i; next = t.next }
 
-room : (limit len : ℕ) → len ≤ limit → nat_lt limit len ≡ false
-room limit len h = grind (arith, nat_tests, h)
-
 within_again : (limit : ℕ) (t : TableValue) → IsSound t → fin.len t.entries ≤ limit → within limit t ≡ Ok t
-within_again limit t sound fits = ap (if_sound limit t) (sound_tested t sound) ∙ rw (room limit (fin.len t.entries) fits) refl
+within_again limit t sound fits = ap (if_sound limit t) (sound_tested t sound) ∙ rw (le-ltb limit (fin.len t.entries) fits) refl
 
 pub among_lines : (limit : ℕ) (t : TableValue) (front : List (List ℕ)) (behind : List ℕ) → IsSound t → AreReadable t → fin.len t.entries ≤ limit → list_all is_before front ≡ true → saved_table limit (ended front ++ (saved t ++ behind)) ≡ Ok t
 unfolding saved_table

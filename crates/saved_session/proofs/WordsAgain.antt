@@ -1,11 +1,11 @@
 -- What is written of a head or a header is read again.
-use Rattle.std.proofs.Common.{◌≡◌, ℕ, ◌<◌, ◌≤◌, ◌^◌, true, false, List, ◌∷◌, ◌++◌, Option, Some, None, refl, arith}
+use Rattle.std.proofs.Common.{◌≡◌, ℕ, ◌≤◌, true, false, List, ◌∷◌, ◌++◌, Option, Some, None, refl, arith}
 use Rattle.std.specs.Str.{bytes_eq}
 use Rattle.std.proofs.lemmas.Slice.Eq.{bytes_eq-Decides}
 use Rattle.std.proofs.lemmas.Bool.Decides.{nat_tests}
 use Rattle.osm_base.specs.Number.{IsId, key_written, id_test}
 use Rattle.osm_base.specs.declared.key.Key.{Key}
-use Rattle.osm_base.proofs.KeyLaw.{key_again, number_again}
+use Rattle.osm_base.proofs.KeyLaw.{key_again, number_again, id_small}
 use Rattle.osm_table.specs.declared.entry.Why.{Why}
 use Rattle.osm_table.specs.declared.entry.Why.TheVariants.{Changed, Held, Withdrawn}
 use Rattle.opl_line.specs.Field.{is}
@@ -96,12 +96,9 @@ pub head_again : (h : Head) → IsHead h → head_of (head_written h) ≡ Some h
 unfolding head_of
 head_again h good = rw (text_again h good, same_bytes (head_written h)) refl
 
-small : (n : ℕ) → id_test n ≡ true → n < 10 ^ 19
-small n e = grind (arith, nat_tests)
-
 number_read : (n : ℕ) → id_test n ≡ true → header_text (header_written n) ≡ Some n
 unfolding header_text
-number_read n e = rw (number_again 19 n (omega arith) (small n e) (omega (arith, small n e)), e) refl
+number_read n e = rw (number_again 19 n (omega arith) (id_small n e) (omega (arith, id_small n e)), e) refl
 
 pub header_again : (n : ℕ) → id_test n ≡ true → header_of (header_written n) ≡ Some n
 unfolding header_of

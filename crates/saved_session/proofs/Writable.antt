@@ -1,5 +1,5 @@
 -- The entries of a sound table that a reader can give have written forms that spell them.
-use Rattle.std.proofs.Common.{◌≡◌, ℕ, ℤ, pos, negsuc, ◌≤◌, ◌<◌, ◌^◌, true, false, [], Option, Some, None, is_some, refl, sym, ap, subst, ◌∙◌, arith}
+use Rattle.std.proofs.Common.{◌≡◌, ℕ, ℤ, pos, negsuc, ◌≤◌, ◌<◌, ◌^◌, true, [], Option, Some, None, refl, sym, subst, ◌∙◌, arith}
 use Rattle.std.specs.FinMap as fin
 use Rattle.std.proofs.lemmas.Bool.Decides.{nat_tests}
 use Rattle.osm_base.specs.Number.{IsId, id_test}
@@ -17,7 +17,8 @@ use Rattle.osm_table.specs.declared.entry.Entry.{Entry}
 use Rattle.osm_table.specs.declared.entry.Entry.TheVariants.{Incomplete, Known}
 use Rattle.osm_table.specs.Table.{TableValue, entry_of, IfContent, IsPositive, held_by, version_of}
 use Rattle.osm_table.specs.Told.{IsVersion}
-use Rattle.dataset.specs.Sound.{IsSound, IsSoundEntry, IfKnown, IfTheirs, OfKind, HasVersion, BaseFits, IsGiven, IsNumber, WhyFits, IsLive, IsGone}
+use Rattle.dataset.specs.Sound.{IsSound, IsSoundEntry, IfKnown, IfTheirs, OfKind, HasVersion, BaseFits, IsNumber, WhyFits, IsLive, IsGone}
+use Rattle.dataset.proofs.Ids.{positive_id, given_id, told_id}
 use Rattle.opl_line.specs.Writable.{IsContent, IsMeta, IsWritable}
 use Rattle.opl_line.specs.Writable as line
 use Rattle.saved_session.specs.Saved.{mine_version}
@@ -43,14 +44,6 @@ pub record IsSavable (key : Key) (base : Base) (mine : Option Content) (conflict
 
 abbrev pub IsSavableEntry : Key → Entry → Type 0
 IsSavableEntry key e = IsId key.id × IfKnown e (IsSavable key)
-
-positive_id : (z : ℤ) → IsPositive z → IsId z
-positive_id (pos n) h = grind (arith, nat_tests)
-positive_id (negsuc n) h = absurd h
-
-given_id : (next : ℕ) (z : ℤ) → next ≤ 10 ^ 18 → IsGiven next z → IsId z
-given_id next (pos n) most h = absurd h
-given_id next (negsuc n) most h = grind (arith, nat_tests)
 
 server_version : (z : ℤ) (version : ℕ) → IsPositive z → IsVersion version → line.HasVersion z version
 server_version (pos n) version h v = v
@@ -89,12 +82,6 @@ base_writable next key (Gone version meta) mine conflict fits kind v r = gone_wr
 mine_writable : (key : Key) (mine : Option Content) → IsId key.id → OfKind key mine → IfContent mine IsContent → IfContent mine (λ c. IsWritable key (mine_version key.id) (Some c) empty_meta)
 mine_writable key None id kind r = tt
 mine_writable key (Some c) id kind r = record { id = id; version_fits = own_version key.id; content = (kind, r); known = none_known }
-
--- where there is a conflict, a server has the object
-told_id : (next : ℕ) (key : Key) (base : Base) (mine : Option Content) (c : Conflict) → BaseFits next key base mine (Some c) → IsPositive key.id
-told_id next key New mine c h = let e : true ≡ false = ap is_some h.2 in cc
-told_id next key (Live version content meta) mine c h = h
-told_id next key (Gone version meta) mine c h = h
 
 not_new : (why : Why) (theirs base : Base) (mine : Option Content) → WhyFits why theirs base mine → theirs ≡ New → ⊥
 not_new Changed theirs base mine h e = let less : version_of base < version_of New = subst (λ (b : Base). version_of base < version_of b) e h.0 in omega arith

@@ -2,6 +2,7 @@
 use Rattle.std.proofs.Common.{ℕ, zero, suc, ◌-◌, Bool, true, false, cond, nat_le, List, [], ◌∷◌, ◌++◌, length, take, get_or, reverse}
 use mathlib.Core.Logic.{inl, inr}
 use Rattle.std.specs.List.{AllByRecursion}
+use Rattle.osm_base.proofs.Lists.{all_joined, all_taken, all_dropped}
 use Rattle.osm_table.specs.Table.{TableValue}
 use Rattle.osm_table.specs.Told.{ToldValue}
 use Rattle.tool_api.specs.declared.job.Job.TheVariants as job
@@ -13,7 +14,7 @@ use Rattle.edit_history.specs.declared.counts.Group.TheVariants.{Outside, Runnin
 use Rattle.edit_history.specs.Machine.{State, done_in, refused_in, ran, went_back, went_on}
 use Rattle.seen_bases.specs.Bases.{KeepsBases}
 use Rattle.seen_bases.specs.Editing.{EditStep, Run, Begin, GiveUp, End, Undo, Redo, answered_by, edited, IsEdit, EachTable, AnyByRecursion, in_past, at_now, in_undone, at_start, KeepsSome}
-use Rattle.seen_bases.proofs.Lists.{all_joined, all_reversed, all_taken, all_dropped}
+use Rattle.seen_bases.proofs.Lists.{all_reversed}
 use Rattle.seen_bases.proofs.Jobs.{job_keeps}
 
 module _ (P : TableValue → Type 0) where

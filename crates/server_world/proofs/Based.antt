@@ -5,6 +5,7 @@ use Rattle.std.specs.List.{list_any}
 use Rattle.std.specs.Option.{option_or, option_map_or}
 use Rattle.std.specs.FinMap as fin
 use Rattle.std.proofs.lemmas.List.Folds.{list_any-append}
+use Rattle.std.proofs.lemmas.Bool.{or_parts, cases_Bool}
 use Rattle.osm_base.specs.Rank.{rank_cmp, is_key}
 use Rattle.osm_base.specs.RankLaws.{rank_total, rank_exact}
 use Rattle.osm_base.specs.RisingKeys.{is_in}
@@ -12,13 +13,14 @@ use Rattle.osm_base.specs.Content.{refs_of}
 use Rattle.osm_base.specs.declared.key.Key.{Key}
 use Rattle.osm_base.specs.declared.content.Content.{Content}
 use Rattle.osm_base.proofs.RisingKeys.{one_key}
+use Rattle.osm_base.proofs.Tests.{none_from_test}
 use Rattle.osm_table.specs.declared.entry.Entry.{Entry}
 use Rattle.osm_table.specs.declared.entry.Entry.TheVariants.{Incomplete, Known}
 use Rattle.osm_table.specs.Table.{TableValue, entry_of, keys_by_rank}
 use Rattle.upload_order.specs.Kinds.{content_refers, held_at, held_list, held_refers}
 use Rattle.upload_order.specs.Rename.{is_positive}
 use Rattle.upload_order.specs.World.{WorldEntry, stands, is_known}
-use Rattle.upload_order.proofs.Basics.{decide, at_key_put, at_other}
+use Rattle.upload_order.proofs.Basics.{at_key_put, at_other}
 use Rattle.server_world.specs.Codes.{Objects}
 use Rattle.server_world.specs.Bases.{of_mention, of_entry, standing, keys_told, at_key, of_bases}
 use Rattle.server_world.specs.Putting.{based, with_some, with_base, with_bases, empty_object, is_open, with_mention, with_mentions, with_all_mentions}
@@ -51,19 +53,15 @@ none_last : (o : Option WorldEntry) → option_or o None ≡ o
 none_last None = refl
 none_last (Some x) = refl
 
-out_of_table : (e : Option Entry) → is_some e ≡ false → e ≡ None
-out_of_table None h = refl
-out_of_table (Some x) h = cc
-
 -- of a key that isn't among those of the table nothing is known
 no_entry : (t : TableValue) (q : Key) → is_in q (keys_by_rank t) ≡ false → entry_of t q ≡ None
-no_entry t q e = out_of_table (entry_of t q) (fin.contains_key-keys t.entries q ∙ e)
+no_entry t q e = none_from_test (entry_of t q) (fin.contains_key-keys t.entries q ∙ e)
 
 all_bases : (t : TableValue) (q : Key) → fin.get (with_bases t fin.empty (keys_by_rank t)) q ≡ based (entry_of t q)
 all_bases t q =
     bases_put t fin.empty (keys_by_rank t) q
     ∙ ap (λ (g : Option WorldEntry). cond (is_in q (keys_by_rank t)) (option_or (based (entry_of t q)) g) g) (fin.get-empty rank_cmp q)
-    ∙ in_or_out (decide (is_in q (keys_by_rank t))) where
+    ∙ in_or_out (cases_Bool (is_in q (keys_by_rank t))) where
       in_or_out : ((is_in q (keys_by_rank t) ≡ true) ⊎ (is_in q (keys_by_rank t) ≡ false)) → cond (is_in q (keys_by_rank t)) (option_or (based (entry_of t q)) None) None ≡ based (entry_of t q)
       in_or_out (inl i) = ap (λ b. cond b (option_or (based (entry_of t q)) None) None) i ∙ none_last (based (entry_of t q))
       in_or_out (inr o) = ap (λ b. cond b (option_or (based (entry_of t q)) None) None) o ∙ sym (ap based (no_entry t q o))
@@ -89,7 +87,7 @@ neither_put false g o = refl
 one_mention : (t : TableValue) (m : Objects) (k q : Key) → fin.get (with_mention t m k) q ≡ cond (is_open t q && is_key q k) (option_or (fin.get m q) (Some (empty_object q.kind))) (fin.get m q)
 one_mention t m k q =
     put_where m k q (empty_object k.kind) (is_open t k) (is_some (fin.get m k)) (is_key q k) refl (λ e. ap (λ (j : Key). is_some (fin.get m j)) (one_key q k e))
-    ∙ same_open (decide (is_key q k)) where
+    ∙ same_open (cases_Bool (is_key q k)) where
       same_open : ((is_key q k ≡ true) ⊎ (is_key q k ≡ false)) → cond (is_open t k && is_key q k) (option_or (fin.get m q) (Some (empty_object k.kind))) (fin.get m q) ≡ cond (is_open t q && is_key q k) (option_or (fin.get m q) (Some (empty_object q.kind))) (fin.get m q)
       same_open (inl e) = ap (λ (j : Key). cond (is_open t j && is_key q k) (option_or (fin.get m q) (Some (empty_object j.kind))) (fin.get m q)) (sym (one_key q k e))
       same_open (inr e) = ap (λ b. cond (is_open t k && b) (option_or (fin.get m q) (Some (empty_object k.kind))) (fin.get m q)) e ∙ (neither_put (is_open t k) (fin.get m q) (Some (empty_object k.kind)) ∙ sym (neither_put (is_open t q) (fin.get m q) (Some (empty_object q.kind)))) ∙ ap (λ b. cond (is_open t q && b) (option_or (fin.get m q) (Some (empty_object q.kind))) (fin.get m q)) (sym e)
@@ -170,10 +168,6 @@ each_at t (k ∷ ks) q =
     ∙ ap (λ (g : Option WorldEntry). cond (is_key q k) (option_or (standing t k) g) g) (each_at t ks q)
     ∙ told_case (is_key q k) (is_in q ks) (standing t q) (standing t k) (λ e. ap (standing t) (sym (one_key q k e)))
 
-pub neither : (a b : Bool) → (a || b) ≡ false → (a ≡ false) × (b ≡ false)
-neither true b e = cc
-neither false b e = (refl, e)
-
 unmentioned : (b : Bool) (m : WorldEntry) → cond (b && false) (Some m) None ≡ None
 unmentioned true m = refl
 unmentioned false m = refl
@@ -181,14 +175,14 @@ unmentioned false m = refl
 -- nothing stands of a key that is neither in the table nor referred to by a base
 untold : (t : TableValue) (q : Key) → is_in q (keys_told t) ≡ false → standing t q ≡ None
 untold t q e =
-    let n = neither (is_in q (keys_by_rank t)) (is_in q (flat_map (held_list t) (keys_by_rank t))) (sym (list_any-append (is_key q) (keys_by_rank t) (flat_map (held_list t) (keys_by_rank t))) ∙ e) in
+    let n = or_parts (is_in q (keys_by_rank t)) (is_in q (flat_map (held_list t) (keys_by_rank t))) (sym (list_any-append (is_key q) (keys_by_rank t) (flat_map (held_list t) (keys_by_rank t))) ∙ e) in
     ap (λ (x : Option Entry). of_entry (of_mention t q) x) (no_entry t q n.0)
     ∙ ap (λ b. cond (is_positive q.id && b) (Some (empty_object q.kind)) None) (sym (held_in t (keys_by_rank t) q) ∙ n.1)
     ∙ unmentioned (is_positive q.id) (empty_object q.kind)
 
 -- The world of the bases has of each key what stands.
 pub bases_stand : (t : TableValue) (q : Key) → stands (of_bases t) q ≡ standing t q
-bases_stand t q = each_at t (keys_told t) q ∙ told_or_not (decide (is_in q (keys_told t))) where
+bases_stand t q = each_at t (keys_told t) q ∙ told_or_not (cases_Bool (is_in q (keys_told t))) where
   told_or_not : ((is_in q (keys_told t) ≡ true) ⊎ (is_in q (keys_told t) ≡ false)) → cond (is_in q (keys_told t)) (standing t q) None ≡ standing t q
   told_or_not (inl i) = ap (λ b. cond b (standing t q) None) i
   told_or_not (inr o) = ap (λ b. cond b (standing t q) None) o ∙ sym (untold t q o)

@@ -1,10 +1,9 @@
 -- The index of a world's objects: what it lends, and that it stays exact.
-use Rattle.std.proofs.Common.{◌≡◌, ℕ, ◌+◌, ◌≤◌, ◌&&◌, ◌||◌, Bool, true, false, cond, Option, Some, None, List, [], ◌∷◌, map, refl, sym, ◌∙◌, ap, arith, inl, inr}
+use Rattle.std.proofs.Common.{◌≡◌, ℕ, ◌+◌, ◌≤◌, ◌&&◌, Bool, true, false, cond, Option, Some, None, List, [], ◌∷◌, map, refl, sym, ◌∙◌, ap, arith, inl, inr}
 use Rattle.std.specs.Option.{option_map, option_map_or, unwrap_or}
 use Rattle.std.specs.Prelude.{T, nat_lt, is_some, slice_get}
-use Rattle.std.specs.List.{list_any, find, filter}
-use Rattle.std.proofs.lemmas.Bool.{lt-ltb}
-use Rattle.std.proofs.lemmas.List.Sums.{sum_by-cons}
+use Rattle.std.specs.List.{find, filter}
+use Rattle.std.proofs.lemmas.Bool.{cases_Bool}
 use Rattle.std.specs.FinMap as fin
 use Rattle.osm_base.specs.Rank.{rank_cmp, is_key}
 use Rattle.osm_base.specs.Content.{refs_of, refers}
@@ -14,24 +13,16 @@ use Rattle.osm_base.specs.declared.content.Content.{Content}
 use Rattle.osm_base.proofs.ByRank.{sorted_filter}
 use Rattle.osm_base.proofs.RisingKeys.{one_key}
 use Rattle.ref_index.specs.declared.pair.Pair.{Pair}
-use Rattle.ref_index.specs.Bag.{Bag, count, times, is_pair, pair_cmp}
-use Rattle.ref_index.proofs.Agreement.{pair_parts}
+use Rattle.ref_index.specs.Bag.{Bag, count, times, pair_cmp}
 use Rattle.dataset.specs.Exact.{times_key}
+use Rattle.dataset.proofs.Listed.{any_count}
+use Rattle.dataset.proofs.Exactness.{listed_pairs}
 use Rattle.upload_order.specs.First.{first}
 use Rattle.upload_order.specs.World.{WorldEntry, entry_refers, user_among}
-use Rattle.upload_order.proofs.Basics.{decide, at_key_put, at_other}
+use Rattle.upload_order.proofs.Basics.{at_key_put, at_other}
 use Rattle.upload_order.proofs.Entries.{IsIn, has_listed}
 use Rattle.server_world.specs.Codes.{Objects}
 use Rattle.server_world.specs.Indexed.{refs_in, pairs_of, IsIndexed}
-
--- a key is among others where it stands there at least once
-any_step : (b c : Bool) (n : ℕ) → c ≡ nat_lt 0 n → (b || c) ≡ nat_lt 0 (cond b 1 0 + n)
-any_step true c n e = sym (lt-ltb 0 (1 + n) (omega arith))
-any_step false c n e = let z : 0 + n ≡ n = omega arith in e ∙ ap (nat_lt 0) (sym z)
-
-any_count : (k : Key) (ks : List Key) → list_any (is_key k) ks ≡ nat_lt 0 (times_key k ks)
-any_count k [] = refl
-any_count k (j ∷ ks) = any_step (is_key k j) _ (times_key k ks) (any_count k ks) ∙ ap (nat_lt 0) (sym (sum_by-cons (λ (j : Key). cond (is_key k j) 1 0) j ks))
 
 -- what stands refers to the key
 abbrev pub object_refers : Key → Option WorldEntry → Bool
@@ -73,25 +64,6 @@ lent_first m bag k ks exact h members =
     first_got ks ∙ ap first those
     ∙ sym (first_found (λ e. entry_refers k e) p (fin.entries m) (λ e i. sym (ap (object_refers k) (has_listed m e i))))
 
-count_step : (a b : Bool) (n m : ℕ) → n ≡ cond b m 0 → cond (a && b) 1 0 + n ≡ cond b (cond a 1 0 + m) 0
-count_step true true n m e = ap (λ x. 1 + x) e
-count_step true false n m e = let z : n ≡ 0 = e in omega arith
-count_step false true n m e = ap (λ x. 0 + x) e
-count_step false false n m e = let z : n ≡ 0 = e in omega arith
-
-no_pairs : (b : Bool) → ◌≡◌ {A = ℕ} 0 (cond b 0 0)
-no_pairs true = refl
-no_pairs false = refl
-
--- a pair is among the pairs of one user only where it is that user's
-listed_pairs : (of user key : Key) (ks : List Key) → times (record { of = of; user = user }) (map (λ k. record { of = k; user = key }) ks) ≡ cond (is_key user key) (times_key of ks) 0
-listed_pairs of user key [] = no_pairs (is_key user key)
-listed_pairs of user key (k ∷ ks) =
-    sum_by-cons (λ (p : Pair). cond (is_pair (record { of = of; user = user }) p) 1 0) (record { of = k; user = key }) (map (λ k. record { of = k; user = key }) ks)
-    ∙ ap (λ b. cond b 1 0 + times (record { of = of; user = user }) (map (λ k. record { of = k; user = key }) ks)) (pair_parts (record { of = of; user = user }) (record { of = k; user = key }))
-    ∙ count_step (is_key of k) (is_key user key) _ (times_key of ks) (listed_pairs of user key ks)
-    ∙ ap (λ n. cond (is_key user key) n 0) (sym (sum_by-cons (λ (j : Key). cond (is_key of j) 1 0) k ks))
-
 -- how often a pair is among those of an object
 times_of : (p : Pair) (k : Key) (o : Option WorldEntry) (b : Bool) → is_key p.user k ≡ b → times p (pairs_of k o) ≡ cond b (times_key p.of (refs_in o)) 0
 times_of p k o b e = listed_pairs p.of p.user k (refs_in o) ∙ ap (λ c. cond c (times_key p.of (refs_in o)) 0) e
@@ -100,7 +72,7 @@ times_of p k o b e = listed_pairs p.of p.user k (refs_in o) ∙ ap (λ c. cond c
 pub gone_there : (m : Objects) (bag : Bag) (k : Key) (o : Option WorldEntry) (gone : List Pair) → IsIndexed m bag → o ≡ fin.get m k → gone ≡ pairs_of k o → (p : Pair) → times p gone ≤ count bag p
 gone_there m bag k o gone exact is are p =
     let there : count bag p ≡ times_key p.of (refs_in (fin.get m p.user)) = exact p.of p.user in
-    elim (decide (is_key p.user k)) [
+    elim (cases_Bool (is_key p.user k)) [
       | inl t ↦ (
           let g : times p gone ≡ times_key p.of (refs_in o) = ap (times p) are ∙ times_of p k o true t in
           let n : count bag p ≡ times_key p.of (refs_in o) = there ∙ ap (λ (q : Key). times_key p.of (refs_in (fin.get m q))) (one_key p.user k t) ∙ ap (λ (x : Option WorldEntry). times_key p.of (refs_in x)) (sym is) in
@@ -115,7 +87,7 @@ put_exact m old new k o e gone come exact is are brings changed of user =
     let p : Pair = record { of = of; user = user } in
     let moved = changed p in
     let there : count old p ≡ times_key of (refs_in (fin.get m user)) = exact of user in
-    elim (decide (is_key user k)) [
+    elim (cases_Bool (is_key user k)) [
       | inl t ↦ (
           let g : times p gone ≡ times_key of (refs_in o) = ap (times p) are ∙ times_of p k o true t in
           let c : times p come ≡ times_key of (refs_in (Some e)) = ap (times p) brings ∙ times_of p k (Some e) true t in

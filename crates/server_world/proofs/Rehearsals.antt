@@ -1,9 +1,8 @@
 -- Rehearsals: the world of the bases serves the plan, and what is accepted whatever is picked is never refused.
-use Rattle.std.proofs.Common.{◌≡◌, ℕ, ◌+◌, ℤ, pos, negsuc, Bool, true, false, cond, ◌&&◌, List, [], ◌∷◌, Option, Some, None, is_some, Result, Ok, Err, refl, sym, ◌∙◌, ap, subst, arith, inl, inr, ◌<◌, suc, get_or, drop, drop-cons, add-one, length}
+use Rattle.std.proofs.Common.{◌≡◌, ℕ, ◌+◌, Bool, true, false, cond, ◌&&◌, List, ◌∷◌, Option, Some, None, is_some, Result, Ok, Err, refl, sym, ◌∙◌, ap, subst, ◌<◌, suc, get_or, drop, drop-cons, add-one, length}
 use Rattle.std.specs.List.{list_any}
 use Rattle.std.specs.Option.{option_map, option_map_or}
 use Rattle.std.specs.FinMap as fin
-use Rattle.osm_base.specs.Rank.{is_key}
 use Rattle.osm_base.specs.RisingKeys.{is_in}
 use Rattle.osm_base.specs.Content.{refers}
 use Rattle.osm_base.specs.declared.key.Kind.{Kind}
@@ -13,7 +12,7 @@ use Rattle.osm_base.specs.declared.content.Content.{Content}
 use Rattle.osm_table.specs.declared.entry.Base.TheVariants.{New, Live, Gone}
 use Rattle.osm_table.specs.declared.entry.Entry.{Entry}
 use Rattle.osm_table.specs.declared.entry.Entry.TheVariants.{Incomplete, Known}
-use Rattle.osm_table.specs.Table.{TableValue, entry_of, version_of, is_incomplete, keys_by_rank, IsPositive}
+use Rattle.osm_table.specs.Table.{TableValue, entry_of, version_of, is_incomplete, keys_by_rank}
 use Rattle.dataset.specs.Sound.{IsSound}
 use Rattle.upload_order.specs.declared.change.Change.{Change}
 use Rattle.upload_order.specs.declared.refusal.PlanRefusal.{PlanRefusal}
@@ -23,13 +22,14 @@ use Rattle.upload_order.specs.Plan.{plan}
 use Rattle.upload_order.specs.Refused.{upload_refusal, unless, upload}
 use Rattle.upload_order.specs.Rename.{is_positive}
 use Rattle.upload_order.specs.World.{World, WorldEntry, content_in, Refusal, refusal, after, IsFresh, Holds, Alone, Accepts, Backs, IsEdited}
-use Rattle.upload_order.proofs.Basics.{both, or_cases, or_left, or_right}
-use Rattle.osm_base.proofs.RisingKeys.{one_key}
-use Rattle.std.proofs.lemmas.Bool.{lt-ltb}
+use Rattle.upload_order.proofs.Basics.{both}
 use Rattle.server_world.specs.declared.refusal.WorldRefusal.{WorldRefusal}
 use Rattle.server_world.specs.declared.rehearsal.Rehearsal.{Rehearsal}
 use Rattle.server_world.specs.declared.rehearsal.Rehearsal.TheVariants.{Accepted, Refused}
 use Rattle.upload_order.proofs.Accepted.{plan_accepted}
+use Rattle.upload_order.proofs.Sounds.{positive_is}
+use Rattle.upload_order.proofs.Entries.{any_in}
+use Rattle.upload_order.proofs.Lists.{any_of}
 use Rattle.server_world.specs.declared.starts.Starts.{Starts}
 use Rattle.server_world.specs.Answer.{answer_of}
 use Rattle.server_world.specs.Bases.{of_entry, of_mention, is_mentioned, empty_content, of_bases}
@@ -71,21 +71,10 @@ pub bases_alone : (t : TableValue) → Alone (of_bases t) t
 bases_alone t q k c other has falls = other_alone (entry_of t q) (is_mentioned t q) q.kind k c other (ap content_in (sym (bases_stand t q)) ∙ has)
 
 -- an Incomplete key to which a base refers has an empty content there
-listed_any : (test : Key → Bool) (ks : List Key) (u : Key) → is_in u ks ≡ true → test u ≡ true → list_any test ks ≡ true
-listed_any test [] u i h = cc
-listed_any test (k ∷ ks) u i h = elim (or_cases (is_key u k) (is_in u ks) i) [
-  | inl same ↦ or_left (test k) (list_any test ks) (ap test (sym (one_key u k same)) ∙ h)
-  | inr later ↦ or_right (test k) (list_any test ks) (listed_any test ks u later h)
-]
-
 incomplete_is : (o : Option Entry) → option_map_or is_incomplete o false ≡ true → o ≡ Some Incomplete
 incomplete_is None e = cc
 incomplete_is (Some Incomplete) e = refl
 incomplete_is (Some (Known b x d)) e = cc
-
-positive_is : (id : ℤ) → IsPositive id → is_positive id ≡ true
-positive_is (pos n) h = lt-ltb 0 n (omega (arith, h.0))
-positive_is (negsuc n) h = absurd h
 
 pub bases_back : (t : TableValue) → IsSound t → Backs (of_bases t) t
 bases_back t sound r incomplete user =
@@ -93,7 +82,7 @@ bases_back t sound r incomplete user =
     let positive : is_positive r.id ≡ true = positive_is r.id (sound.entries r Incomplete is).id in
     let there : is_in user.0 (keys_by_rank t) ≡ true = sym (fin.contains_key-keys t.entries user.0) ∙ ap is_some user.3 in
     let refers_to : held_refers t user.0 r ≡ true = ap (λ (o : Option Entry). content_refers (held_at o) r) user.3 ∙ ap (λ (o : Option Content). content_refers o r) user.4 ∙ user.5 in
-    let mentioned : is_mentioned t r ≡ true = ap (λ b. b && list_any (λ u. held_refers t u r) (keys_by_rank t)) positive ∙ listed_any (λ u. held_refers t u r) (keys_by_rank t) user.0 there refers_to in
+    let mentioned : is_mentioned t r ≡ true = ap (λ b. b && list_any (λ u. held_refers t u r) (keys_by_rank t)) positive ∙ any_of (λ u. held_refers t u r) (keys_by_rank t) user.0 (any_in (keys_by_rank t) user.0 there) refers_to in
     (empty_content r.kind, ap content_in (bases_stand t r ∙ ap (of_entry (of_mention t r)) is ∙ ap (λ b. cond b (Some (record { version = 1; content = Some (empty_content r.kind) })) None) mentioned))
 
 changes_in : Result (List Change) PlanRefusal → List Change → List Change

@@ -1,5 +1,6 @@
 -- Starts of the search for free ids: those of no objects, those found later, and that they stay starts.
 use Rattle.std.proofs.Common.{◌≡◌, ◌<◌, ℕ, ◌+◌, ℤ, Bool, true, false, ◌||◌, is_some, refl, ◌∙◌, ap, inl, inr}
+use Rattle.std.proofs.lemmas.Bool.{or_left, cases_Bool}
 use Rattle.std.specs.FinMap as fin
 use Rattle.osm_base.specs.Rank.{is_key}
 use Rattle.osm_base.specs.declared.key.Kind.{Kind}
@@ -10,7 +11,7 @@ use Rattle.upload_order.specs.declared.change.Change.{Change}
 use Rattle.upload_order.specs.declared.change.Change.TheVariants.{Create, Modify, Delete}
 use Rattle.upload_order.specs.Rename.{Names, with_id, called}
 use Rattle.upload_order.specs.World.{World, WorldEntry, after}
-use Rattle.upload_order.proofs.Basics.{decide, or_left, at_key_put, at_other}
+use Rattle.upload_order.proofs.Basics.{at_key_put, at_other}
 use Rattle.server_world.specs.declared.starts.Starts.{Starts}
 use Rattle.server_world.specs.Codes.{Objects}
 use Rattle.server_world.specs.Free.{last_id, IsStart}
@@ -19,7 +20,7 @@ use Rattle.server_world.proofs.Freeness.{first_start, start_on}
 
 -- what stands in a map stands after one more was put
 still_some : (m : Objects) (k q : Key) (e : WorldEntry) → is_some (fin.get m q) ≡ true → is_some (fin.get (fin.insert m k e) q) ≡ true
-still_some m k q e h = elim (decide (is_key q k)) [ inl i ↦ ap is_some (at_key_put m k q e i) | inr o ↦ ap is_some (at_other m k q e o) ∙ h ]
+still_some m k q e h = elim (cases_Bool (is_key q k)) [ inl i ↦ ap is_some (at_key_put m k q e i) | inr o ↦ ap is_some (at_other m k q e o) ∙ h ]
 
 or_kept : (a b c : Bool) → (a ≡ true → c ≡ true) → (a || b) ≡ true → (c || b) ≡ true
 or_kept true b c h e = ap (λ x. x || b) (h refl)

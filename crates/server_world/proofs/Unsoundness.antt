@@ -1,24 +1,22 @@
 -- No object is unsound exactly where the world is sound.
 use Rattle.std.proofs.Common.{◌≡◌, Bool, false, not, ◌||◌, List, [], ◌∷◌, Option, Some, None, is_some, refl, sym, ◌∙◌, ap, inl, inr}
+use Rattle.std.proofs.lemmas.Bool.{or_parts}
 use Rattle.std.specs.List.{list_any}
 use Rattle.std.specs.Option.{option_map, option_map_or}
 use Rattle.std.specs.FinMap as fin
 use Rattle.osm_base.specs.Content.{refs_of}
 use Rattle.osm_base.specs.declared.key.Key.{Key}
 use Rattle.osm_base.specs.declared.content.Content.{Content}
+use Rattle.osm_base.proofs.Tests.{none_before_map}
 use Rattle.upload_order.specs.World.{World, WorldEntry, stands, content_in, content_at, IsSoundWorld}
 use Rattle.upload_order.proofs.Entries.{IsIn, any_in, in_any, find_none, none_found, has_listed, listed_has}
+use Rattle.upload_order.proofs.Worlds.{content_some}
 use Rattle.server_world.specs.Unsound.{lacks, is_unsound, first_unsound}
-use Rattle.server_world.proofs.Based.{neither}
-
-no_first : {A B : Type 0} (f : A → B) (o : Option A) → option_map f o ≡ None → o ≡ None
-no_first f None e = refl
-no_first f (Some x) e = cc
 
 none_any : {A : Type 0} (p : A → Bool) (xs : List A) (x : A) → list_any p xs ≡ false → IsIn x xs → p x ≡ false
 none_any p [] x e i = absurd i
-none_any p (y ∷ ys) x e (inl same) = ap p (sym same) ∙ (neither (p y) (list_any p ys) e).0
-none_any p (y ∷ ys) x e (inr i) = none_any p ys x (neither (p y) (list_any p ys) e).1 i
+none_any p (y ∷ ys) x e (inl same) = ap p (sym same) ∙ (or_parts (p y) (list_any p ys) e).0
+none_any p (y ∷ ys) x e (inr i) = none_any p ys x (or_parts (p y) (list_any p ys) e).1 i
 
 any_none : {A : Type 0} (p : A → Bool) (xs : List A) → ((x : A) → IsIn x xs → p x ≡ false) → list_any p xs ≡ false
 any_none p [] h = refl
@@ -28,16 +26,12 @@ there : (o : Option Content) → not (is_some o) ≡ false → (d : Content) × 
 there None e = cc
 there (Some d) e = (d, refl)
 
-has_entry : (o : Option WorldEntry) (c : Content) → content_in o ≡ Some c → (e : WorldEntry) × (o ≡ Some e) × (e.content ≡ Some c)
-has_entry None c is = cc
-has_entry (Some e) c is = (e, refl, is)
-
 -- where none is found, the world is sound
 pub none_sound : (w : World) → first_unsound w ≡ None → IsSoundWorld w
 none_sound w none q r c has refer =
-    let e = has_entry (stands w q) c has in
+    let e = content_some (stands w q) c has in
     let sound : is_unsound w e.0 ≡ false =
-    none_found (λ (x : Key × WorldEntry). is_unsound w x.1) (fin.entries w.entries) (q, e.0) (no_first (λ (x : Key × WorldEntry). x.0) _ none) (listed_has w.entries q e.0 e.1) in
+    none_found (λ (x : Key × WorldEntry). is_unsound w x.1) (fin.entries w.entries) (q, e.0) (none_before_map (λ (x : Key × WorldEntry). x.0) _ none) (listed_has w.entries q e.0 e.1) in
     let whole : lacks w c ≡ false = ap (λ (o : Option Content). option_map_or (lacks w) o false) (sym e.2) ∙ sound in
     there (content_at w r) (none_any (λ k. not (is_some (content_at w k))) (refs_of c) r whole (any_in (refs_of c) r refer))
 

@@ -11,7 +11,3 @@ one_more false bytes rest more e f = f e
 pub held-more : (files : Shelved) (added name bytes : List ℕ) → held files name ≡ None → bytes_eq added name ≡ false → held (files ++ (added, bytes) ∷ []) name ≡ None
 held-more [] added name bytes e other = rw other refl
 held-more (file ∷ files) added name bytes e other = one_more (bytes_eq file.0 name) file.1 (held files name) (held (files ++ (added, bytes) ∷ []) name) e (λ f. held-more files added name bytes f other)
-
-pub none-of : (a b : Bool) → (a || b) ≡ false → (a ≡ false) × (b ≡ false)
-none-of true b e = (e, absurd (let h : true ≡ false = e in cc))
-none-of false b e = (refl, e)

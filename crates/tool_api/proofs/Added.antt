@@ -1,5 +1,6 @@
 -- Tables with new objects: what they have, and that they are sound.
 use Rattle.std.proofs.Common.{◌≡◌, ◌||◌, ◌+◌, ◌-◌, ◌<◌, ◌≤◌, ◌^◌, ℕ, suc, negsuc, Bool, true, false, cond, nat_lt, List, [], ◌∷◌, length, Option, Some, None, refl, sym, ap, ◌∙◌, subst, arith}
+use Rattle.std.proofs.lemmas.Bool.{ltb-false}
 use Rattle.std.specs.List.{AllByRecursion}
 use Rattle.std.specs.Option.{option_and_then}
 use Rattle.std.specs.FinMap as fin
@@ -9,6 +10,7 @@ use Rattle.osm_base.specs.declared.key.Key.{Key}
 use Rattle.osm_base.specs.declared.key.Kind.{Kind}
 use Rattle.osm_base.specs.declared.content.Content.{Content}
 use Rattle.osm_base.proofs.RisingKeys.{one_key}
+use Rattle.osm_base.proofs.Tests.{by_bool}
 use Rattle.osm_table.specs.declared.entry.Base.TheVariants.{New, Live, Gone}
 use Rattle.osm_table.specs.declared.entry.Entry.{Entry}
 use Rattle.osm_table.specs.declared.entry.Entry.TheVariants.{Incomplete, Known}
@@ -20,9 +22,8 @@ use Rattle.dataset.proofs.Changes.{drafted_put, new_entry}
 use Rattle.dataset.proofs.Kept.{entry_more}
 use Rattle.tool_api.specs.Changes.{new_key, added, all_added, content_of}
 use Rattle.tool_api.specs.Closing.{makes_unfit}
-use Rattle.tool_api.proofs.Bools.{by_bool}
 use Rattle.tool_api.proofs.Passed.{fits_or_stays}
-use Rattle.tool_api.proofs.Sounds.{only_fits, second_false, at_most}
+use Rattle.tool_api.proofs.Sounds.{only_fits, second_false}
 
 -- What they have.
 
@@ -51,7 +52,7 @@ numbers j k m n e = let f : negsuc (m - 1) ≡ negsuc (n - 1) = ap (λ (x : Key)
 
 pub new_differs : (j k : Kind) (m n : ℕ) → 1 ≤ m → m < n → is_key (new_key j m) (new_key k n) ≡ false
 new_differs j k m n one less =
-    by_bool (is_key (new_key j m) (new_key k n)) (is_key (new_key j m) (new_key k n) ≡ false)
+    by_bool (is_key (new_key j m) (new_key k n))
     (λ is. let e = numbers j k m n (one_key (new_key j m) (new_key k n) is) in absurd (omega (arith, e))) (λ other. other)
 
 -- a new key is there from when it is added
@@ -135,4 +136,4 @@ all_added_sound t cs s fit refs room =
     }
 
 pub number_room : (full : Bool) (next last : ℕ) → (full || nat_lt 1000000000000000000 next) ≡ false → next ≡ last → last ≤ 10 ^ 18
-number_room full next last e is = let h : next ≤ 1000000000000000000 = at_most 1000000000000000000 next (second_false full _ e) in omega (arith, h, is)
+number_room full next last e is = let h : next ≤ 1000000000000000000 = ltb-false 1000000000000000000 next (second_false full _ e) in omega (arith, h, is)

@@ -3,6 +3,7 @@ use Rattle.std.proofs.Common.{◌≡◌, ◌||◌, ◌+◌, ◌<◌, ℕ, suc, B
 use Rattle.indexmap.specs.IndexSet.{insert_key}
 use Rattle.std.specs.List.{list_any}
 use Rattle.std.proofs.lemmas.List.Folds.{list_any-append}
+use Rattle.std.proofs.Math.Bool.{or-false}
 use Rattle.osm_base.specs.Rank.{is_key}
 use Rattle.osm_base.specs.KeyEq.{eq}
 use Rattle.osm_base.proofs.RisingKeys.{one_key}
@@ -23,10 +24,6 @@ fresh true k r = refl
 fresh false true r = refl
 fresh false false r = refl
 
-or_none : (b : Bool) → b ≡ (b || false)
-or_none true = refl
-or_none false = refl
-
 step : (q k : Key) (seen ks : List Key) (b : Bool) → is_named seen k ≡ b
     → ((more : List Key) → is_named (with_new more ks) q ≡ (is_named more q || is_named ks q))
     → is_named (with_new (if b then seen else seen ++ k ∷ []) ks) q ≡ (is_named seen q || (is_key q k || is_named ks q))
@@ -35,7 +32,7 @@ step q k seen ks false is rest =
     rest (seen ++ k ∷ []) ∙ ap (λ b. b || is_named ks q) (list_any-append (is_key q) seen (k ∷ [])) ∙ fresh (is_named seen q) (is_key q k) (is_named ks q)
 
 in_with_new : (q : Key) (seen ks : List Key) → is_named (with_new seen ks) q ≡ (is_named seen q || is_named ks q)
-in_with_new q seen [] = or_none (is_named seen q)
+in_with_new q seen [] = sym (or-false (is_named seen q))
 in_with_new q seen (k ∷ ks) = step q k seen ks (is_named seen k) refl (λ more. in_with_new q more ks)
 
 -- a key is among distinct keys where it is among the keys

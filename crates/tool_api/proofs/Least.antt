@@ -1,5 +1,6 @@
 -- The closing tests find by the draft's keys what they find by all keys of the tables.
 use Rattle.std.proofs.Common.{◌≡◌, ◌&&◌, Bool, true, false, not, is_some, Option, Some, None, List, refl, sym, ◌∙◌, ap}
+use Rattle.std.proofs.lemmas.Bool.{and_right, not_from_true}
 use Rattle.std.specs.Option.{option_map, option_and_then, unwrap_or}
 use Rattle.std.specs.List.{find}
 use Rattle.std.specs.FinMap as fin
@@ -8,11 +9,12 @@ use Rattle.osm_base.specs.RisingKeys.{is_in}
 use Rattle.osm_base.proofs.ByRank.{same_least}
 use Rattle.osm_base.specs.declared.key.Key.{Key}
 use Rattle.osm_base.specs.declared.content.Content.{Content}
+use Rattle.osm_base.proofs.Tests.{by_bool, none_from_test}
 use Rattle.osm_table.proofs.SameLaws.{same_mine_decides}
 use Rattle.osm_table.specs.declared.entry.Entry.{Entry}
 use Rattle.osm_table.specs.Table.{TableValue, entry_of, mine_of, keys_by_rank}
 use Rattle.dataset.specs.Draft.{DraftValue, drafted}
-use Rattle.dataset.proofs.Drafted.{get_drafted, none_at, by_bool}
+use Rattle.dataset.proofs.Drafted.{get_drafted}
 use Rattle.dataset.proofs.Differs.{same_at_decides}
 use Rattle.tool_api.specs.declared.refusal.Refusal.TheVariants.{InConflict, Unfit}
 use Rattle.tool_api.specs.Checks.{is_named}
@@ -21,11 +23,11 @@ use Rattle.tool_api.specs.Closing.{changes_conflict, in_conflict, conflict_chang
 
 -- an entry that the draft doesn't name stays
 pub left_alone : (d : DraftValue) (t : TableValue) (k : Key) → is_in k (fin.keys d.puts) ≡ false → entry_of (drafted d t) k ≡ entry_of t k
-left_alone d t k out = get_drafted d t k ∙ ap (λ (o : Option (Option Entry)). unwrap_or o (entry_of t k)) (none_at (fin.get d.puts k) (fin.contains_key-keys d.puts k ∙ out))
+left_alone d t k out = get_drafted d t k ∙ ap (λ (o : Option (Option Entry)). unwrap_or o (entry_of t k)) (none_from_test (fin.get d.puts k) (fin.contains_key-keys d.puts k ∙ out))
 
 -- a key that passes a test of changes is in the draft
 in_draft : (d : DraftValue) (t : TableValue) (k : Key) (passes : Bool) → (entry_of (drafted d t) k ≡ entry_of t k → passes ≡ false) → passes ≡ true → is_in k (fin.keys d.puts) ≡ true
-in_draft d t k passes unchanged e = by_bool _ (is_in k (fin.keys d.puts)) (λ there. there) (λ out. let never : false ≡ true = sym (unchanged (left_alone d t k out)) ∙ e in cc)
+in_draft d t k passes unchanged e = by_bool (is_in k (fin.keys d.puts)) (λ there. there) (λ out. let never : false ≡ true = sym (unchanged (left_alone d t k out)) ∙ e in cc)
 
 -- a key with an entry is among the keys
 pub has_key : (t : TableValue) (k : Key) → is_some (entry_of t k) ≡ true → is_in k (keys_by_rank t) ≡ true
@@ -65,14 +67,9 @@ after_some : (before : Option Content) (o : Option Entry) → makes_unfit before
 after_some before None e = cc
 after_some before (Some x) e = refl
 
-not_second : (a b : Bool) → b ≡ true → (a && not b) ≡ false
-not_second true true e = refl
-not_second false true e = refl
-not_second a false e = cc
-
 unchanged_fits : (o : Option Content) → makes_unfit o o ≡ false
 unchanged_fits None = refl
-unchanged_fits (Some c) = not_second (not (fits c)) _ ((same_mine_decides (Some c) (Some c)).1 refl)
+unchanged_fits (Some c) = and_right (not (fits c)) _ (not_from_true _ ((same_mine_decides (Some c) (Some c)).1 refl))
 
 abbrev pub makes_unfit_at : TableValue → TableValue → Key → Bool
 makes_unfit_at t u k = makes_unfit (content_of t k) (content_of u k)

@@ -1,6 +1,7 @@
 pub mod Added
 pub mod Bools
 pub mod Bridge
+pub mod Changed
 pub mod Distincts
 pub mod Ends
 pub mod Examples
@@ -13,6 +14,7 @@ mod PieceExamples
 pub mod Lasts
 pub mod Least
 pub mod Looks
+pub mod Named
 pub mod Passed
 pub mod Rooms
 pub mod Seen

@@ -91,9 +91,13 @@ pub record PassedTests (t u : TableValue) (limit : ℕ) (named : List Key) : Typ
   pub fits : fit_test t u ≡ None
   pub room : is_full limit u ≡ false
 
-some_when : (b : Bool) (r : Refusal) → when b r ≡ None → b ≡ false
+pub some_when : (b : Bool) (r : Refusal) → when b r ≡ None → b ≡ false
 some_when true r e = cc
 some_when false r e = refl
+
+pub passed_when : (b : Bool) (r : Refusal) → when (not b) r ≡ None → b ≡ true
+passed_when true r e = refl
+passed_when false r e = cc
 
 pub passed_tests : (t u : TableValue) (limit : ℕ) (named : List Key) → closing_tests t limit named u ≡ None → PassedTests t u limit named
 passed_tests t u limit named passed =

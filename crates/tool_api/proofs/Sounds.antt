@@ -3,7 +3,7 @@ use Rattle.std.proofs.Common.{◌≡◌, ◌||◌, ℕ, ◌+◌, ◌≤◌, Bool
 use mathlib.Core.Logic.{◌⊎◌, inl, inr}
 use Rattle.std.specs.Option.{option_map, option_and_then}
 use Rattle.std.specs.FinMap as fin
-use Rattle.std.proofs.lemmas.Bool.Decides.{nat_tests}
+use Rattle.std.proofs.lemmas.Bool.{ltb-false}
 use Rattle.osm_base.specs.Content.{refers, refs_of, fits, kind_of_content}
 use Rattle.osm_base.specs.declared.key.Kind.{Kind}
 use Rattle.osm_base.specs.declared.key.Key.{Key}
@@ -128,9 +128,6 @@ pub second_false : (a b : Bool) → (a || b) ≡ false → b ≡ false
 second_false true b e = cc
 second_false false b e = e
 
-pub at_most : (n m : ℕ) → nat_lt n m ≡ false → m ≤ n
-at_most n m e = grind (arith, nat_tests)
-
 pub add_sound : (t : TableValue) (limit : ℕ) (named : List Key) (c : Content) → IsSound t → ref_tests t (refs_of c) ≡ None → closing_tests t limit named (added t c) ≡ None → IsSound (added t c)
 add_sound t limit named c s refs passed =
     let k = new_key (kind_of_content c) t.next in
@@ -138,5 +135,5 @@ add_sound t limit named c s refs passed =
     let fine : makes_unfit None (Some c) ≡ false =
     (let a = sym (new_absent t (kind_of_content c) s) in let b = sym there in λ i. makes_unfit (option_and_then mine_of (a i)) (option_and_then mine_of (b i))) ∙ keeps_fit t (added t c) limit named k _ passed there in
     let room : nat_lt 1000000000000000000 (t.next + 1) ≡ false = second_false (nat_lt limit (fin.len (added t c).entries)) _ (passed_tests t (added t c) limit named passed).room in
-    let number : IsSound (record { entries = t.entries; next = t.next + 1 }) = number_sound t (t.next + 1) s (omega arith) (omega arith, at_most _ _ room) in
+    let number : IsSound (record { entries = t.entries; next = t.next + 1 }) = number_sound t (t.next + 1) s (omega arith) (omega arith, ltb-false _ _ room) in
     new_sound (record { entries = t.entries; next = t.next + 1 }) k c number (let one = s.number.0 in omega (arith, one)) refl (only_fits c (fits_or_stays None c fine)) (λ r used. refs_there t (refs_of c) r refs used)

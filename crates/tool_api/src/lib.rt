@@ -1,9 +1,9 @@
 //! What a command does, and how the history of a session knows it.
 //!
 //! A *job* is one step of a script with its arguments. A *command* plans the jobs of one verb: it is lent the data set
-//! and answers a draft of the change, or a refusal. A *tool* runs jobs over the data set, keeps the patch of each that
-//! it did, and can take the last one back or do it again; `Undoable` is the tool of any command. What each job means,
-//! its reply and the new table, is one small definition in `specs/`: `plain`. A command is proved to plan just that.
+//! and answers a draft of the change, or its patch, or a refusal. A *tool* runs jobs over the data set, keeps the patch of
+//! each that it did, and can take the last one back or do it again; `Undoable` is the tool of any command. What each job
+//! means, its reply and the new table, is one small definition in `specs/`: `plain`. A command is proved to plan just that.
 //! A job has all that it needs: that of an import has the new objects of a file (`NewObjects`), by the file's own keys.
 //!
 //! To add a command: add its variant to `Job` (and to `Refusal`, with the next number, where it refuses in a new

@@ -1,6 +1,6 @@
 //! What a job comes to.
 use crate::refusal::Refusal;
-use dataset::Draft;
+use dataset::{Draft, Patch};
 use osm_base::Keys;
 
 /// What a job comes to, before anything has changed.
@@ -10,4 +10,6 @@ pub enum Plan {
     Refused(Refusal),
     /// What is to change, and the keys of what that makes.
     Change { draft: Draft, made: Keys },
+    /// What is to change, as its difference already. It makes no new object.
+    Ready(Patch),
 }

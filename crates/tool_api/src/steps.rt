@@ -79,6 +79,23 @@ impl Steps {
     {
         let patch = ds.patch_of(&draft)?;
         drop(draft);
+        self.lead_on(ds, patch)
+    }
+
+    /// Leads the table on by the patch, and puts the patch last on `done`. It costs the patch's entries and their
+    /// references.
+    ///
+    /// # Errors
+    /// Want of memory, and then nothing is changed.
+    pub fn lead_on(&mut self, ds: &mut DataSet, patch: Patch) -> Result<(), AllocError>
+        requires stands { StandsBefore patch ds.old }
+        requires sound { IsSound (after_of patch ds.old) }
+        ensures table { OnOk result (ds.new ≡ after_of patch ds.old) }
+        ensures done { OnOk result (self.new.0 ≡ self.old.0 ++ patch ∷ []) }
+        ensures undone { self.new.1 ≡ self.old.1 }
+        ensures err_table { OnErr result (ds.new ≡ ds.old) }
+        ensures err_done { OnErr result (self.new.0 ≡ self.old.0) }
+    {
         self.behind.reserve(1)?;
         ds.apply(&patch)?;
         match self.behind.push(patch) {

@@ -9,6 +9,7 @@ use crate::steps::Steps;
 use crate::tool::Tool;
 use crate::verb::Verb;
 use dataset::{DataSet, Patch};
+use osm_base::Keys;
 use std::alloc::{AllocError, Global};
 
 /// The tool that does what a command plans, keeps the patches, takes them back and does them again.
@@ -50,6 +51,10 @@ impl<C: Command> Tool for Undoable<C> {
             Plan::Change { draft, made } => {
                 self.steps.commit(ds, draft)?;
                 Ok(Reply::Done(made))
+            }
+            Plan::Ready(patch) => {
+                self.steps.lead_on(ds, patch)?;
+                Ok(Reply::Done(Keys::new(ds.alloc())))
             }
         }
     }

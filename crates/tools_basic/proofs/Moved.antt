@@ -1,9 +1,10 @@
 -- The nodes that move with the objects named are those of the definition, and they are there.
-use Rattle.std.proofs.Common.{◌≡◌, ◌&&◌, ◌||◌, ℤ, Bool, true, false, cond, is_some, List, [], ◌∷◌, map, Option, Some, None, refl, sym, ap, ◌∙◌, subst}
+use Rattle.std.proofs.Common.{◌≡◌, ◌&&◌, ◌||◌, Bool, true, false, is_some, List, [], ◌∷◌, Option, Some, None, refl, sym, ap, ◌∙◌, subst}
 use Rattle.std.specs.List.{list_any}
 use Rattle.std.specs.Option.{option_map_or, option_and_then}
 use Rattle.std.specs.FinMap as fin
 use Rattle.std.proofs.lemmas.List.Folds.{list_any-append}
+use Rattle.std.proofs.Math.Bool.{or-true}
 use Rattle.osm_base.specs.Rank.{is_key}
 use Rattle.osm_base.specs.Content.{node, refers, kind_of_content}
 use Rattle.osm_base.proofs.RisingKeys.{one_key}
@@ -16,29 +17,21 @@ use Rattle.osm_table.specs.declared.entry.Entry.TheVariants.{Incomplete, Known}
 use Rattle.osm_table.specs.Table.{TableValue, entry_of, mine_of, IsThere}
 use Rattle.dataset.specs.Sound.{IsSound}
 use Rattle.tool_api.specs.declared.kinds.Kinds.TheVariants.{Nodes, NodesAndWays}
-use Rattle.tool_api.specs.declared.refusal.Refusal.{Refusal}
 use Rattle.tool_api.specs.Basic.{has_node, is_moved, moved_nodes}
 use Rattle.osm_base.specs.Order.{ranked}
 use Rattle.tool_api.specs.Checks.{first_of, is_named, takes, entry_test, target_test, list_tests, twice_test}
 use Rattle.osm_base.proofs.RankedKeys.{named_ranked}
+use Rattle.osm_base.proofs.Tests.{by_either, passed_where_none}
 use Rattle.tool_api.proofs.Bridge.{ranked_filter}
 use Rattle.tool_api.proofs.Passed.{both_none}
 use Rattle.tools_basic.specs.Moves.{moved_with, all_moved_with}
-use Rattle.tool_api.proofs.Bools.{by_either, or_true, false_between}
+use Rattle.tool_api.proofs.Bools.{false_between}
+use Rattle.tool_api.proofs.Named.{node_kind}
 
 -- what is there has an entry
 there_some : (o : Option Entry) → IsThere o → is_some o ≡ true
 there_some None h = absurd h
 there_some (Some e) h = refl
-
--- a key among nodes is a node
-node_step : (q : Key) (id : ℤ) (b rest : Bool) → is_key q (node id) ≡ b → (b || rest) ≡ true → (rest ≡ true → q.kind ≡ kind.Node) → q.kind ≡ kind.Node
-node_step q id true rest is h there = ap (λ (k : Key). k.kind) (one_key q (node id) is)
-node_step q id false rest is h there = there h
-
-node_kind : (q : Key) (ids : List ℤ) → is_named (map node ids) q ≡ true → q.kind ≡ kind.Node
-node_kind q [] h = cc
-node_kind q (id ∷ ids) h = node_step q id (is_key q (node id)) (is_named (map node ids) q) refl h (node_kind q ids)
 
 -- whether a key is a node that moves with an object, and has an entry
 abbrev moves_with : TableValue → Key → Key → Option Content → Bool
@@ -62,7 +55,7 @@ by_way : (t : TableValue) (q k : Key) (r : Bool) → k.kind ≡ kind.Way → (r 
 by_way t q k true way node there =
     let takes_it : takes Nodes q.kind ≡ true = ap (takes Nodes) (node refl) in
     let has = there_some (entry_of t q) (there refl) in
-    let or = or_true (is_key q k) in
+    let or = or-true (is_key q k) in
     rw (takes_it, has, or) refl
 by_way t q k false way node there = not_itself q k (is_key q k) (is_some (entry_of t q)) refl way
 
@@ -73,16 +66,12 @@ of_content t q k (Node tags at) taken kinds some there = by_itself t q k (is_key
 of_content t q k (Way tags refs) taken kinds some there = by_way t q k (refers (Way tags refs) q) (sym kinds) (node_kind q refs) there
 of_content t q k (Relation tags members) taken kinds some there = let never : takes NodesAndWays kind.Relation ≡ true = ap (takes NodesAndWays) kinds ∙ taken in cc
 
-of_kind : (b : Bool) (o : Option Refusal) (r : Refusal) → cond b o (Some r) ≡ None → b ≡ true
-of_kind true o r e = refl
-of_kind false o r e = cc
-
 of_entry : (t : TableValue) (q k : Key) (o : Option Entry) → IsSound t → entry_of t k ≡ o → entry_test NodesAndWays k o ≡ None → is_named (moved_with k (option_and_then mine_of o)) q ≡ moves_with t q k (option_and_then mine_of o)
 of_entry t q k None s is passed = cc
 of_entry t q k (Some Incomplete) s is passed = cc
 of_entry t q k (Some (Known base None conflict)) s is passed = cc
 of_entry t q k (Some (Known base (Some c) conflict)) s is passed =
-    of_content t q k c (of_kind (takes NodesAndWays k.kind) _ _ passed) (s.entries k _ is).kinds.1 (ap is_some is) (s.closed k _ is q)
+    of_content t q k c (passed_where_none (takes NodesAndWays k.kind) _ _ passed) (s.entries k _ is).kinds.1 (ap is_some is) (s.closed k _ is q)
 
 together : (n s a b x y : Bool) → (((n && (a || x)) && s) || ((n && (b || y)) && s)) ≡ ((n && ((a || b) || (x || y))) && s)
 together false s a b x y = refl
@@ -138,7 +127,7 @@ entry_there t q k (Some (Known base (Some c) conflict)) s is h = content_there t
 collected_there : (t : TableValue) (keys : List Key) (q : Key) → IsSound t → is_named (all_moved_with t keys) q ≡ true → IsThere (entry_of t q)
 collected_there t [] q s h = cc
 collected_there t (k ∷ ks) q s h =
-    by_either (IsThere (entry_of t q)) _ _ (sym (list_any-append (is_key q) (moved_with k (option_and_then mine_of (entry_of t k))) (all_moved_with t ks)) ∙ h)
+    by_either _ _ (sym (list_any-append (is_key q) (moved_with k (option_and_then mine_of (entry_of t k))) (all_moved_with t ks)) ∙ h)
     (entry_there t q k (entry_of t k) s refl) (collected_there t ks q s)
 
 pub moved_there : (t : TableValue) (keys : List Key) (q : Key) → IsSound t → list_tests t NodesAndWays keys ≡ None → is_named (moved_nodes t keys) q ≡ true → IsThere (entry_of t q)

@@ -4,7 +4,7 @@ use Rattle.std.specs.List.{list_any}
 use mathlib.Core.Logic.{inl}
 use Rattle.osm_base.specs.Rank.{is_key}
 use Rattle.osm_base.specs.Tags.{Pair}
-use Rattle.osm_base.specs.Content.{kind_of_content, refs_of}
+use Rattle.osm_base.specs.Content.{refs_of}
 use Rattle.osm_base.specs.declared.key.Key.{Key}
 use Rattle.osm_base.specs.declared.content.Content.{Content}
 use Rattle.osm_base.specs.declared.content.Content.TheVariants as content
@@ -17,11 +17,7 @@ use Rattle.tool_api.specs.Closing.{closing_tests}
 use Rattle.tool_api.specs.Basic.{retagged, with_tags}
 use Rattle.tool_api.proofs.Passed.{both_none, named_lives}
 use Rattle.tool_api.proofs.Sounds.{edit_sound}
-
-kind_with : (f : List Pair → List Pair) (c : Content) → kind_of_content (with_tags f c) ≡ kind_of_content c
-kind_with f (content.Node tags at) = refl
-kind_with f (content.Way tags refs) = refl
-kind_with f (content.Relation tags members) = refl
+use Rattle.tool_api.proofs.Changed.{kind_with}
 
 refs_with : (f : List Pair → List Pair) (c : Content) → refs_of (with_tags f c) ≡ refs_of c
 refs_with f (content.Node tags at) = refl

@@ -1,13 +1,14 @@
 -- Keys that are among others.
 use Rattle.std.proofs.Common.{◌≡◌, ◌&&◌, ◌||◌, Bool, true, false, cond, not, List, [], ◌∷◌, filter, Option, Some, None, refl, sym, ap, ◌∙◌}
-use Rattle.std.specs.List.{flat_map, find, list_all, list_any, dedup, dedup_from}
-use Rattle.std.specs.Cmp.{both_ways}
+use Rattle.std.specs.List.{flat_map, find, list_all, list_any}
+use Rattle.std.specs.Cmp.{both_ways, first_so, second_so}
 use Rattle.std.proofs.lemmas.List.Folds.{list_any-append}
+use Rattle.std.proofs.lemmas.Bool.{or_right, and_from, and_right}
 use Rattle.osm_base.specs.Rank.{is_key}
 use Rattle.osm_base.proofs.RisingKeys.{one_key, key_itself}
 use Rattle.osm_base.specs.declared.key.Key.{Key}
+use Rattle.osm_base.proofs.Tests.{by_either}
 use Rattle.tool_api.specs.Checks.{is_named}
-use Rattle.tool_api.proofs.Bools.{or_right, both, and_left, and_right, by_either, and_false}
 
 -- a key of a list that passes is one that passes
 any_case : (p : Key → Bool) (q k : Key) (b rest c : Bool) → is_key q k ≡ b → (b || c) ≡ true → p q ≡ true → (c ≡ true → rest ≡ true) → (p k || rest) ≡ true
@@ -35,7 +36,7 @@ passing p (k ∷ ks) any = first_passing p k ks (p k) refl any (passing p ks)
 half : (r : Key → Bool) (xs ys : List Key) → list_any (λ k. is_named ys k && r k) xs ≡ true → list_any (λ k. is_named xs k && r k) ys ≡ true
 half r xs ys any =
     let p = passing (λ k. is_named ys k && r k) xs any in
-    any_passes (λ k. is_named xs k && r k) p.key ys (and_left (is_named ys p.key) (r p.key) p.passes) (both _ _ p.among (and_right (is_named ys p.key) (r p.key) p.passes))
+    any_passes (λ k. is_named xs k && r k) p.key ys (first_so (is_named ys p.key) (r p.key) p.passes) (and_from _ _ p.among (second_so (is_named ys p.key) (r p.key) p.passes))
 
 -- two lists have a key in common that passes, from whichever side one looks
 pub common_passing : (r : Key → Bool) (xs ys : List Key) → list_any (λ k. is_named ys k && r k) xs ≡ list_any (λ k. is_named xs k && r k) ys
@@ -64,7 +65,7 @@ none_any p (k ∷ ks) e = none_found k (p k) (find p ks) (list_any p ks) e (none
 -- where one doesn't pass, not all do
 fails_case : (p : Key → Bool) (q k : Key) (b rest c : Bool) → is_key q k ≡ b → (b || c) ≡ true → p q ≡ false → (c ≡ true → rest ≡ false) → (p k && rest) ≡ false
 fails_case p q k true rest c is has fails there = ap (λ x. p x && rest) (sym (one_key q k is)) ∙ ap (λ b. b && rest) fails
-fails_case p q k false rest c is has fails there = and_false (p k) rest (there has)
+fails_case p q k false rest c is has fails there = and_right (p k) rest (there has)
 
 pub not_all : (p : Key → Bool) (q : Key) (ks : List Key) → is_named ks q ≡ true → p q ≡ false → list_all p ks ≡ false
 not_all p q [] has fails = cc
@@ -79,24 +80,9 @@ pub whole : {X : Type 0} (p : X → Bool) (xs : List X) → list_any p xs ≡ fa
 whole p [] none = refl
 whole p (x ∷ xs) none = whole_case p (p x) x xs none (whole p xs)
 
--- what is left of a list after `dedup` was in it
 or_weaker : (a b c d : Bool) → (a ≡ true → c ≡ true) → (b ≡ true → d ≡ true) → (a || b) ≡ true → (c || d) ≡ true
 or_weaker true b c d f g e = ap (λ x. x || d) (f refl)
 or_weaker false b c d f g e = or_right c d (g e)
-
-module _ {X : Type 0} (p : X → Bool) (same : X → X → Bool) where
-  dedup_case : (b : Bool) (k x : X) (xs : List X) → list_any p (cond b (dedup_from same k xs) (k ∷ dedup_from same x xs)) ≡ true
-      → ((y : X) → list_any p (dedup_from same y xs) ≡ true → (p y || list_any p xs) ≡ true) → (p k || (p x || list_any p xs)) ≡ true
-  dedup_case true k x xs any rest = or_weaker (p k) (list_any p xs) (p k) (p x || list_any p xs) (λ e. e) (or_right (p x) (list_any p xs)) (rest k any)
-  dedup_case false k x xs any rest = or_weaker (p k) (list_any p (dedup_from same x xs)) (p k) (p x || list_any p xs) (λ e. e) (rest x) any
-
-  any_dedup_from : (xs : List X) (k : X) → list_any p (dedup_from same k xs) ≡ true → (p k || list_any p xs) ≡ true
-  any_dedup_from [] k any = any
-  any_dedup_from (x ∷ xs) k any = dedup_case (same x k) k x xs any (any_dedup_from xs)
-
-  pub any_dedup : (xs : List X) → list_any p (dedup same xs) ≡ true → list_any p xs ≡ true
-  any_dedup [] any = any
-  any_dedup (x ∷ xs) any = any_dedup_from xs x any
 
 -- lists of anything
 
@@ -113,7 +99,7 @@ module _ {X : Type 0} where
   -- what each that passes gives, a list gives in which one passes
   pub any_gives : (P : Type 0) (p : X → Bool) (xs : List X) → list_any p xs ≡ true → ((x : X) → p x ≡ true → P) → P
   any_gives P p [] any each = cc
-  any_gives P p (x ∷ xs) any each = by_either P (p x) (list_any p xs) any (each x) (λ there. any_gives P p xs there each)
+  any_gives P p (x ∷ xs) any each = by_either (p x) (list_any p xs) any (each x) (λ there. any_gives P p xs there each)
 
   pub any_weaker : (p q : X → Bool) (xs : List X) → ((x : X) → p x ≡ true → q x ≡ true) → list_any p xs ≡ true → list_any q xs ≡ true
   any_weaker p q [] each any = any

@@ -1,9 +1,11 @@
 -- Deleting what nothing else uses keeps a table sound.
 use Rattle.std.proofs.Common.{◌≡◌, ℕ, Bool, true, false, cond, not, List, [], Option, Some, None, refl, sym, ap, ◌∙◌, subst}
 use Rattle.std.proofs.lemmas.Bool.{not-false}
+use Rattle.std.proofs.lemmas.Option.{same_Some}
 use Rattle.std.specs.List.{find}
-use Rattle.std.specs.Option.{option_map_or, option_and_then}
+use Rattle.std.specs.Option.{option_and_then}
 use Rattle.osm_base.specs.declared.key.Key.{Key}
+use Rattle.osm_base.proofs.Tests.{by_bool, never}
 use Rattle.osm_table.specs.declared.entry.Base.TheVariants.{New, Live, Gone}
 use Rattle.osm_table.specs.declared.entry.Entry.{Entry}
 use Rattle.osm_table.specs.declared.entry.Entry.TheVariants.{Incomplete, Known}
@@ -11,7 +13,6 @@ use Rattle.osm_table.specs.Table.{TableValue, entry_of, uses, users, Each, IsThe
 use Rattle.dataset.specs.Draft.{DraftValue, drafted}
 use Rattle.dataset.specs.Sound.{IsSound, IsSoundEntry, IsNumber, LivesIn}
 use Rattle.dataset.proofs.Changes.{deleted_entry}
-use Rattle.dataset.proofs.Listed.{user_uses}
 use Rattle.tool_api.specs.declared.kinds.Kinds.TheVariants.{Any}
 use Rattle.tool_api.specs.declared.refusal.Refusal.TheVariants.{InUse}
 use Rattle.tool_api.specs.Checks.{is_named, first_of, list_tests, target_test, twice_test, use_test}
@@ -19,38 +20,31 @@ use Rattle.tool_api.specs.Changes.{changed, delete, deleted}
 use Rattle.tool_api.specs.Gone.{delete_all}
 use Rattle.tool_api.specs.declared.plan.Plan.TheVariants.{Change}
 use Rattle.tool_api.specs.Planned.{Plans}
-use Rattle.tool_api.proofs.Bools.{by_bool}
 use Rattle.tool_api.proofs.Looks.{entry_changed}
 use Rattle.tool_api.proofs.Passed.{Lives, lives, named_lives, both_none, passes, none_passes, none_in}
 use Rattle.tool_api.proofs.Sounds.{each_changed, next_is}
+use Rattle.tool_api.proofs.Named.{is_user}
 
 -- What is left of a deleted entry.
-
-same_some : {X : Type 0} (x y : X) → Some x ≡ Some y → x ≡ y
-same_some x y e = cc
 
 -- is sound by itself
 pub left_sound : (n : ℕ) (k : Key) (x e : Entry) → Lives x → deleted x ≡ Some e → IsSoundEntry n k x → IsSoundEntry n k e
 left_sound n k x e (lives New c) is s = cc
-left_sound n k x e (lives (Live v d m) c) is s = subst (IsSoundEntry n k) (same_some _ e is) (deleted_entry n k (Live v d m) (Some c) None refl s)
-left_sound n k x e (lives (Gone v m) c) is s = subst (IsSoundEntry n k) (same_some _ e is) (deleted_entry n k (Gone v m) (Some c) None refl s)
+left_sound n k x e (lives (Live v d m) c) is s = subst (IsSoundEntry n k) (same_Some _ e is) (deleted_entry n k (Live v d m) (Some c) None refl s)
+left_sound n k x e (lives (Gone v m) c) is s = subst (IsSoundEntry n k) (same_Some _ e is) (deleted_entry n k (Gone v m) (Some c) None refl s)
 
 -- and refers to nothing
 pub left_refers : (x e : Entry) (r : Key) → deleted x ≡ Some e → uses e r ≡ false
-left_refers Incomplete e r is = ap (λ y. uses y r) (sym (same_some Incomplete e is))
+left_refers Incomplete e r is = ap (λ y. uses y r) (sym (same_Some Incomplete e is))
 left_refers (Known New mine conflict) e r is = cc
-left_refers (Known (Live v d m) mine conflict) e r is = ap (λ y. uses y r) (sym (same_some _ e is))
-left_refers (Known (Gone v m) mine conflict) e r is = ap (λ y. uses y r) (sym (same_some _ e is))
+left_refers (Known (Live v d m) mine conflict) e r is = ap (λ y. uses y r) (sym (same_Some _ e is))
+left_refers (Known (Gone v m) mine conflict) e r is = ap (λ y. uses y r) (sym (same_Some _ e is))
 
 pub left_from : (P : Type 0) (e : Entry) (o : Option Entry) → option_and_then deleted o ≡ Some e → ((x : Entry) → o ≡ Some x → deleted x ≡ Some e → P) → P
 left_from P e None has h = cc
 left_from P e (Some x) has h = h x refl has
 
 -- Users.
-
--- an entry that uses a key is one of the key's users
-pub is_user : (t : TableValue) (k r : Key) (e : Entry) → entry_of t k ≡ Some e → uses e r ≡ true → is_named (users t r) k ≡ true
-is_user t k r e has used = user_uses t r k ∙ ap (λ (o : Option Entry). option_map_or (λ e. uses e r) o false) has ∙ used
 
 -- where the test of uses passed, each user is named
 user_named : (t : TableValue) (named : List Key) (k r : Key) (e : Entry) → use_test t named r ≡ None → entry_of t k ≡ Some e → uses e r ≡ true → is_named named k ≡ true
@@ -69,10 +63,6 @@ unchanged_there : (b : Bool) (new old : Option Entry) → b ≡ false → IsTher
 unchanged_there true new old e h = cc
 unchanged_there false new old e h = h
 
-pub never : {P : Type 0} (b : Bool) → b ≡ true → b ≡ false → P
-never true is isnt = cc
-never false is isnt = cc
-
 -- Delete.
 
 closed_deleted : (t : TableValue) (ks : List Key) → IsSound t → first_of (use_test t ks) ks ≡ None → Each (changed t (delete t) ks) (λ k e. LivesIn (changed t (delete t) ks) e)
@@ -80,7 +70,7 @@ closed_deleted t ks s free k e has r used =
     either _ (is_named ks k) (delete t k) (entry_of t k) e (sym (entry_changed t (delete t) ks k) ∙ has)
     (λ named left. left_from _ e (entry_of t k) left (λ x old is. never (uses e r) used (left_refers x e r is)))
     (λ unnamed old. subst IsThere (sym (entry_changed t (delete t) ks r)) (unchanged_there (is_named ks r) (delete t r) (entry_of t r)
-    (by_bool (is_named ks r) _ (λ gone. never (is_named ks k) (user_named t ks k r e (passes (use_test t ks) ks r free gone) old used) unnamed) (λ stays. stays))
+    (by_bool (is_named ks r) (λ gone. never (is_named ks k) (user_named t ks k r e (passes (use_test t ks) ks r free gone) old used) unnamed) (λ stays. stays))
     (s.closed k e old r used)))
 
 delete_sound : (t : TableValue) (ks : List Key) → IsSound t → list_tests t Any ks ≡ None → first_of (use_test t ks) ks ≡ None → IsSound (changed t (delete t) ks)

@@ -2,9 +2,10 @@
 use Rattle.std.proofs.Common.{◌≡◌, ◌&&◌, ℕ, ℤ, Bool, true, false, not, is_some, List, [], filter, map, Option, Some, None, refl, sym, ap, ◌∙◌, subst, int_eq}
 use mathlib.Core.Logic.{◌⊎◌, inl, inr}
 use Rattle.std.proofs.Math.Bool.{and_comm}
-use Rattle.std.proofs.lemmas.Bool.{not-true, not_from_false}
+use Rattle.std.proofs.lemmas.Bool.{not-true, not_from_false, or_parts, and_right, or_from}
 use Rattle.std.specs.List.{find, list_all, list_any}
 use Rattle.std.specs.Option.{option_map_or, option_and_then}
+use Rattle.std.specs.Cmp.{first_so, second_so}
 use Rattle.osm_base.specs.Rank.{is_key}
 use Rattle.osm_base.specs.Content.{node, kind_of_content}
 use Rattle.osm_base.specs.declared.key.Kind.{Kind}
@@ -15,6 +16,8 @@ use Rattle.osm_base.specs.declared.content.Content.{Content}
 use Rattle.osm_base.specs.declared.content.Content.TheVariants as content
 use Rattle.osm_base.proofs.AnyMap.{list_any_map}
 use Rattle.osm_base.proofs.RisingKeys.{one_key}
+use Rattle.osm_base.proofs.Tests.{by_bool, by_either, never}
+use Rattle.osm_base.proofs.Lists.{any_dedup}
 use Rattle.osm_table.specs.declared.entry.Entry.{Entry}
 use Rattle.osm_table.specs.declared.entry.Entry.TheVariants.{Incomplete, Known}
 use Rattle.osm_table.specs.Table.{TableValue, entry_of, mine_of, uses, users, keys_by_rank, Each, IfContent, IsThere}
@@ -31,11 +34,11 @@ use Rattle.tool_api.specs.Gone.{erase, erased, falls, goes, is_bare, is_left, is
 use Rattle.tool_api.proofs.Least.{changes_conflict_at, has_key}
 use Rattle.tool_api.proofs.Passed.{Lives, lives, named_lives, both_none, passed_tests, keeps_fit, fits_or_stays, none_passes, none_in}
 use Rattle.tool_api.proofs.Sounds.{content_edited, edited_there}
+use Rattle.tool_api.proofs.Named.{is_user, node_kind}
 use Rattle.tools_delete.specs.Touched.{lives_as_relation, lives_as_way}
-use Rattle.tools_delete.proofs.Anys.{any_dedup, any_filter, any_gives, any_weaker, not_all}
-use Rattle.tools_delete.proofs.Deletes.{is_user, left_refers, left_sound, never}
+use Rattle.tools_delete.proofs.Anys.{any_filter, any_gives, any_weaker, not_all}
+use Rattle.tools_delete.proofs.Deletes.{left_refers, left_sound}
 use Rattle.tools_delete.proofs.Erased.{After, related, remade, left, untouched, after, entry_erased, loss, mends, next_erased, stays_related, touched}
-use Rattle.tool_api.proofs.Bools.{and_false, or_none, none_of_two, and_right, and_left, by_bool, by_either}
 
 -- What the closing tests let pass.
 
@@ -62,8 +65,8 @@ module _ {X : Type 0} (key : X → Key) (gone : Key → Bool) (r : Key) (xs : Li
   left_among has =
       let any : list_any (λ x. not (gone (key x)) && is_key r (key x)) xs ≡ true = sym (any_filter (λ x. not (gone (key x))) (λ x. is_key r (key x)) xs) ∙ has in (
         any_gives (gone r ≡ false) (λ x. not (gone (key x)) && is_key r (key x)) xs any
-            (λ x e. ap gone (one_key r (key x) (and_right (not (gone (key x))) (is_key r (key x)) e)) ∙ not-true (gone (key x)) (and_left (not (gone (key x))) (is_key r (key x)) e)),
-        list_any_map (is_key r) key xs ∙ any_weaker (λ x. not (gone (key x)) && is_key r (key x)) (λ x. is_key r (key x)) xs (λ x e. and_right (not (gone (key x))) (is_key r (key x)) e) any,
+            (λ x e. ap gone (one_key r (key x) (second_so (not (gone (key x))) (is_key r (key x)) e)) ∙ not-true (gone (key x)) (first_so (not (gone (key x))) (is_key r (key x)) e)),
+        list_any_map (is_key r) key xs ∙ any_weaker (λ x. not (gone (key x)) && is_key r (key x)) (λ x. is_key r (key x)) xs (λ x e. second_so (not (gone (key x))) (is_key r (key x)) e) any,
       )
 
 members_left : (gone : Key → Bool) (r : Key) (members : List Member) → is_named (map (λ (m : Member). m.key) (members_without gone members)) r ≡ true
@@ -78,14 +81,10 @@ refs_left named r refs has =
 -- a way that isn't mended has no named node
 unnamed_ref : (named : List Key) (r : Key) (refs : List ℤ) → list_any (λ n. is_named named (node n)) refs ≡ false → is_named (map node refs) r ≡ true → is_named named r ≡ false
 unnamed_ref named r refs none has =
-    by_bool (is_named named r) _
+    by_bool (is_named named r)
     (λ is. never (list_any (λ n. is_named named (node n)) refs)
     (any_weaker (λ n. is_key r (node n)) (λ n. is_named named (node n)) refs (λ n e. ap (is_named named) (sym (one_key r (node n) e)) ∙ is) (sym (list_any_map (is_key r) node refs) ∙ has)) none)
     (λ isnt. isnt)
-
--- a way refers to nodes
-node_kind : (r : Key) (refs : List ℤ) → is_named (map node refs) r ≡ true → r.kind ≡ kind.Node
-node_kind r refs has = any_gives (r.kind ≡ kind.Node) (λ n. is_key r (node n)) refs (sym (list_any_map (is_key r) node refs) ∙ has) (λ n e. ap (λ (k : Key). k.kind) (one_key r (node n) e))
 
 -- Nodes of ways that stay.
 
@@ -104,10 +103,10 @@ mine_kind n k (Some (Known base mine conflict)) s = (s (Known base mine conflict
 -- a node that isn't named, of a way that doesn't fall, stays
 node_stays : (t : TableValue) (named : List Key) (k r : Key) → IsSound t → is_named (users t r) k ≡ true → falls t named k ≡ false → r.kind ≡ kind.Node → is_named named r ≡ false → goes t named r ≡ false
 node_stays t named k r s used stays is unnamed =
-    let unmended : is_mended t named r ≡ false = and_false (not (is_named named r)) _ (no_way named r.kind (content_of t r) (mine_kind t.next r (entry_of t r) (s.entries r)) is) in
-    let upright : falls t named r ≡ false = or_none (is_named named r) _ unnamed (ap (λ b. b && option_map_or (is_short named) (content_of t r) false) unmended) in
-    or_none (falls t named r) (is_left t named r) upright
-    (and_false (is_bare (entry_of t r) && list_any (λ u. falls t named u && lives_as_way t u) (users t r)) _ (not_all (falls t named) k (users t r) used stays))
+    let unmended : is_mended t named r ≡ false = and_right (not (is_named named r)) _ (no_way named r.kind (content_of t r) (mine_kind t.next r (entry_of t r) (s.entries r)) is) in
+    let upright : falls t named r ≡ false = or_from (is_named named r) _ unnamed (ap (λ b. b && option_map_or (is_short named) (content_of t r) false) unmended) in
+    or_from (falls t named r) (is_left t named r) upright
+    (and_right (is_bare (entry_of t r) && list_any (λ u. falls t named u && lives_as_way t u) (users t r)) _ (not_all (falls t named) k (users t r) used stays))
 
 -- what is there stays there, unless it goes
 there_touched : (mending losing : Bool) (f g : Content → Content) (o : Option Entry) → IsThere o → IsThere (touched false mending losing f g o)
@@ -165,16 +164,16 @@ module _ (t : TableValue) (named : List Key) (s : IsSound t) (k r : Key) where
 
   after_there : (e : Entry) → After t named k e → uses e r ≡ true → IsThere (entry_of (erased t named) r)
   after_there e (related x old same is) used =
-      let p = loss_refers (goes t named) x r (of_content t k x is_relation old ∙ and_right (not (falls t named k)) (lives_as_relation t k) is) (ap (λ y. uses y r) same ∙ used) in
+      let p = loss_refers (goes t named) x r (of_content t k x is_relation old ∙ second_so (not (falls t named k)) (lives_as_relation t k) is) (ap (λ y. uses y r) same ∙ used) in
       refers_there x old p.1 p.0
   after_there e (remade x old same is) used =
-      let way = of_content t k x (is_mended_content named) old ∙ and_right (not (is_named named k)) _ (and_left (is_mended t named k) (not (falls t named k)) is) in
+      let way = of_content t k x (is_mended_content named) old ∙ second_so (not (is_named named k)) _ (first_so (is_mended t named k) (not (falls t named k)) is) in
       let p = mend_refers named x r way (ap (λ y. uses y r) same ∙ used) in
-      way_there x old p.1 (not-true (falls t named k) (and_right (is_mended t named k) (not (falls t named k)) is)) p.0
+      way_there x old p.1 (not-true (falls t named k) (second_so (is_mended t named k) (not (falls t named k)) is)) p.0
   after_there e (left x old same gone) used = never (uses e r) used (left_refers x e r same)
   after_there e (untouched old unrelated unmended stays) used =
-      let upright : falls t named k ≡ false = (none_of_two (falls t named k) (is_left t named k) stays).0 in
-      let unnamed : is_named named k ≡ false = (none_of_two (is_named named k) _ upright).0 in
+      let upright : falls t named k ≡ false = (or_parts (falls t named k) (is_left t named k) stays).0 in
+      let unnamed : is_named named k ≡ false = (or_parts (is_named named k) _ upright).0 in
       let up = not_from_false (falls t named k) upright in
       way_there e old used upright
       (kept_refers named e r (of_content t k e is_relation old ∙ right_false (not (falls t named k)) (lives_as_relation t k) unrelated up)
@@ -222,14 +221,14 @@ some_bare (Some (Known base (Some c) conflict)) e = refl
 -- what goes without being named has a content
 some_going : (t : TableValue) (named : List Key) (k : Key) → goes t named k ≡ true → is_named named k ≡ false → is_some (content_of t k) ≡ true
 some_going t named k gone unnamed =
-    by_either _ (falls t named k) (is_left t named k) gone
-    (λ fallen. by_either _ (is_named named k) _ fallen (λ is. never (is_named named k) is unnamed)
-    (λ short. some_mended named (content_of t k) (and_right (not (is_named named k)) _ (and_left (is_mended t named k) _ short))))
-    (λ bare. some_bare (entry_of t k) (and_left (is_bare (entry_of t k)) _ (and_left _ (list_all (falls t named) (users t k)) bare)))
+    by_either (falls t named k) (is_left t named k) gone
+    (λ fallen. by_either (is_named named k) _ fallen (λ is. never (is_named named k) is unnamed)
+    (λ short. some_mended named (content_of t k) (second_so (not (is_named named k)) _ (first_so (is_mended t named k) _ short))))
+    (λ bare. some_bare (entry_of t k) (first_so (is_bare (entry_of t k)) _ (first_so _ (list_all (falls t named) (users t k)) bare)))
 
 -- what doesn't fall isn't named
 unnamed_at : (t : TableValue) (named : List Key) (k : Key) → not (falls t named k) ≡ true → is_named named k ≡ false
-unnamed_at t named k upright = (none_of_two (is_named named k) _ (not-true (falls t named k) upright)).0
+unnamed_at t named k upright = (or_parts (is_named named k) _ (not-true (falls t named k) upright)).0
 
 module _ (t : TableValue) (named : List Key) (limit : ℕ) (s : IsSound t) (listed : list_tests t Any named ≡ None) (passed : closing_tests t limit named (erased t named) ≡ None) (k : Key) (e : Entry) (has : entry_of (erased t named) k ≡ Some e) where
   -- an entry that isn't named stays as it is, or had no conflict
@@ -247,10 +246,10 @@ module _ (t : TableValue) (named : List Key) (limit : ℕ) (s : IsSound t) (list
       (s.entries k x old)))
 
   after_sound : After t named k e → IsSoundEntry t.next k e
-  after_sound (related x old same is) = edit_sound (loss t named) (members_kind (members_without (goes t named))) x old same (unnamed_at t named k (and_left (not (falls t named k)) (lives_as_relation t k) is))
-  after_sound (remade x old same is) = edit_sound (with_refs (mended named)) (refs_kind (mended named)) x old same (unnamed_at t named k (and_right (is_mended t named k) (not (falls t named k)) is))
+  after_sound (related x old same is) = edit_sound (loss t named) (members_kind (members_without (goes t named))) x old same (unnamed_at t named k (first_so (not (falls t named k)) (lives_as_relation t k) is))
+  after_sound (remade x old same is) = edit_sound (with_refs (mended named)) (refs_kind (mended named)) x old same (unnamed_at t named k (second_so (is_mended t named k) (not (falls t named k)) is))
   after_sound (left x old same gone) =
-      by_bool (is_named named k) _
+      by_bool (is_named named k)
       (λ is. left_sound t.next k x e (named_lives t Any named k x (both_none (twice_test [] named) (first_of (target_test t Any) named) listed).1 is old) same (s.entries k x old))
       (λ unnamed. by_calm x old unnamed
       (λ calm. left_sound t.next k x e (lives_of x calm (ap (λ (o : Option Entry). is_some (option_and_then mine_of o)) (sym old) ∙ some_going t named k gone unnamed)) same (s.entries k x old)))

@@ -3,6 +3,7 @@ use Rattle.std.proofs.Common.{◌≡◌, ℕ, Bool, true, false, cond, not, List
 use Rattle.std.proofs.lemmas.Bool.{not_from_false}
 use Rattle.std.specs.List.{find}
 use Rattle.osm_base.specs.declared.key.Key.{Key}
+use Rattle.osm_base.proofs.Tests.{never}
 use Rattle.osm_table.specs.declared.entry.Base.TheVariants.{New, Live, Gone}
 use Rattle.osm_table.specs.declared.entry.Entry.{Entry}
 use Rattle.osm_table.specs.declared.entry.Entry.TheVariants.{Incomplete, Known}
@@ -19,9 +20,10 @@ use Rattle.tool_api.specs.Planned.{Plans}
 use Rattle.tool_api.proofs.Looks.{entry_changed}
 use Rattle.tool_api.proofs.Passed.{passes, none_in}
 use Rattle.tool_api.proofs.Sounds.{each_changed, next_is}
+use Rattle.tool_api.proofs.Named.{is_user}
 use Rattle.tools_delete.specs.Purged.{new_use_test, purged}
 use Rattle.tools_delete.proofs.Anys.{any_passes, none_any}
-use Rattle.tools_delete.proofs.Deletes.{is_user, either, never}
+use Rattle.tools_delete.proofs.Deletes.{either}
 
 -- where the test of uses passed, nothing else uses the key
 not_used : (t : TableValue) (named : List Key) (k : Key) → use_test t named k ≡ None → is_used t named k ≡ false

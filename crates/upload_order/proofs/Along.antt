@@ -1,9 +1,11 @@
 -- Between the table, the world at the start and the world now, while objects are created and changed.
 use Rattle.std.proofs.Common.{◌≡◌, ◌+◌, ℤ, Bool, true, false, cond, Option, Some, None, is_some, refl, sym, ◌∙◌, ap, ◌⊎◌, inl, inr}
+use Rattle.std.proofs.lemmas.Bool.{cases_Bool}
 use Rattle.std.specs.Option.{option_map, option_map_or}
 use Rattle.osm_base.specs.Content.{refers}
 use Rattle.osm_base.specs.declared.key.Key.{Key}
 use Rattle.osm_base.specs.declared.content.Content.{Content}
+use Rattle.osm_base.proofs.Tests.{never, some_passed}
 use Rattle.osm_table.specs.declared.entry.Entry.{Entry}
 use Rattle.osm_table.specs.declared.entry.Entry.TheVariants.{Incomplete, Known}
 use Rattle.osm_table.specs.declared.entry.Base.TheVariants.{New, Live, Gone}
@@ -12,7 +14,7 @@ use Rattle.upload_order.specs.Rename.{Names, named, meant, called, with_id, is_p
 use Rattle.renamed_content.specs.Renamed.{renamed}
 use Rattle.upload_order.specs.Kinds.{held_of, at_key, is_rising}
 use Rattle.upload_order.specs.World.{World, stands, content_in, content_at, has_content, reaches, Backs}
-use Rattle.upload_order.proofs.Basics.{decide, true_false, both, none_some}
+use Rattle.upload_order.proofs.Basics.{both, none_some}
 use Rattle.upload_order.proofs.Static.{IsUp}
 use Rattle.upload_order.specs.Bases.{base_in, is_based, IsHeldUser}
 use Rattle.upload_order.proofs.Conditions.{Sound, IsVouched}
@@ -63,6 +65,19 @@ up_based (Known New m d) c h g = cc
 up_based (Known (Live v b n) m d) c h g = refl
 up_based (Known (Gone v n) m d) c h g = refl
 
+-- an object of one's own with a new base rises
+pub new_rising : (e : Entry) (c : Content) → mine_of e ≡ Some c → is_new (base_in e) ≡ true → is_rising e ≡ true
+new_rising Incomplete c h g = cc
+new_rising (Known New m d) c h g = refl
+new_rising (Known (Live v b n) m d) c h g = cc
+new_rising (Known (Gone v n) m d) c h g = cc
+
+pub held_based : (e : Entry) (c : Content) → held_of e ≡ Some c → is_based e ≡ true
+held_based Incomplete c h = cc
+held_based (Known New m d) c h = cc
+held_based (Known (Live v b n) m d) c h = refl
+held_based (Known (Gone v n) m d) c h = refl
+
 pub mine_known : (e : Entry) (c : Content) → mine_of e ≡ Some c → is_incomplete e ≡ false
 mine_known Incomplete c h = cc
 mine_known (Known b m d) c h = refl
@@ -83,10 +98,6 @@ living (Known (Live v b n) m d) c h = lives b refl refl
 living (Known (Gone v n) None d) c h = cc
 living (Known (Gone v n) (Some m) d) c h = rises refl
 
-pub passed : (test : Entry → Bool) (o : Option Entry) → option_map_or test o false ≡ true → (e : Entry) × (o ≡ Some e) × (test e ≡ true)
-passed test None h = cc
-passed test (Some e) h = (e, refl, h)
-
 pub at_is : (t : TableValue) (test : Entry → Bool) (k : Key) (e : Entry) (b : Bool) → entry_of t k ≡ Some e → test e ≡ b → at_key t test k ≡ b
 at_is t test k e b h g = ap (λ (o : Option Entry). option_map_or test o false) h ∙ g
 
@@ -105,7 +116,7 @@ module _ (t : TableValue) (s : Sound t) (v : IsVouched t) (w0 w : World) (backs 
   -- each reference of what is to be sent next has a name and a content
   incomplete_stands : (done : Key → Bool) → Along t w0 w done → (r : Key) → at_key t is_incomplete r ≡ true → IsHeldUser t r → reaches w r ≡ true
   incomplete_stands done a r i u =
-      let p = passed is_incomplete (entry_of t r) i in
+      let p = some_passed is_incomplete (entry_of t r) i in
       let there = backs r i u in
       let here : stands w r ≡ stands w0 r =
       elim (a.others r (at_is t is_based r p.0 false p.1 (incomplete_not_based p.0 p.2))) [
@@ -119,7 +130,7 @@ module _ (t : TableValue) (s : Sound t) (v : IsVouched t) (w0 w : World) (backs 
             let same : b.place ≡ q = both b.place q (meant w.names pick.old) b.means pick.means in
             elim b.which [
               | inl n ↦ none_some f (entry_of t q) (ap (entry_of t) (sym same) ∙ n.1) h
-              | inr n ↦ true_false (is_new (base_in pick.entry)) pick.was_new n.0
+              | inr n ↦ never (is_new (base_in pick.entry)) pick.was_new n.0
             ]
 
   pub all_reached : (done : Key → Bool) → Along t w0 w done → (k : Key) (e : Entry) (c : Content) → IsUp t k e c → ((r : Key) → refers c r ≡ true → at_key t is_rising r ≡ true → done r ≡ true) → (r : Key) → refers c r ≡ true → reaches w r ≡ true
@@ -130,7 +141,7 @@ module _ (t : TableValue) (s : Sound t) (v : IsVouched t) (w0 w : World) (backs 
             elim (living l.0 l.1 l.3) [
               | rises rising ↦ (let d = before r h (at_is t is_rising r l.0 true l.2 rising) in done_reached done a r d)
               | lives b based held ↦ (
-                  elim (decide (done r)) [
+                  elim (cases_Bool (done r)) [
                     | inl d ↦ done_reached done a r d
                     | inr n ↦ reach_by w r r b (means_itself w.names r (s.positive r l.0 l.2 (inr based))) (ap content_in (a.waiting r l.0 l.2 based n) ∙ held)
                   ])

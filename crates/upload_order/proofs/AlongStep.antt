@@ -1,38 +1,28 @@
 -- One object that is created or changed.
 use Rattle.std.proofs.Common.{◌≡◌, ◌+◌, Bool, true, false, cond, Some, None, refl, sym, ◌∙◌, ap, subst, inl, inr}
+use Rattle.std.proofs.lemmas.Bool.{cases_Bool}
 use Rattle.std.specs.Option.{option_map, unwrap_or}
 use Rattle.osm_base.specs.Rank.{is_key}
 use Rattle.osm_base.specs.Content.{refers}
 use Rattle.osm_base.specs.declared.key.Key.{Key}
 use Rattle.osm_base.specs.declared.content.Content.{Content}
 use Rattle.osm_table.specs.declared.entry.Entry.{Entry}
-use Rattle.osm_table.specs.declared.entry.Entry.TheVariants.{Incomplete, Known}
-use Rattle.osm_table.specs.declared.entry.Base.TheVariants.{New, Live, Gone}
 use Rattle.osm_table.specs.Table.{TableValue, entry_of, mine_of, version_of, is_new}
 use Rattle.upload_order.specs.Rename.{Names, id_meant, meant, called, with_id}
 use Rattle.renamed_content.specs.Renamed.{renamed}
 use Rattle.upload_order.specs.World.{World, WorldEntry, stands}
-use Rattle.upload_order.proofs.Basics.{key_same, decide, true_false, both, none_some}
+use Rattle.upload_order.proofs.Basics.{key_same, both, none_some, with_more}
 use Rattle.upload_order.proofs.Renaming.{renamed_same}
 use Rattle.upload_order.proofs.Static.{IsUp, with_key}
 use Rattle.upload_order.proofs.Worlds.{grown, at_grown, off_grown}
-use Rattle.upload_order.proofs.Along.{Along, IsPut, IsPlace, up_based, at_is}
+use Rattle.upload_order.proofs.Along.{Along, IsPut, IsPlace, up_based, at_is, new_rising}
 use Rattle.upload_order.specs.Kinds.{at_key, is_rising}
 use Rattle.upload_order.specs.Bases.{base_in, is_based}
 use Rattle.osm_base.proofs.RisingKeys.{one_key, key_itself}
-
-new_rising : (e : Entry) (c : Content) → mine_of e ≡ Some c → is_new (base_in e) ≡ true → is_rising e ≡ true
-new_rising Incomplete c h g = cc
-new_rising (Known New m d) c h g = refl
-new_rising (Known (Live v b n) m d) c h g = cc
-new_rising (Known (Gone v n) m d) c h g = cc
+use Rattle.osm_base.proofs.Tests.{never}
 
 with_on : (k x : Key) (done : Key → Bool) → is_key x k ≡ true → with_key k done x ≡ true
 with_on k x done e = ap (λ b. cond b true (done x)) e
-
-with_more : (b d : Bool) → d ≡ true → cond b true d ≡ true
-with_more true d e = refl
-with_more false d e = e
 
 with_off : (b d r : Bool) → b ≡ false → cond b true d ≡ r → d ≡ r
 with_off true d r f e = cc
@@ -54,13 +44,13 @@ module _ (t : TableValue) (w0 w : World) (done : Key → Bool) (a : Along t w0 w
 
   -- what is done is not k
   done_apart : (x : Key) → done x ≡ true → is_key x k ≡ false
-  done_apart x d = elim (decide (is_key x k)) [ inl h ↦ true_false (done x) d (ap done (one_key x k h) ∙ free) | inr h ↦ h ]
+  done_apart x d = elim (cases_Bool (is_key x k)) [ inl h ↦ never (done x) d (ap done (one_key x k h) ∙ free) | inr h ↦ h ]
 
   -- a content that is done keeps its names
   same_refs : (d : Content) → ((r : Key) → refers d r ≡ true → at_key t is_rising r ≡ true → done r ≡ true) → renamed (called w.names) d ≡ renamed (called ns) d
   same_refs d h = renamed_same (called w.names) (called ns) d (λ r t2. same_called r (λ n.
-      elim (decide (is_key r k)) [
-        | inl i ↦ (let same : r ≡ k = one_key r k i in true_false (done k) (subst (λ (x : Key). done x ≡ true) same (h r t2 (at_is t is_rising r e true (ap (entry_of t) same ∙ up.entry) (new_rising e c up.mine n)))) free)
+      elim (cases_Bool (is_key r k)) [
+        | inl i ↦ (let same : r ≡ k = one_key r k i in never (done k) (subst (λ (x : Key). done x ≡ true) same (h r t2 (at_is t is_rising r e true (ap (entry_of t) same ∙ up.entry) (new_rising e c up.mine n)))) free)
         | inr i ↦ i
       ]))
 
@@ -82,7 +72,7 @@ module _ (t : TableValue) (w0 w : World) (done : Key → Bool) (a : Along t w0 w
   -- another object that is done stands elsewhere
   elsewhere : (x : Key) (f : Entry) (d : Content) (b : IsPut t w x f d) → is_key x k ≡ false → is_key b.place q ≡ false
   elsewhere x f d b n =
-      elim (decide (is_key b.place q)) [
+      elim (cases_Bool (is_key b.place q)) [
         | inl i ↦ (
             let same : b.place ≡ q = one_key b.place q i in
             elim which [
@@ -90,7 +80,7 @@ module _ (t : TableValue) (w0 w : World) (done : Key → Bool) (a : Along t w0 w
               | inr old ↦ (
                   elim b.which [
                     | inl picked ↦ none_some e (entry_of t b.place) picked.1 (ap (entry_of t) (same ∙ old.1) ∙ up.entry)
-                    | inr kept ↦ true_false (is_key x k) (key_same x k (sym kept.1 ∙ same ∙ old.1)) n
+                    | inr kept ↦ never (is_key x k) (key_same x k (sym kept.1 ∙ same ∙ old.1)) n
                   ])
             ])
         | inr i ↦ i
@@ -108,34 +98,34 @@ module _ (t : TableValue) (w0 w : World) (done : Key → Bool) (a : Along t w0 w
 
   pub along_step : Along t w0 then_world (with_key k done)
   along_step = record {
-    ups = λ x h. elim (decide (is_key x k)) [
+    ups = λ x h. elim (cases_Bool (is_key x k)) [
       | inl i ↦ subst (λ (y : Key). (f : Entry) × (d : Content) × IsUp t y f d) (sym (one_key x k i)) (e, c, up)
       | inr n ↦ a.ups x (with_off (is_key x k) (done x) true n h)
     ];
-    closed = λ x r f d h u t2 i. with_more (is_key r k) (done r) (elim (decide (is_key x k)) [
+    closed = λ x r f d h u t2 i. with_more (is_key r k) (done r) (elim (cases_Bool (is_key x k)) [
       | inl j ↦ here (λ y f d. refers d r ≡ true → done r ≡ true) (λ g. before r g i) x f d j u t2
       | inr n ↦ a.closed x r f d (with_off (is_key x k) (done x) true n h) u t2 i
     ]);
-    put = λ x f d h u. elim (decide (is_key x k)) [
+    put = λ x f d h u. elim (cases_Bool (is_key x k)) [
       | inl j ↦ here (λ y f d. IsPut t then_world y f d) put_here x f d j u
       | inr n ↦ put_there x f d (with_off (is_key x k) (done x) true n h) u
     ];
     waiting = λ x f h b n.
         let o = not_with (is_key x k) (done x) n in
         let apart : is_key x q ≡ false =
-        elim (decide (is_key x q)) [
+        elim (cases_Bool (is_key x q)) [
           | inl i ↦ (elim which [
             | inl new ↦ none_some f (entry_of t q) new.1 (ap (entry_of t) (sym (one_key x q i)) ∙ h)
-            | inr old ↦ true_false (is_key x k) (key_same x k (one_key x q i ∙ old.1)) o.0
+            | inr old ↦ never (is_key x k) (key_same x k (one_key x q i ∙ old.1)) o.0
           ])
           | inr i ↦ i
         ] in
         off_grown w ns q _ _ x apart ∙ a.waiting x f h b o.1;
     others = λ x n. elim (a.others x n) [
-      | inl same ↦ (elim (decide (is_key x q)) [
+      | inl same ↦ (elim (cases_Bool (is_key x q)) [
         | inl i ↦ (elim which [
           | inl new ↦ inr (record { old = k; entry = e; content = c; is_up = up; was_new = new.0; is_done = with_on k k done (key_itself k); means = means ∙ ap (λ (y : Key). Some y) (sym (one_key x q i)) })
-          | inr old ↦ true_false (at_key t is_based x) (at_is t is_based x e true (ap (entry_of t) (one_key x q i ∙ old.1) ∙ up.entry) (up_based e c up.mine old.0)) n
+          | inr old ↦ never (at_key t is_based x) (at_is t is_based x e true (ap (entry_of t) (one_key x q i ∙ old.1) ∙ up.entry) (up_based e c up.mine old.0)) n
         ])
         | inr i ↦ inl (off_grown w ns q _ _ x i ∙ same)
       ])

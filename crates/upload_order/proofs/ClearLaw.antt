@@ -1,11 +1,13 @@
 -- A table that is not refused is clear to be sent.
 use Rattle.std.proofs.Common.{◌≡◌, Bool, true, false, not, ◌&&◌, cond, List, [], ◌∷◌, Option, Some, None, is_some, Result, Ok, Err, refl, sym, ◌∙◌, ap, subst, ◌⊎◌, inl, inr}
+use Rattle.std.proofs.lemmas.Bool.{and_parts, or_right, or_left}
 use Rattle.std.specs.List.{list_any, find}
-use Rattle.std.specs.Option.{option_map_or, option_map, option_or}
+use Rattle.std.specs.Option.{option_map_or}
 use Rattle.std.specs.FinMap as fin
 use Rattle.osm_base.specs.Content.{refers, refs_of}
 use Rattle.osm_base.specs.declared.key.Key.{Key}
 use Rattle.osm_base.specs.declared.content.Content.{Content}
+use Rattle.osm_base.proofs.Tests.{none_before_map, none_of_both}
 use Rattle.osm_table.specs.declared.entry.Entry.{Entry}
 use Rattle.osm_table.specs.Table.{TableValue, entry_of, keys_by_rank, mine_of, is_incomplete}
 use Rattle.upload_order.specs.declared.change.Change.{Change}
@@ -14,19 +16,10 @@ use Rattle.upload_order.specs.declared.refusal.PlanRefusal.TheVariants.{Incomple
 use Rattle.upload_order.specs.Kinds.{at_key, held_of, is_rising, is_update, is_sent}
 use Rattle.upload_order.specs.Plan.{made, plan}
 use Rattle.upload_order.specs.Refused.{keeps, vouches, vouches_at, is_loose, refs_sent, loose_of, loose_among, stuck_of, open_refusal, loose_refusal, stuck_refusal, upload_refusal, unless, upload}
-use Rattle.upload_order.proofs.Basics.{or_left, or_right}
 use Rattle.upload_order.proofs.Entries.{IsIn, none_found, any_in}
 use Rattle.upload_order.proofs.Lists.{any_is}
-use Rattle.upload_order.proofs.PlanUps.{and_both, content_is}
+use Rattle.upload_order.proofs.PlanUps.{content_is}
 use Rattle.upload_order.proofs.Conditions.{IsVouched}
-
-pub or_none : {A : Type 0} (a b : Option A) → option_or a b ≡ None → (a ≡ None) × (b ≡ None)
-or_none None b e = (refl, e)
-or_none (Some x) b e = cc
-
-pub map_none : {A B : Type 0} (f : A → B) (o : Option A) → option_map f o ≡ None → o ≡ None
-map_none f None e = refl
-map_none f (Some x) e = cc
 
 abbrev of_ok : Result (List Change) PlanRefusal → List Change
 of_ok (Ok xs) = xs
@@ -42,8 +35,8 @@ not_stuck (k ∷ ks) e = cc
 
 pub none_among : (loose : Key → Bool) (t : TableValue) (ks : List Key) (k : Key) → loose_among loose t ks ≡ None → IsIn k ks → loose_of loose t k ≡ None
 none_among loose t [] k e i = absurd i
-none_among loose t (j ∷ js) k e (inl s) = subst (λ (x : Key). loose_of loose t x ≡ None) s (map_none (IncompleteRef j) (loose_of loose t j) (or_none _ _ e).0)
-none_among loose t (j ∷ js) k e (inr i) = none_among loose t js k (or_none _ _ e).1 i
+none_among loose t (j ∷ js) k e (inl s) = subst (λ (x : Key). loose_of loose t x ≡ None) s (none_before_map (IncompleteRef j) (loose_of loose t j) (none_of_both _ _ e).0)
+none_among loose t (j ∷ js) k e (inr i) = none_among loose t js k (none_of_both _ _ e).1 i
 
 pub sent_is : (e : Entry) → (is_rising e ≡ true) ⊎ (is_update e ≡ true) → is_sent e ≡ true
 sent_is e (inl h) = or_left (is_rising e) (is_update e) h
@@ -61,18 +54,18 @@ entry_is r (Some e) h = (e, refl, h)
 -- no refusal, so each Incomplete reference of what is sent has a base that refers to it, and no relation is stuck
 pub clear_vouched : (t : TableValue) → upload_refusal t ≡ None → IsVouched t
 clear_vouched t h k r e c entry mine up f i =
-    let none = (or_none (loose_refusal t) (stuck_refusal t) (or_none (open_refusal t) _ h).1).0 in
+    let none = (none_of_both (loose_refusal t) (stuck_refusal t) (none_of_both (open_refusal t) _ h).1).0 in
     let there : IsIn k (keys_by_rank t) = any_in (keys_by_rank t) k (sym (fin.contains_key-keys t.entries k) ∙ ap is_some entry) in
     let refs : refs_sent (entry_of t k) ≡ refs_of c =
     ap refs_sent entry ∙ ap (λ b. cond b (option_map_or refs_of (mine_of e) []) []) (sent_is e up) ∙ ap (λ (o : Option Content). option_map_or refs_of o []) mine in
     let not_loose = none_found (is_loose t) (refs_of c) r (ap (find (is_loose t)) (sym refs) ∙ none_among (is_loose t) t (keys_by_rank t) k none there) (any_in (refs_of c) r f) in
     let some = any_is (vouches_at t r) (keys_by_rank t) (and_not (at_key t is_incomplete r) (list_any (vouches_at t r) (keys_by_rank t)) not_loose i) in
     let user = entry_is r (entry_of t some.0) some.2 in
-    let held = content_is (held_of user.0) r (and_both (option_map_or (λ c. refers c r) (held_of user.0) false) (keeps (mine_of user.0) r) user.2).0 in
+    let held = content_is (held_of user.0) r (and_parts (option_map_or (λ c. refers c r) (held_of user.0) false) (keeps (mine_of user.0) r) user.2).0 in
     (some.0, user.0, held.0, user.1, held.1, held.2)
 
 pub clear_stuck : (t : TableValue) → upload_refusal t ≡ None → (made t).stuck ≡ []
-clear_stuck t h = not_stuck (made t).stuck (or_none (loose_refusal t) (stuck_refusal t) (or_none (open_refusal t) _ h).1).1
+clear_stuck t h = not_stuck (made t).stuck (none_of_both (loose_refusal t) (stuck_refusal t) (none_of_both (open_refusal t) _ h).1).1
 
 pub upload_ok : (t : TableValue) (cs : List Change) → upload t ≡ Ok cs → (upload_refusal t ≡ None) × (cs ≡ plan t)
 upload_ok t cs e = unless_ok (upload_refusal t) (plan t) cs e

@@ -1,5 +1,6 @@
 -- A world accepts what is emptied and deleted, in a good order.
 use Rattle.std.proofs.Common.{◌≡◌, ℕ, ◌+◌, nat_eq, ℤ, Bool, true, false, cond, List, map, Option, Some, None, is_some, refl, sym, ◌∙◌, ap, subst, inl, inr}
+use Rattle.std.proofs.lemmas.Bool.{cases_Bool, cond-false, cond-true}
 use Rattle.std.specs.Option.{option_map}
 use Rattle.osm_base.specs.Rank.{is_key}
 use Rattle.osm_base.specs.Content.{refers}
@@ -16,18 +17,19 @@ use Rattle.upload_order.specs.Plan.{empty_relation, version_at, later, down_of}
 use Rattle.upload_order.proofs.Fitting.{fits_empty}
 use Rattle.upload_order.specs.Kinds.{held_of, at_key, is_falling}
 use Rattle.upload_order.specs.World.{World, WorldEntry, stands, content_in, content_at, user_of, Used, Missing, OldVersion, refusal, on_modify, on_delete, put_in, after, IsFresh, Accepts}
-use Rattle.upload_order.proofs.Basics.{decide, true_false, both, none_some, at_key_put, at_other}
+use Rattle.upload_order.proofs.Basics.{both, none_some, at_key_put, at_other}
 use Rattle.upload_order.proofs.Static.{Left, set_left, IsDown, no_more, clear, remove}
 use Rattle.upload_order.specs.declared.down.Down.{Down}
 use Rattle.upload_order.specs.declared.down.Down.TheVariants.{Clear, Remove}
 use Rattle.upload_order.proofs.Worlds.{called_meant, unused}
-use Rattle.upload_order.proofs.Along.{means_itself, passed, at_is}
+use Rattle.upload_order.proofs.Along.{means_itself, at_is}
 use Rattle.upload_order.proofs.Ups.{nat_self, fit_content, same_version}
 use Rattle.upload_order.specs.Bases.{base_in, is_based}
 use Rattle.upload_order.proofs.Conditions.{Sound}
 use Rattle.osm_base.proofs.RisingKeys.{one_key}
+use Rattle.osm_base.proofs.Tests.{never, some_passed}
 
-version_case : (e : Entry) → version_at (Some e) ≡ version_of (base_in e)
+pub version_case : (e : Entry) → version_at (Some e) ≡ version_of (base_in e)
 version_case Incomplete = refl
 version_case (Known b m d) = refl
 
@@ -55,14 +57,6 @@ falling_held (Known New m d) h = cc
 falling_held (Known (Live v b n) m d) h = (b, refl)
 falling_held (Known (Gone v n) m d) h = cc
 
-pub left_on : (b : Bool) (x o : Option Bool) → b ≡ true → cond b x o ≡ x
-left_on true x o e = refl
-left_on false x o e = cc
-
-pub left_off : (b : Bool) (x o : Option Bool) → b ≡ false → cond b x o ≡ o
-left_off true x o e = cc
-left_off false x o e = refl
-
 module _ (t : TableValue) (w1 : World) where
   module _ (w : World) (left : Left) (f : Falling t w1 w left) (k : Key) (e : Entry) (entry : entry_of t k ≡ Some e) (falls : is_falling e ≡ true) (to : Option Bool) (x : WorldEntry)
       (stood : (b : Bool) → to ≡ Some b → x ≡ record { version = later b (version_of (base_in e)); content = content_left b e }) (went : to ≡ None → x.content ≡ None) where
@@ -76,21 +70,21 @@ module _ (t : TableValue) (w1 : World) where
     off_put q i = at_other w.entries k q x i
 
     not_k : (q : Key) → at_key t is_falling q ≡ false → is_key q k ≡ false
-    not_k q n = elim (decide (is_key q k)) [ inl i ↦ true_false (at_key t is_falling q) (at_is t is_falling q e true (ap (entry_of t) (one_key q k i) ∙ entry) falls) n | inr i ↦ i ]
+    not_k q n = elim (cases_Bool (is_key q k)) [ inl i ↦ never (at_key t is_falling q) (at_is t is_falling q e true (ap (entry_of t) (one_key q k i) ∙ entry) falls) n | inr i ↦ i ]
 
     falling_step : Falling t w1 then_world (set_left k to left)
     falling_step = record {
       frame = λ q n. off_put q (not_k q n) ∙ f.frame q n;
       names = f.names;
-      standing = λ q g b l h i. elim (decide (is_key q k)) [
+      standing = λ q g b l h i. elim (cases_Bool (is_key q k)) [
         | inl j ↦ (
             let same : e ≡ g = both e g (entry_of t q) (ap (entry_of t) (one_key q k j) ∙ entry) h in
-            at_put q j ∙ ap (λ (y : WorldEntry). Some y) (stood b (sym (left_on (is_key q k) to (left q) j) ∙ l)) ∙ ap (λ (y : Entry). let z : WorldEntry = record { version = later b (version_of (base_in y)); content = content_left b y } in Some z) same)
-        | inr j ↦ off_put q j ∙ f.standing q g b (sym (left_off (is_key q k) to (left q) j) ∙ l) h i
+            at_put q j ∙ ap (λ (y : WorldEntry). Some y) (stood b (sym (cond-true (is_key q k) to (left q) j) ∙ l)) ∙ ap (λ (y : Entry). let z : WorldEntry = record { version = later b (version_of (base_in y)); content = content_left b y } in Some z) same)
+        | inr j ↦ off_put q j ∙ f.standing q g b (sym (cond-false (is_key q k) to (left q) j) ∙ l) h i
       ];
-      gone = λ q h l. elim (decide (is_key q k)) [
-        | inl j ↦ ap content_in (at_put q j) ∙ went (sym (left_on (is_key q k) to (left q) j) ∙ l)
-        | inr j ↦ ap content_in (off_put q j) ∙ f.gone q h (sym (left_off (is_key q k) to (left q) j) ∙ l)
+      gone = λ q h l. elim (cases_Bool (is_key q k)) [
+        | inl j ↦ ap content_in (at_put q j) ∙ went (sym (cond-true (is_key q k) to (left q) j) ∙ l)
+        | inr j ↦ ap content_in (off_put q j) ∙ f.gone q h (sym (cond-false (is_key q k) to (left q) j) ∙ l)
       ];
       apart = λ q r c n h i. f.apart q r c n h (sym (ap content_in (off_put q (not_k q n))) ∙ i);
     }
@@ -124,18 +118,18 @@ module _ (t : TableValue) (w1 : World) where
 
     unused_now : (b : Bool) → left k ≡ Some b → ((u : Key) (g : Entry) (c : Content) → left u ≡ Some false → entry_of t u ≡ Some g → held_of g ≡ Some c → refers c k ≡ false) → (q : Key) (c : Content) → content_at w q ≡ Some c → refers c k ≡ false
     unused_now b l free q c h =
-        elim (decide (at_key t is_falling q)) [
+        elim (cases_Bool (at_key t is_falling q)) [
           | inl i ↦ by_left (left q) refl i
           | inr i ↦ f.apart q k c i (at_is t is_falling k e true entry falls) h
         ] where
           by_left : (o : Option Bool) → left q ≡ o → at_key t is_falling q ≡ true → refers c k ≡ false
           by_left None l i = none_some c (content_at w q) (f.gone q i l) h
           by_left (Some true) l i =
-              let g = passed is_falling (entry_of t q) i in
+              let g = some_passed is_falling (entry_of t q) i in
               let same : c ≡ empty_relation = both c empty_relation (content_at w q) h (ap content_in (f.standing q g.0 true l g.1 g.2)) in
               ap (λ (d : Content). refers d k) same
           by_left (Some false) l i =
-              let g = passed is_falling (entry_of t q) i in
+              let g = some_passed is_falling (entry_of t q) i in
               free q g.0 c l g.1 (sym (ap content_in (f.standing q g.0 false l g.1 g.2)) ∙ h)
 
     removed : (b : Bool) → left k ≡ Some b → ((u : Key) (g : Entry) (c : Content) → left u ≡ Some false → entry_of t u ≡ Some g → held_of g ≡ Some c → refers c k ≡ false) → One (Delete k (later b (version_of (base_in e)))) (set_left k None left)

@@ -1,5 +1,6 @@
 -- The steps down at the start, and by the bases of a table.
 use Rattle.std.proofs.Common.{◌≡◌, ℕ, ◌+◌, ◌<◌, ◌||◌, Bool, true, false, cond, Option, Some, None, List, [], ◌∷◌, ◌++◌, length, refl, sym, ◌∙◌, ap, subst, arith}
+use Rattle.std.proofs.lemmas.Bool.{or_right}
 use Rattle.std.specs.Prelude.{T}
 use Rattle.std.specs.Option.{option_map_or}
 use Rattle.std.specs.List.{list_any}
@@ -18,13 +19,12 @@ use Rattle.upload_order.specs.Counts.{Counts, has, changed_all, one_less, put_al
 use Rattle.upload_order.specs.Fall.{fall}
 use Rattle.upload_order.specs.Kinds.{held_at, held_refs, held_refers}
 use Rattle.osm_base.proofs.RankedKeys.{rises_ranked, named_ranked}
+use Rattle.osm_base.proofs.Lists.{length-filter_le}
 use Rattle.upload_order.proofs.Counted.{AreCounts}
 use Rattle.upload_order.proofs.Starting.{counts_at_start, keys_at_start}
 use Rattle.upload_order.proofs.FallSteps.{waits, can_clear, items}
 use Rattle.upload_order.proofs.FallCounts.{any_alike, any_there, clearable_of}
 use Rattle.upload_order.proofs.FallTurns.{Falls, put_filter}
-use Rattle.upload_order.proofs.Basics.{or_right}
-use Rattle.upload_order.proofs.Lists.{shorter}
 
 is_case : (b : Bool) (p : Key → Bool) (k : Key) (ks : List Key) → p k ≡ b → (b || list_any p ks) ≡ true → (list_any p ks ≡ true → (j : Key) × (is_in j ks ≡ true) × (p j ≡ true)) → (j : Key) × (is_in j (k ∷ ks) ≡ true) × (p j ≡ true)
 is_case true p k ks is h f = (k, ap (λ b. b || is_in k ks) (key_itself k), is)
@@ -58,7 +58,7 @@ module _ (uses : Key → Key → Bool) (refs : Key → List Key) (refs_rise : (k
   falls_start =
       let listed : put_where (λ k. list_any (has (raised_by refs (put_all fin.empty ks) ks)) (refs k)) [] ks ≡ clearable_of uses [] ks =
       put_filter (λ k. list_any (has (raised_by refs (put_all fin.empty ks) ks)) (refs k)) (can_clear uses [] ks) ks up uses_one in
-      let fewer = shorter (can_clear uses [] ks) ks in
+      let fewer = length-filter_le (can_clear uses [] ks) ks in
       let same_length = ap length at_start in
       let listed_length = ap length listed in
       record {
@@ -70,7 +70,7 @@ module _ (uses : Key → Key → Bool) (refs : Key → List Key) (refs_rise : (k
         same = ap (λ (js : List Key). fall uses (length ks + length ks) (items [] js)) (sym at_start);
       }
 
-held_case : (o : Option Content) (q : Key) → is_in q (option_map_or refs_of o []) ≡ option_map_or (λ c. refers c q) o false
+pub held_case : (o : Option Content) (q : Key) → is_in q (option_map_or refs_of o []) ≡ option_map_or (λ c. refers c q) o false
 held_case None q = refl
 held_case (Some c) q = refl
 

@@ -1,5 +1,6 @@
 -- The order of what is created and changed is a good one.
 use Rattle.std.proofs.Common.{◌≡◌, ℕ, zero, suc, ◌≤◌, Bool, true, false, cond, not, List, [], ◌∷◌, ◌++◌, length, Option, Some, None, refl, sym, ◌∙◌, ap, subst, ◌⊎◌, inl, inr, arith}
+use Rattle.std.proofs.lemmas.Bool.{not-true, not-false, not_from_true, cases_Bool}
 use Rattle.std.specs.List.{list_any, find}
 use Rattle.osm_base.specs.Rank.{is_key}
 use Rattle.osm_base.specs.Content.{refers}
@@ -10,11 +11,12 @@ use Rattle.osm_table.specs.Table.{TableValue}
 use Rattle.upload_order.specs.Kinds.{mine_refers, content_refers, is_rising, at_key}
 use Rattle.dataset.specs.Exact.{mine_at}
 use Rattle.upload_order.specs.Order.{without, is_ready, peel_found, peel}
-use Rattle.upload_order.proofs.Basics.{key_same, decide, true_false}
+use Rattle.upload_order.proofs.Basics.{key_same, with_cases}
 use Rattle.upload_order.proofs.Entries.{IsIn, found_in, none_found, in_filter, filter_in}
 use Rattle.upload_order.proofs.Lists.{AreDistinct, distinct_filter, less_filter, any_of}
 use Rattle.upload_order.proofs.Static.{IsUp, IsOrdered, no_more, next, with_key}
 use Rattle.osm_base.proofs.RisingKeys.{one_key, key_itself}
+use Rattle.osm_base.proofs.Tests.{never}
 
 -- the keys done, with those of a list
 abbrev pub all_with : List Key → (Key → Bool) → Key → Bool
@@ -33,10 +35,6 @@ all_in [] done q i = absurd i
 all_in (k ∷ ks) done q (inl e) = all_done ks (with_key k done) q (ap (λ b. cond b true (done q)) (key_same q k (sym e)))
 all_in (k ∷ ks) done q (inr i) = all_in ks (with_key k done) q i
 
-pub with_cases : (b d : Bool) → cond b true d ≡ true → (b ≡ true) ⊎ (d ≡ true)
-with_cases true d e = inl refl
-with_cases false d e = inr e
-
 pub all_cases : (ks : List Key) (done : Key → Bool) (q : Key) → all_with ks done q ≡ true → IsIn q ks ⊎ (done q ≡ true)
 all_cases [] done q h = inr h
 all_cases (k ∷ ks) done q h = elim (all_cases ks (with_key k done) q h) [
@@ -45,7 +43,7 @@ all_cases (k ∷ ks) done q h = elim (all_cases ks (with_key k done) q h) [
 ]
 
 pub not_with : (k q : Key) (done : Key → Bool) → (k ≡ q → ⊥) → done q ≡ false → with_key k done q ≡ false
-not_with k q done n h = elim (decide (is_key q k)) [ inl e ↦ absurd (n (sym (one_key q k e))) | inr e ↦ ap (λ b. cond b true (done q)) e ∙ h ]
+not_with k q done n h = elim (cases_Bool (is_key q k)) [ inl e ↦ absurd (n (sym (one_key q k e))) | inr e ↦ ap (λ b. cond b true (done q)) e ∙ h ]
 
 module _ (t : TableValue) where
   pub ordered_more : (done mid last : Key → Bool) (ks js : List Key) → IsOrdered t done ks mid → IsOrdered t mid js last → IsOrdered t done (ks ++ js) last
@@ -67,18 +65,6 @@ module _ (t : TableValue) where
       next done (all_with ks (with_key k done)) k ks x.0.0 x.0.1 x.0.2 x.1 (λ r a b. x.2 r (refers_mine k r x.0.0 x.0.1 x.0.2 ∙ a) b)
       (part_ordered ks (with_key k done) d.1 (λ j i. let y = h j (inr i) in (y.0, not_with k j done (λ e. d.0 (subst (λ (z : Key). IsIn z ks) (sym e) i)) y.1, λ r a b. with_done k r done (y.2 r a b))))
 
-  pub not_ready : (b : Bool) → not b ≡ true → b ≡ false
-  not_ready true e = cc
-  not_ready false e = refl
-
-  pub is_not : (b : Bool) → not b ≡ false → b ≡ true
-  is_not true e = refl
-  is_not false e = cc
-
-  pub not_is : (b : Bool) → b ≡ true → not b ≡ false
-  not_is true e = refl
-  not_is false e = cc
-
   -- Peeling gives a good order, if no key is stuck.
   abbrev pub PeelsInOrder : ℕ → Type 0
   PeelsInOrder n = (left : List Key) (done : Key → Bool) → AreDistinct left
@@ -97,14 +83,14 @@ module _ (t : TableValue) where
         let rest = peel (mine_refers t) n (without k left) in
         next done (all_with rest.order (with_key k done)) k rest.order x.0.0 x.0.1 x.0.2 x.1
         (λ r a b. elim (g k r f.0 (refers_mine k r x.0.0 x.0.1 x.0.2 ∙ a) b) [
-          | inl i ↦ true_false (list_any (mine_refers t k) left) (any_of (mine_refers t k) left r i (refers_mine k r x.0.0 x.0.1 x.0.2 ∙ a)) (not_ready _ f.1)
+          | inl i ↦ never (list_any (mine_refers t k) left) (any_of (mine_refers t k) left r i (refers_mine k r x.0.0 x.0.1 x.0.2 ∙ a)) (not-true _ f.1)
           | inr i ↦ i
         ])
         (go (without k left) (with_key k done) (distinct_filter (λ j. not (is_key j k)) left d)
-        (λ j i. let m = in_filter (λ j. not (is_key j k)) left j i in let y = h j m.0 in (y.0, ap (λ b. cond b true (done j)) (not_ready (is_key j k) m.1) ∙ y.1))
+        (λ j i. let m = in_filter (λ j. not (is_key j k)) left j i in let y = h j m.0 in (y.0, ap (λ b. cond b true (done j)) (not-true (is_key j k) m.1) ∙ y.1))
         (λ j r i a b. let m = in_filter (λ j. not (is_key j k)) left j i in
         elim (g j r m.0 a b) [
-          | inl l ↦ (elim (decide (is_key r k)) [
+          | inl l ↦ (elim (cases_Bool (is_key r k)) [
             | inl q ↦ inr (ap (λ c. cond c true (done r)) q)
             | inr q ↦ inl (filter_in (λ j. not (is_key j k)) left r l (ap not q))
           ])
@@ -120,7 +106,7 @@ module _ (t : TableValue) where
   peel_all (suc n) left k i = by_found (peel_all n) (find (is_ready (mine_refers t) left) left) where
     by_found : PeelsAll n → (o : Option Key) → IsIn k (peel_found left o (λ k. peel (mine_refers t) n (without k left))).order ⊎ IsIn k (peel_found left o (λ k. peel (mine_refers t) n (without k left))).stuck
     by_found go None = inr i
-    by_found go (Some j) = elim (decide (is_key k j)) [
+    by_found go (Some j) = elim (cases_Bool (is_key k j)) [
       | inl e ↦ inl (inl (sym (one_key k j e)))
       | inr e ↦ (elim (go (without j left) k (filter_in (λ x. not (is_key x j)) left k i (ap not e))) [ inl x ↦ inl (inr x) | inr x ↦ inr x ])
     ]
@@ -147,10 +133,10 @@ module _ (t : TableValue) where
     empty (x ∷ xs) h i = absurd (let z : suc (length xs) ≤ 0 = h in omega (arith, z))
   stuck_refers (suc n) left h k i = by_found (stuck_refers n) (find (is_ready (mine_refers t) left) left) refl i where
     by_found : StuckRefers n → (o : Option Key) → find (is_ready (mine_refers t) left) left ≡ o → IsIn k (peel_found left o (λ k. peel (mine_refers t) n (without k left))).stuck → list_any (mine_refers t k) (peel_found left o (λ k. peel (mine_refers t) n (without k left))).stuck ≡ true
-    by_found go None e j = is_not (list_any (mine_refers t k) left) (none_found (is_ready (mine_refers t) left) left k e j)
+    by_found go None e j = not-false (list_any (mine_refers t k) left) (none_found (is_ready (mine_refers t) left) left k e j)
     by_found go (Some q) e j =
         let f = found_in (is_ready (mine_refers t) left) left q e in
-        let less = less_filter (λ x. not (is_key x q)) left q f.0 (not_is (is_key q q) (key_itself q)) in
+        let less = less_filter (λ x. not (is_key x q)) left q f.0 (not_from_true (is_key q q) (key_itself q)) in
         go (without q left) (omega (arith, h, less)) k j
 
   -- and each set of keys that do is among the stuck ones
@@ -164,10 +150,10 @@ module _ (t : TableValue) where
     by_found go None e = sub k i
     by_found go (Some q) e = go (without q left) set (λ j l. filter_in (λ x. not (is_key x q)) left j (sub j l) (ap not (apart j l))) each k i where
       apart : (j : Key) → IsIn j set → is_key j q ≡ false
-      apart j l = elim (decide (is_key j q)) [
+      apart j l = elim (cases_Bool (is_key j q)) [
         | inl s ↦ (
             let f = found_in (is_ready (mine_refers t) left) left q e in
             let r = each j l in
-            true_false (list_any (mine_refers t q) left) (any_of (mine_refers t q) left r.0 (sub r.0 r.1) (ap (λ (x : Key). mine_refers t x r.0) (sym (one_key j q s)) ∙ r.2)) (not_ready _ f.1))
+            never (list_any (mine_refers t q) left) (any_of (mine_refers t q) left r.0 (sub r.0 r.1) (ap (λ (x : Key). mine_refers t x r.0) (sym (one_key j q s)) ∙ r.2)) (not-true _ f.1))
         | inr s ↦ s
       ]

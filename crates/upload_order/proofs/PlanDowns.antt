@@ -1,5 +1,6 @@
 -- The last two parts of the plan are in a good order, and whole.
 use Rattle.std.proofs.Common.{◌≡◌, ℕ, zero, suc, ◌+◌, ◌≤◌, Bool, true, false, cond, not, List, [], ◌∷◌, ◌++◌, map, length, Option, Some, None, refl, sym, ◌∙◌, ap, subst, inl, inr, arith}
+use Rattle.std.proofs.lemmas.Bool.{and_parts, not-true, not-false, not_from_true, cases_Bool, cond-true, cond-false, false_from_ne_true}
 use Rattle.std.specs.List.{list_any, find, filter}
 use Rattle.osm_base.specs.Rank.{is_key}
 use Rattle.osm_base.specs.Content.{refers}
@@ -14,15 +15,16 @@ use Rattle.upload_order.proofs.Where.{falling_both, falling_self, falling_of, ke
 use Rattle.upload_order.specs.Fall.{Item, item_uses, is_unused, uses_some, without_item, emptied, fall, fall_next, fall_clear}
 use Rattle.upload_order.specs.Plan.{plain_removes, downs}
 use Rattle.upload_order.specs.declared.down.Down.{Down}
-use Rattle.upload_order.proofs.Basics.{key_same, decide, true_false, both, none_some}
+use Rattle.upload_order.proofs.Basics.{key_same, both, none_some}
 use Rattle.upload_order.proofs.Entries.{IsIn, found_in, none_found, in_filter, filter_in, in_map, map_in}
 use Rattle.upload_order.proofs.Lists.{AreDistinct, any_of, any_is}
 use Rattle.upload_order.proofs.Static.{Left, set_left, IsDown, no_more, clear, remove}
-use Rattle.upload_order.proofs.Along.{passed, at_is}
-use Rattle.upload_order.proofs.Turn.{start_left, to_go}
-use Rattle.upload_order.proofs.PlanUps.{kind_is, kind_self, and_both, node_refs, way_refs}
+use Rattle.upload_order.proofs.Along.{at_is}
+use Rattle.upload_order.proofs.Turn.{start_left, to_go, to_go_some}
+use Rattle.upload_order.proofs.PlanUps.{kind_is, node_refs, way_refs, apart_kinds}
 use Rattle.upload_order.proofs.Conditions.{Sound}
 use Rattle.osm_base.proofs.RisingKeys.{one_key, key_itself}
+use Rattle.osm_base.proofs.Tests.{never, some_passed}
 
 -- each step is worth one of these
 abbrev pub worth : Bool → ℕ
@@ -38,18 +40,6 @@ record IsList (t : TableValue) (left : Left) (items : List Item) : Type 0 where
   falls : (i : Item) → IsIn i items → (at_key t is_falling i.0 ≡ true) × (i.0.kind ≡ kind.Relation)
   listed : (k : Key) (b : Bool) → k.kind ≡ kind.Relation → left k ≡ Some b → IsIn (k, b) items
   lefts : (i : Item) → IsIn i items → left i.0 ≡ Some i.1
-
-pub not_true : (b : Bool) → not b ≡ true → b ≡ false
-not_true true e = cc
-not_true false e = refl
-
-pub is_not : (b : Bool) → not b ≡ false → b ≡ true
-is_not true e = refl
-is_not false e = cc
-
-pub not_is : (b : Bool) → b ≡ true → not b ≡ false
-not_is true e = refl
-not_is false e = cc
 
 pub positive_worth : (b : Bool) → 1 ≤ worth b
 positive_worth true = omega arith
@@ -95,14 +85,6 @@ lighter_mark k [] i n e f = absurd n
 lighter_mark k (j ∷ xs) i (inl s) e f = omega (arith, mark_most k xs, mark_worth (is_key j.0 k) j.1 (key_same j.0 k (ap (λ (x : Item). x.0) s ∙ e)) (ap (λ (x : Item). x.1) s ∙ f))
 lighter_mark k (j ∷ xs) i (inr n) e f = omega (arith, lighter_mark k xs i n e f, less_worth (is_key j.0 k) j.1)
 
-pub left_on : (b : Bool) (x o : Option Bool) → b ≡ true → cond b x o ≡ x
-left_on true x o e = refl
-left_on false x o e = cc
-
-pub left_off : (b : Bool) (x o : Option Bool) → b ≡ false → cond b x o ≡ o
-left_off true x o e = cc
-left_off false x o e = refl
-
 pub some_one : (b c : Bool) → Some b ≡ Some c → b ≡ c
 some_one b c e = both b c (Some b) refl e
 
@@ -115,19 +97,19 @@ module _ (t : TableValue) (s : Sound t) where
   dropped : (left : Left) (items : List Item) (i : Item) → IsList t left items → IsIn i items → IsList t (set_left i.0 None left) (without_item i.0 items)
   dropped left items i l n = record {
     falls = λ j m. l.falls j (in_filter (λ j. not (is_key j.0 i.0)) items j m).0;
-    listed = λ k b e h. elim (decide (is_key k i.0)) [
-      | inl x ↦ (let y = sym (left_on (is_key k i.0) None (left k) x) ∙ h in cc)
-      | inr x ↦ filter_in (λ j. not (is_key j.0 i.0)) items (k, b) (l.listed k b e (sym (left_off (is_key k i.0) None (left k) x) ∙ h)) (ap not x)
+    listed = λ k b e h. elim (cases_Bool (is_key k i.0)) [
+      | inl x ↦ (let y = sym (cond-true (is_key k i.0) None (left k) x) ∙ h in cc)
+      | inr x ↦ filter_in (λ j. not (is_key j.0 i.0)) items (k, b) (l.listed k b e (sym (cond-false (is_key k i.0) None (left k) x) ∙ h)) (ap not x)
     ];
-    lefts = λ j m. let f = in_filter (λ j. not (is_key j.0 i.0)) items j m in left_off (is_key j.0 i.0) None (left j.0) (not_true (is_key j.0 i.0) f.1) ∙ l.lefts j f.0;
+    lefts = λ j m. let f = in_filter (λ j. not (is_key j.0 i.0)) items j m in cond-false (is_key j.0 i.0) None (left j.0) (not-true (is_key j.0 i.0) f.1) ∙ l.lefts j f.0;
   }
 
   marked : (left : Left) (items : List Item) (i : Item) → IsList t left items → IsIn i items → IsList t (set_left i.0 (Some true) left) (map (emptied i.0) items)
   marked left items i l n = record {
     falls = λ j m. let f = map_in (emptied i.0) items j m in subst (λ (x : Key). (at_key t is_falling x ≡ true) × (x.kind ≡ kind.Relation)) (ap (λ (x : Item). x.0) f.2) (l.falls f.0 f.1);
-    listed = λ k b e h. elim (decide (is_key k i.0)) [
-      | inl x ↦ subst (λ (y : Item). IsIn y (map (emptied i.0) items)) (mark_here i.0 i k b (one_key k i.0 x) (some_one true b (sym (left_on (is_key k i.0) (Some true) (left k) x) ∙ h))) (in_map (emptied i.0) items i n)
-      | inr x ↦ subst (λ (y : Item). IsIn y (map (emptied i.0) items)) (mark_off i.0 k b x) (in_map (emptied i.0) items (k, b) (l.listed k b e (sym (left_off (is_key k i.0) (Some true) (left k) x) ∙ h)))
+    listed = λ k b e h. elim (cases_Bool (is_key k i.0)) [
+      | inl x ↦ subst (λ (y : Item). IsIn y (map (emptied i.0) items)) (mark_here i.0 i k b (one_key k i.0 x) (some_one true b (sym (cond-true (is_key k i.0) (Some true) (left k) x) ∙ h))) (in_map (emptied i.0) items i n)
+      | inr x ↦ subst (λ (y : Item). IsIn y (map (emptied i.0) items)) (mark_off i.0 k b x) (in_map (emptied i.0) items (k, b) (l.listed k b e (sym (cond-false (is_key k i.0) (Some true) (left k) x) ∙ h)))
     ];
     lefts = λ j m.
         let f = map_in (emptied i.0) items j m in
@@ -146,13 +128,6 @@ module _ (t : TableValue) (s : Sound t) where
   pub held_is : (u : Key) (f : Entry) (c : Content) (r : Key) → entry_of t u ≡ Some f → held_of f ≡ Some c → held_refers t u r ≡ refers c r
   held_is u f c r h g = ap (λ o. content_refers (held_at o) r) h ∙ ap (λ o. content_refers o r) g
 
-  pub not_is_true : (b : Bool) → (b ≡ true → ⊥) → b ≡ false
-  not_is_true true h = absurd (h refl)
-  not_is_true false h = refl
-
-  pub apart_kinds : {P : Type 0} (a b c : Kind) → c ≡ a → c ≡ b → kind_is a b ≡ false → P
-  apart_kinds a b c e f n = true_false (kind_is a b) (subst (λ (x : Kind). kind_is a x ≡ true) (sym e ∙ f) (kind_self a)) n
-
   data Kinds (a : Kind) : Type 0 where
     is_node : a ≡ kind.Node → Kinds a
     is_way : a ≡ kind.Way → Kinds a
@@ -165,7 +140,7 @@ module _ (t : TableValue) (s : Sound t) where
 
   -- a way or a node refers to no relation
   pub low_free : (u k : Key) (f : Entry) (c : Content) → (u.kind ≡ kind.Relation → ⊥) → k.kind ≡ kind.Relation → entry_of t u ≡ Some f → held_of f ≡ Some c → refers c k ≡ false
-  low_free u k f c n e h g = not_is_true (refers c k) (λ r. elim (kinds u.kind) [
+  low_free u k f c n e h g = false_from_ne_true (refers c k) (λ r. elim (kinds u.kind) [
     | is_node x ↦ node_refs c k (s.kinds u f c h (inr g) ∙ x) r
     | is_way x ↦ apart_kinds kind.Node kind.Relation k.kind (way_refs c k (s.kinds u f c h (inr g) ∙ x) r) e refl
     | is_relation x ↦ n x
@@ -187,7 +162,7 @@ module _ (t : TableValue) (s : Sound t) where
   step_gone : (k : Key) (b : Option Bool) (left last : Left) → k.kind ≡ kind.Relation → AreGone (set_left k b left) last → AreGone left last
   step_gone k b left last e a = record {
     gone = a.gone;
-    same = λ q n. a.same q n ∙ left_off (is_key q k) b (left q) (not_is_true (is_key q k) (λ x. n (ap (λ (y : Key). y.kind) (one_key q k x) ∙ e)));
+    same = λ q n. a.same q n ∙ cond-false (is_key q k) b (left q) (false_from_ne_true (is_key q k) (λ x. n (ap (λ (y : Key). y.kind) (one_key q k x) ∙ e)));
   }
 
   fall_step : (n : ℕ) → Falls n → (items : List Item) (left : Left) → weight items ≤ suc n → IsList t left items
@@ -196,32 +171,32 @@ module _ (t : TableValue) (s : Sound t) where
   fall_step n go items left h l (Some i) e p g =
       let f = found_in (is_unused (held_refers t) items) items i e in
       let x = l.falls i f.0 in
-      let y = passed is_falling (entry_of t i.0) x.0 in
-      let lighter = lighter_drop (λ j. not (is_key j.0 i.0)) items i f.0 (not_is (is_key i.0 i.0) (key_itself i.0)) in
+      let y = some_passed is_falling (entry_of t i.0) x.0 in
+      let lighter = lighter_drop (λ j. not (is_key j.0 i.0)) items i f.0 (not_from_true (is_key i.0 i.0) (key_itself i.0)) in
       let r = go (without_item i.0 items) (set_left i.0 None left) (omega (arith, h, lighter)) (dropped left items i l f.0) in (
         r.0,
         remove left r.0 i.0 i.1 _ y.0 y.1 y.2 (l.lefts i f.0) (λ u k c a b d. elim (kinds u.kind) [
           | is_node z ↦ low_free u i.0 k c (λ w. apart_kinds kind.Node kind.Relation u.kind z w refl) x.1 b d
           | is_way z ↦ low_free u i.0 k c (λ w. apart_kinds kind.Way kind.Relation u.kind z w refl) x.1 b d
-          | is_relation z ↦ sym (held_is u k c i.0 b d) ∙ not_is_true (held_refers t u i.0) (λ w. true_false (list_any (item_uses (held_refers t) i.0) items) (any_of (item_uses (held_refers t) i.0) items (u, false) (l.listed u false z a) w) (not_true _ f.1))
+          | is_relation z ↦ sym (held_is u k c i.0 b d) ∙ false_from_ne_true (held_refers t u i.0) (λ w. never (list_any (item_uses (held_refers t) i.0) items) (any_of (item_uses (held_refers t) i.0) items (u, false) (l.listed u false z a) w) (not-true _ f.1))
         ]) r.1,
         step_gone i.0 None left r.0 x.1 r.2,
       )
   fall_step n go items left h l None e (Some i) g =
       let f = found_in (uses_some (held_refers t) items) items i g in
       let x = l.falls i f.0 in
-      let y = passed is_falling (entry_of t i.0) x.0 in
+      let y = some_passed is_falling (entry_of t i.0) x.0 in
       let j = any_is (λ j. item_uses (held_refers t) j.0 i) items f.1 in
-      let whole : i.1 ≡ false = not_true i.1 (and_both (not i.1) (held_refers t i.0 j.0.0) j.2).0 in
+      let whole : i.1 ≡ false = not-true i.1 (and_parts (not i.1) (held_refers t i.0 j.0.0) j.2).0 in
       let lighter = lighter_mark i.0 items i f.0 refl whole in
       let r = go (map (emptied i.0) items) (set_left i.0 (Some true) left) (omega (arith, h, lighter)) (marked left items i l f.0) in
       (r.0, clear left r.0 i.0 _ y.0 y.1 y.2 (l.lefts i f.0 ∙ ap (λ (b : Bool). Some b) whole) r.1, step_gone i.0 (Some true) left r.0 x.1 r.2)
   fall_step n go [] left h l None e None g = nothing_left left l
   fall_step n go (i ∷ is) left h l None e None g =
-      let used = is_not (list_any (item_uses (held_refers t) i.0) (i ∷ is)) (none_found (is_unused (held_refers t) (i ∷ is)) (i ∷ is) i e (inl refl)) in
+      let used = not-false (list_any (item_uses (held_refers t) i.0) (i ∷ is)) (none_found (is_unused (held_refers t) (i ∷ is)) (i ∷ is) i e (inl refl)) in
       let u = any_is (item_uses (held_refers t) i.0) (i ∷ is) used in
       let some = any_of (λ j. item_uses (held_refers t) j.0 u.0) (i ∷ is) i (inl refl) u.2 in
-      true_false (uses_some (held_refers t) (i ∷ is) u.0) some (none_found (uses_some (held_refers t) (i ∷ is)) (i ∷ is) u.0 g u.1)
+      never (uses_some (held_refers t) (i ∷ is) u.0) some (none_found (uses_some (held_refers t) (i ∷ is)) (i ∷ is) u.0 g u.1)
 
   falls_down : (n : ℕ) → Falls n
   falls_down zero [] left h l = nothing_left left l
@@ -237,20 +212,20 @@ module _ (t : TableValue) (s : Sound t) where
   IsFree left k = (u : Key) (f : Entry) (c : Content) → left u ≡ Some false → entry_of t u ≡ Some f → held_of f ≡ Some c → refers c k ≡ false
 
   was_left : (k q : Key) (b : Bool) (left : Left) → set_left k None left q ≡ Some b → left q ≡ Some b
-  was_left k q b left h = elim (decide (is_key q k)) [
-    | inl x ↦ (let y = sym (left_on (is_key q k) None (left q) x) ∙ h in cc)
-    | inr x ↦ sym (left_off (is_key q k) None (left q) x) ∙ h
+  was_left k q b left h = elim (cases_Bool (is_key q k)) [
+    | inl x ↦ (let y = sym (cond-true (is_key q k) None (left q) x) ∙ h in cc)
+    | inr x ↦ sym (cond-false (is_key q k) None (left q) x) ∙ h
   ]
 
   removes_down : (ks : List Key) (left : Left) → AreDistinct ks → ((k : Key) → IsIn k ks → (at_key t is_falling k ≡ true) × (left k ≡ Some false) × IsFree left k) → IsDown t left (plain_removes ks) (none_of ks left)
   removes_down [] left d h = no_more left
   removes_down (k ∷ ks) left d h =
       let x = h k (inl refl) in
-      let y = passed is_falling (entry_of t k) x.0 in
+      let y = some_passed is_falling (entry_of t k) x.0 in
       remove left (none_of ks (set_left k None left)) k false (plain_removes ks) y.0 y.1 y.2 x.1 x.2
       (removes_down ks (set_left k None left) d.1 (λ j i.
       let z = h j (inr i) in
-      (z.0, left_off (is_key j k) None (left j) (not_is_true (is_key j k) (λ e. d.0 (subst (λ (q : Key). IsIn q ks) (one_key j k e) i))) ∙ z.1, λ u f c a b g. z.2 u f c (was_left k u false left a) b g)))
+      (z.0, cond-false (is_key j k) None (left j) (false_from_ne_true (is_key j k) (λ e. d.0 (subst (λ (q : Key). IsIn q ks) (one_key j k e) i))) ∙ z.1, λ u f c a b g. z.2 u f c (was_left k u false left a) b g)))
 
   none_kept : (ks : List Key) (left : Left) (q : Key) → left q ≡ None → none_of ks left q ≡ None
   none_kept [] left q h = h
@@ -258,12 +233,12 @@ module _ (t : TableValue) (s : Sound t) where
 
   none_in : (ks : List Key) (left : Left) (q : Key) → IsIn q ks → none_of ks left q ≡ None
   none_in [] left q i = absurd i
-  none_in (k ∷ ks) left q (inl e) = none_kept ks (set_left k None left) q (left_on (is_key q k) None (left q) (key_same q k (sym e)))
+  none_in (k ∷ ks) left q (inl e) = none_kept ks (set_left k None left) q (cond-true (is_key q k) None (left q) (key_same q k (sym e)))
   none_in (k ∷ ks) left q (inr i) = none_in ks (set_left k None left) q i
 
   none_out : (ks : List Key) (left : Left) (q : Key) → (IsIn q ks → ⊥) → none_of ks left q ≡ left q
   none_out [] left q n = refl
-  none_out (k ∷ ks) left q n = none_out ks (set_left k None left) q (λ i. n (inr i)) ∙ left_off (is_key q k) None (left q) (not_is_true (is_key q k) (λ e. n (inl (sym (one_key q k e)))))
+  none_out (k ∷ ks) left q n = none_out ks (set_left k None left) q (λ i. n (inr i)) ∙ cond-false (is_key q k) None (left q) (false_from_ne_true (is_key q k) (λ e. n (inl (sym (one_key q k e)))))
 
   pub downs_more : (left mid last : Left) (ds es : List Down) → IsDown t left ds mid → IsDown t mid es last → IsDown t left (ds ++ es) last
   downs_more left mid last ds es (no_more l) b = b
@@ -278,20 +253,16 @@ module _ (t : TableValue) (s : Sound t) where
 
   pub falling_in : (kd : Kind) (k : Key) → k.kind ≡ kd → at_key t is_falling k ≡ true → IsIn k (keys_where t (falling_of kd))
   falling_in kd k e h =
-      let p = passed is_falling (entry_of t k) h in
+      let p = some_passed is_falling (entry_of t k) h in
       where_in t (falling_of kd) k p.0 p.1 (subst (λ (x : Kind). falling_of kd (record { kind = x; id = k.id }) p.0 ≡ true) (sym e) (falling_self kd p.0 p.2))
 
   -- the falling relations are the items at the start
   start_list : IsList t (start_left t) (falling_items t)
   start_list = record {
     falls = λ i n. let m = map_in (λ k. let x : Item = (k, false) in x) (keys_where t (falling_of kind.Relation)) i n in subst (λ (x : Key). (at_key t is_falling x ≡ true) × (x.kind ≡ kind.Relation)) (ap (λ (x : Item). x.0) m.2) (fallen kind.Relation m.0 m.1);
-    listed = λ k b e h. let x = go_some (at_key t is_falling k) b h in subst (λ (c : Bool). IsIn (k, c) (falling_items t)) (sym x.1) (in_map (λ k. let x : Item = (k, false) in x) (keys_where t (falling_of kind.Relation)) k (falling_in kind.Relation k e x.0));
+    listed = λ k b e h. let x = to_go_some (at_key t is_falling k) b h in subst (λ (c : Bool). IsIn (k, c) (falling_items t)) (sym x.1) (in_map (λ k. let x : Item = (k, false) in x) (keys_where t (falling_of kind.Relation)) k (falling_in kind.Relation k e x.0));
     lefts = λ i n. let m = map_in (λ k. let x : Item = (k, false) in x) (keys_where t (falling_of kind.Relation)) i n in subst (λ (x : Item). start_left t x.0 ≡ Some x.1) m.2 (ap to_go (fallen kind.Relation m.0 m.1).0);
-  } where
-    go_some : (a b : Bool) → to_go a ≡ Some b → (a ≡ true) × (b ≡ false)
-    go_some true true h = cc
-    go_some true false h = (refl, refl)
-    go_some false b h = cc
+  }
 
   pub items_weight : (ks : List Key) → weight (map (λ k. let x : Item = (k, false) in x) ks) ≡ length ks + length ks
   items_weight [] = refl
@@ -307,7 +278,7 @@ module _ (t : TableValue) (s : Sound t) where
       let mid = none_of ways r.0 in
       let no_relation : (a : Kind) → kind_is a kind.Relation ≡ false → (k : Key) → k.kind ≡ a → k.kind ≡ kind.Relation → ⊥ = λ a n k e f. apart_kinds a kind.Relation k.kind e f n in
       let stands : (a : Kind) → kind_is a kind.Relation ≡ false → (k : Key) → k.kind ≡ a → at_key t is_falling k ≡ true → r.0 k ≡ Some false = λ a n k e f. r.2.same k (no_relation a n k e) ∙ ap to_go f in
-      let gone_way : (k : Key) → k.kind ≡ kind.Way → mid k ≡ None = λ k e. elim (decide (at_key t is_falling k)) [
+      let gone_way : (k : Key) → k.kind ≡ kind.Way → mid k ≡ None = λ k e. elim (cases_Bool (at_key t is_falling k)) [
         | inl f ↦ none_in ways r.0 k (falling_in kind.Way k e f)
         | inr f ↦ none_kept ways r.0 k (r.2.same k (no_relation kind.Way refl k e) ∙ ap to_go f)
       ] in
@@ -316,8 +287,8 @@ module _ (t : TableValue) (s : Sound t) where
         x.0,
         stands kind.Way refl k x.1 x.0,
         λ u f c a b g. elim (kinds u.kind) [
-          | is_node z ↦ not_is_true (refers c k) (λ h. node_refs c k (s.kinds u f c b (inr g) ∙ z) h)
-          | is_way z ↦ not_is_true (refers c k) (λ h. apart_kinds kind.Node kind.Way k.kind (way_refs c k (s.kinds u f c b (inr g) ∙ z) h) x.1 refl)
+          | is_node z ↦ false_from_ne_true (refers c k) (λ h. node_refs c k (s.kinds u f c b (inr g) ∙ z) h)
+          | is_way z ↦ false_from_ne_true (refers c k) (λ h. apart_kinds kind.Node kind.Way k.kind (way_refs c k (s.kinds u f c b (inr g) ∙ z) h) x.1 refl)
           | is_relation z ↦ none_some false (r.0 u) (r.2.gone u z) a
         ],
       )) in
@@ -326,7 +297,7 @@ module _ (t : TableValue) (s : Sound t) where
         x.0,
         none_out ways r.0 k (λ j. apart_kinds kind.Node kind.Way k.kind x.1 (fallen kind.Way k j).1 refl) ∙ stands kind.Node refl k x.1 x.0,
         λ u f c a b g. elim (kinds u.kind) [
-          | is_node z ↦ not_is_true (refers c k) (λ h. node_refs c k (s.kinds u f c b (inr g) ∙ z) h)
+          | is_node z ↦ false_from_ne_true (refers c k) (λ h. node_refs c k (s.kinds u f c b (inr g) ∙ z) h)
           | is_way z ↦ none_some false (mid u) (gone_way u z) a
           | is_relation z ↦ none_some false (mid u) (none_kept ways r.0 u (r.2.gone u z)) a
         ],
@@ -334,7 +305,7 @@ module _ (t : TableValue) (s : Sound t) where
         none_of nodes mid,
         downs_more (start_left t) r.0 (none_of nodes mid) _ _ r.1 (downs_more r.0 mid (none_of nodes mid) (plain_removes ways) (plain_removes nodes) d_ways d_nodes),
         λ k. elim (kinds k.kind) [
-          | is_node z ↦ (elim (decide (at_key t is_falling k)) [
+          | is_node z ↦ (elim (cases_Bool (at_key t is_falling k)) [
             | inl f ↦ none_in nodes mid k (falling_in kind.Node k z f)
             | inr f ↦ none_kept nodes mid k (none_kept ways r.0 k (r.2.same k (no_relation kind.Node refl k z) ∙ ap to_go f))
           ])

@@ -1,11 +1,13 @@
 -- The first four parts of the plan are in a good order, and whole.
-use Rattle.std.proofs.Common.{◌≡◌, Bool, true, false, ◌&&◌, List, [], map, length, Option, Some, None, refl, sym, ◌∙◌, ap, subst, ◌⊎◌, inl, inr}
+use Rattle.std.proofs.Common.{◌≡◌, Bool, true, false, List, [], map, length, Option, Some, None, refl, sym, ◌∙◌, ap, subst, ◌⊎◌, inl, inr}
+use Rattle.std.proofs.lemmas.Bool.{false_from_ne_true}
 use Rattle.osm_base.specs.Content.{refers, node, kind_of_content}
 use Rattle.osm_base.specs.declared.key.Kind.{Kind}
 use Rattle.osm_base.specs.declared.key.Kind.TheVariants as kind
 use Rattle.osm_base.specs.declared.key.Key.{Key}
 use Rattle.osm_base.specs.declared.content.Content.{Content}
 use Rattle.osm_base.specs.declared.content.Content.TheVariants as content
+use Rattle.osm_base.proofs.Tests.{never, some_passed}
 use Rattle.osm_table.specs.declared.entry.Entry.{Entry}
 use Rattle.osm_table.specs.declared.entry.Entry.TheVariants.{Incomplete, Known}
 use Rattle.osm_table.specs.declared.entry.Base.TheVariants.{New, Live, Gone}
@@ -14,10 +16,10 @@ use Rattle.upload_order.proofs.Where.{rising_both, rising_self, rising_of, keys_
 use Rattle.upload_order.specs.Kinds.{mine_refers, content_refers, at_key, is_rising, is_update}
 use Rattle.dataset.specs.Exact.{mine_at}
 use Rattle.upload_order.specs.Plan.{made, ups}
-use Rattle.upload_order.proofs.Basics.{true_false, both}
+use Rattle.upload_order.proofs.Basics.{both}
 use Rattle.upload_order.proofs.Entries.{IsIn, any_in, map_in}
 use Rattle.upload_order.proofs.Static.{IsUp, IsOrdered}
-use Rattle.upload_order.proofs.Along.{passed, at_is}
+use Rattle.upload_order.proofs.Along.{at_is}
 use Rattle.upload_order.proofs.Peel.{all_with, all_done, all_in, all_cases, ordered_more, part_ordered, peel_ordered, peel_all, peel_from}
 use Rattle.upload_order.proofs.Turn.{not_update}
 use Rattle.upload_order.specs.Bases.{base_in}
@@ -33,14 +35,6 @@ pub kind_self : (a : Kind) → kind_is a a ≡ true
 kind_self kind.Node = refl
 kind_self kind.Way = refl
 kind_self kind.Relation = refl
-
-pub and_both : (a b : Bool) → (a && b) ≡ true → (a ≡ true) × (b ≡ true)
-and_both true b e = (refl, e)
-and_both false b e = cc
-
-pub both_and : (a b : Bool) → a ≡ true → b ≡ true → (a && b) ≡ true
-both_and true b e f = f
-both_and false b e f = cc
 
 -- a node refers to nothing, and a way to nodes
 pub node_refs : (c : Content) (r : Key) → kind_of_content c ≡ kind.Node → refers c r ≡ true → ⊥
@@ -74,6 +68,9 @@ update_mine (Known New m d) h = cc
 update_mine (Known (Live v b n) None d) h = cc
 update_mine (Known (Live v b n) (Some c) d) h = (c, refl)
 update_mine (Known (Gone v n) m d) h = cc
+
+pub apart_kinds : {P : Type 0} (a b c : Kind) → c ≡ a → c ≡ b → kind_is a b ≡ false → P
+apart_kinds a b c e f n = never (kind_is a b) (subst (λ (x : Kind). kind_is a x ≡ true) (sym e ∙ f) (kind_self a)) n
 
 module _ (t : TableValue) (s : Sound t) where
   abbrev nodes : List Key
@@ -118,17 +115,10 @@ module _ (t : TableValue) (s : Sound t) where
       ((x.0, m.0, record { entry = x.1; mine = m.1; up = inl h.1 }), h.0, at_is t is_rising k x.0 true x.1 h.1)
 
   pub rising_in : (k : Key) → at_key t is_rising k ≡ true → IsIn k (keys_where t (rising_of k.kind))
-  rising_in k h = let p = passed is_rising (entry_of t k) h in where_in t (rising_of k.kind) k p.0 p.1 (rising_self k.kind p.0 p.2)
+  rising_in k h = let p = some_passed is_rising (entry_of t k) h in where_in t (rising_of k.kind) k p.0 p.1 (rising_self k.kind p.0 p.2)
 
   pub rising_at : (kd : Kind) (k : Key) → k.kind ≡ kd → at_key t is_rising k ≡ true → IsIn k (keys_where t (rising_of kd))
   rising_at kd k e h = subst (λ (x : Kind). IsIn k (keys_where t (rising_of x))) e (rising_in k h)
-
-  pub apart_kinds : {P : Type 0} (a b c : Kind) → c ≡ a → c ≡ b → kind_is a b ≡ false → P
-  apart_kinds a b c e f n = true_false (kind_is a b) (subst (λ (x : Kind). kind_is a x ≡ true) (sym e ∙ f) (kind_self a)) n
-
-  pub not_false : (b : Bool) → (b ≡ true → ⊥) → b ≡ false
-  not_false true h = absurd (h refl)
-  not_false false h = refl
 
   nodes_only : (k : Key) → nodes_done k ≡ true → k.kind ≡ kind.Node
   nodes_only k h = elim (all_cases nodes none_done k h) [ inl i ↦ (risen kind.Node k i).1 | inr i ↦ cc ]
@@ -159,7 +149,7 @@ module _ (t : TableValue) (s : Sound t) where
   part2 : IsOrdered t nodes_done ways ways_done
   part2 = part_ordered t ways nodes_done (distinct_where t (rising_of kind.Way)) (λ k i.
       let x = risen kind.Way k i in
-      (x.0, not_false (nodes_done k) (λ h. apart_kinds kind.Node kind.Way k.kind (nodes_only k h) x.1 refl), λ r h g. let m = mine_ref k r h in node_done r (way_refs m.0 r (m.1 ∙ x.1) m.2) g))
+      (x.0, false_from_ne_true (nodes_done k) (λ h. apart_kinds kind.Node kind.Way k.kind (nodes_only k h) x.1 refl), λ r h g. let m = mine_ref k r h in node_done r (way_refs m.0 r (m.1 ∙ x.1) m.2) g))
 
   data Kinds (a : Kind) : Type 0 where
     is_node : a ≡ kind.Node → Kinds a
@@ -175,7 +165,7 @@ module _ (t : TableValue) (s : Sound t) where
   part3 = peel_ordered t (length (keys_where t (rising_of kind.Relation))) (keys_where t (rising_of kind.Relation)) ways_done (distinct_where t (rising_of kind.Relation))
       (λ k i. let x = risen kind.Relation k i in (
         x.0,
-        not_false (ways_done k) (λ h. elim (ways_only k h) [
+        false_from_ne_true (ways_done k) (λ h. elim (ways_only k h) [
           | inl j ↦ apart_kinds kind.Node kind.Relation k.kind j x.1 refl
           | inr j ↦ apart_kinds kind.Way kind.Relation k.kind j x.1 refl
         ]),
@@ -202,10 +192,10 @@ module _ (t : TableValue) (s : Sound t) where
         let x = in_where t (λ k e. is_update e) k i in
         let m = update_mine x.0 x.2 in (
           (x.0, m.0, record { entry = x.1; mine = m.1; up = inr x.2 }),
-          not_false (relations_done k) (λ h.
-              let p = passed is_rising (entry_of t k) (only_rising k h) in
+          false_from_ne_true (relations_done k) (λ h.
+              let p = some_passed is_rising (entry_of t k) (only_rising k h) in
               let same : x.0 ≡ p.0 = both x.0 p.0 (entry_of t k) x.1 p.1 in
-              true_false (is_update p.0) (ap is_update (sym same) ∙ x.2) (not_update p.0 p.2)),
+              never (is_update p.0) (ap is_update (sym same) ∙ x.2) (not_update p.0 p.2)),
           λ r h g. rising_done r g,
         ))
 

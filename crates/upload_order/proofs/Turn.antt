@@ -1,5 +1,6 @@
 -- The start, the turn from changes to deletions, and the end.
 use Rattle.std.proofs.Common.{◌≡◌, Bool, true, false, not, List, ◌++◌, map, Option, Some, None, refl, sym, ◌∙◌, ap, subst, ◌⊎◌, inl, inr}
+use Rattle.std.proofs.lemmas.Bool.{not-false, cases_Bool}
 use Rattle.osm_base.specs.Content.{refers}
 use Rattle.osm_base.specs.declared.key.Key.{Key}
 use Rattle.osm_base.specs.declared.content.Content.{Content}
@@ -12,14 +13,15 @@ use Rattle.renamed_content.specs.Renamed.{renamed}
 use Rattle.upload_order.specs.Kinds.{held_of, at_key, is_rising, is_update, is_falling}
 use Rattle.osm_base.specs.Same.{same_content}
 use Rattle.osm_base.proofs.SameLaws.{same_content_decides}
+use Rattle.osm_base.proofs.Tests.{never, some_passed}
 use Rattle.upload_order.specs.World.{World, WorldEntry, stands, content_in, content_at, Backs, Holds, Alone, Accepts, IsEdited, is_known}
-use Rattle.upload_order.proofs.Basics.{decide, true_false, both, none_some}
+use Rattle.upload_order.proofs.Basics.{both, none_some}
 use Rattle.upload_order.proofs.Renaming.{renamed_from, renamed_itself}
 use Rattle.upload_order.proofs.Static.{IsUp, IsOrdered, Left, IsDown}
 use Rattle.upload_order.specs.Plan.{up_of, down_of, later}
 use Rattle.upload_order.specs.declared.down.Down.{Down}
 use Rattle.upload_order.proofs.Worlds.{called_meant}
-use Rattle.upload_order.proofs.Along.{Along, IsPut, passed, at_is, means_itself, based_is, incomplete_not_based}
+use Rattle.upload_order.proofs.Along.{Along, IsPut, at_is, means_itself, based_is, incomplete_not_based, new_rising, up_based}
 use Rattle.upload_order.proofs.Ups.{ups_accepted, accepts_more, accepts_weaker}
 use Rattle.upload_order.proofs.Downs.{Falling, content_left, falling_based, downs_accepted}
 use Rattle.std.specs.Option.{option_map_or}
@@ -46,19 +48,15 @@ pub data Class (e : Entry) : Type 0 where
   falls : is_falling e ≡ true → mine_of e ≡ None → Class e
   off : is_based e ≡ true → mine_of e ≡ None → held_of e ≡ None → Class e
 
-pub not_changed : (b : Bool) → not b ≡ false → b ≡ true
-not_changed true h = refl
-not_changed false h = cc
-
 pub class : (e : Entry) → (is_new (base_in e) ≡ true → is_incomplete e ≡ false → (c : Content) × (mine_of e ≡ Some c)) → Class e
 class Incomplete h = unknown refl
 class (Known New None d) h = let m = (h refl refl).1 in cc
 class (Known New (Some c) d) h = up c refl (inl refl)
 class (Known (Live v b n) None d) h = falls refl refl
 class (Known (Live v b n) (Some c) d) h =
-    elim (decide (not (same_content c b))) [
+    elim (cases_Bool (not (same_content c b))) [
       | inl u ↦ up c refl (inr u)
-      | inr u ↦ kept c refl refl (ap (λ (x : Content). Some x) (sym (same_law c b (not_changed (same_content c b) u)))) refl u
+      | inr u ↦ kept c refl refl (ap (λ (x : Content). Some x) (sym (same_law c b (not-false (same_content c b) u)))) refl u
     ]
 class (Known (Gone v n) None d) h = off refl refl refl
 class (Known (Gone v n) (Some c) d) h = up c refl (inl refl)
@@ -93,8 +91,8 @@ not_update (Known (Live v b n) m d) h = cc
 not_update (Known (Gone v n) m d) h = refl
 
 pub idle : (e : Entry) → is_rising e ≡ false → is_update e ≡ false → (is_rising e ≡ true) ⊎ (is_update e ≡ true) → ⊥
-idle e r u (inl h) = true_false (is_rising e) h r
-idle e r u (inr h) = true_false (is_update e) h u
+idle e r u (inl h) = never (is_rising e) h r
+idle e r u (inr h) = never (is_update e) h u
 
 pub known_mine : (e : Entry) → is_known e ≡ true → is_incomplete e ≡ false
 known_mine Incomplete h = cc
@@ -120,51 +118,40 @@ to_go_none false h = refl
 module _ (t : TableValue) (s : Sound t) (v : IsVouched t) (w0 : World) (backs : Backs w0 t) (holds : Holds w0 t) where
   module _ (w : World) (done : Key → Bool) (a : Along t w0 w done) (all : (k : Key) (e : Entry) (c : Content) → IsUp t k e c → done k ≡ true) where
     not_done : (k : Key) (e : Entry) → entry_of t k ≡ Some e → (((c : Content) → mine_of e ≡ Some c → (is_rising e ≡ true) ⊎ (is_update e ≡ true) → ⊥)) → done k ≡ false
-    not_done k e h n = elim (decide (done k)) [ inl d ↦ (let u = a.ups k d in let same : u.0 ≡ e = both u.0 e (entry_of t k) u.2.entry h in absurd (n u.1 (ap mine_of (sym same) ∙ u.2.mine) (subst (λ (x : Entry). (is_rising x ≡ true) ⊎ (is_update x ≡ true)) same u.2.up))) | inr d ↦ d ]
+    not_done k e h n = elim (cases_Bool (done k)) [ inl d ↦ (let u = a.ups k d in let same : u.0 ≡ e = both u.0 e (entry_of t k) u.2.entry h in absurd (n u.1 (ap mine_of (sym same) ∙ u.2.mine) (subst (λ (x : Entry). (is_rising x ≡ true) ⊎ (is_update x ≡ true)) same u.2.up))) | inr d ↦ d ]
 
     falling_waits : (k : Key) (e : Entry) → entry_of t k ≡ Some e → is_falling e ≡ true → done k ≡ false
-    falling_waits k e h f = not_done k e h (λ c m u. true_false (is_falling e) f (up_stays e u))
+    falling_waits k e h f = not_done k e h (λ c m u. never (is_falling e) f (up_stays e u))
 
     -- no reference of what was sent means a falling key
     sent_apart : (c : Content) (k r : Key) → ((e : Entry) × (d : Key) × (entry_of t d ≡ Some e) × (mine_of e ≡ Some c)) → at_key t is_falling k ≡ true → refers c r ≡ true → called w.names r ≡ k → ⊥
     sent_apart c k r own fall h same =
-        let f = passed is_falling (entry_of t k) fall in
+        let f = some_passed is_falling (entry_of t k) fall in
         elim (s.refs own.1 r own.0 c own.2 own.3 h) [
           | inl i ↦ (
-              let g = passed is_incomplete (entry_of t r) i in
+              let g = some_passed is_incomplete (entry_of t r) i in
               let self : called w.names r ≡ r = called_meant w.names r r (means_itself w.names r (s.positive r g.0 g.1 (inl g.2))) in
               let one : g.0 ≡ f.0 = both g.0 f.0 (entry_of t k) (ap (entry_of t) (sym same ∙ self) ∙ g.1) f.1 in
-              true_false (is_falling f.0) f.2 (ap is_falling (sym one) ∙ incomplete_stays g.0 g.2))
-          | inr l ↦ (elim (decide (is_new (base_in l.0))) [
+              never (is_falling f.0) f.2 (ap is_falling (sym one) ∙ incomplete_stays g.0 g.2))
+          | inr l ↦ (elim (cases_Bool (is_new (base_in l.0))) [
             | inl n ↦ (
-                let u : IsUp t r l.0 l.1 = record { entry = l.2; mine = l.3; up = inl (rise l.0 l.1 l.3 n) } in
+                let u : IsUp t r l.0 l.1 = record { entry = l.2; mine = l.3; up = inl (new_rising l.0 l.1 l.3 n) } in
                 let p = a.put r l.0 l.1 (all r l.0 l.1 u) u in
                 let at : p.place ≡ k = sym (called_meant w.names r p.place p.means) ∙ same in
                 elim p.which [
                   | inl x ↦ none_some f.0 (entry_of t p.place) x.1 (ap (entry_of t) at ∙ f.1)
-                  | inr x ↦ true_false (is_new (base_in l.0)) n x.0
+                  | inr x ↦ never (is_new (base_in l.0)) n x.0
                 ])
             | inr n ↦ (
-                let self : called w.names r ≡ r = called_meant w.names r r (means_itself w.names r (s.positive r l.0 l.2 (inr (based l.0 l.1 l.3 n)))) in
+                let self : called w.names r ≡ r = called_meant w.names r r (means_itself w.names r (s.positive r l.0 l.2 (inr (up_based l.0 l.1 l.3 n)))) in
                 let one : l.0 ≡ f.0 = both l.0 f.0 (entry_of t k) (ap (entry_of t) (sym same ∙ self) ∙ l.2) f.1 in
-                true_false (is_falling f.0) f.2 (ap is_falling (sym one) ∙ mine_stays l.0 l.1 l.3))
+                never (is_falling f.0) f.2 (ap is_falling (sym one) ∙ mine_stays l.0 l.1 l.3))
           ])
-        ] where
-          rise : (e : Entry) (c : Content) → mine_of e ≡ Some c → is_new (base_in e) ≡ true → is_rising e ≡ true
-          rise Incomplete c h g = cc
-          rise (Known New m d) c h g = refl
-          rise (Known (Live v b n) m d) c h g = cc
-          rise (Known (Gone v n) m d) c h g = cc
-
-          based : (e : Entry) (c : Content) → mine_of e ≡ Some c → is_new (base_in e) ≡ false → is_based e ≡ true
-          based Incomplete c h g = cc
-          based (Known New m d) c h g = cc
-          based (Known (Live v b n) m d) c h g = refl
-          based (Known (Gone v n) m d) c h g = refl
+        ]
 
     -- a content that was sent refers to no falling key
     sent_free : (c : Content) (k : Key) → ((e : Entry) × (d : Key) × (entry_of t d ≡ Some e) × (mine_of e ≡ Some c)) → at_key t is_falling k ≡ true → refers (renamed (called w.names) c) k ≡ false
-    sent_free c k own fall = elim (decide (refers (renamed (called w.names) c) k)) [
+    sent_free c k own fall = elim (cases_Bool (refers (renamed (called w.names) c) k)) [
       | inl h ↦ (let f = renamed_from w.names c k h in absurd (sent_apart c k f.0 own fall f.1 f.2))
       | inr h ↦ h
     ]
@@ -182,21 +169,21 @@ module _ (t : TableValue) (s : Sound t) (v : IsVouched t) (w0 : World) (backs : 
 
     module _ (alone : Alone w0 t) where
       based_free : (q : Key) (e : Entry) → entry_of t q ≡ Some e → is_based e ≡ true → is_falling e ≡ false → Class e → (d : Content) → content_at w q ≡ Some d → (k : Key) → at_key t is_falling k ≡ true → refers d k ≡ false
-      based_free q e h b n (unknown i) d g k fall = true_false (is_based e) b (incomplete_not_based e i)
+      based_free q e h b n (unknown i) d g k fall = never (is_based e) b (incomplete_not_based e i)
       based_free q e h b n (up c m x) d g k fall =
           let u : IsUp t q e c = record { entry = h; mine = m; up = x } in
           let p = a.put q e c (all q e c u) u in
-          put_free q q e c d u p (elim p.which [ inl y ↦ true_false (is_new (base_in e)) y.0 (based_is e b).0 | inr y ↦ y.1 ]) g k fall
+          put_free q q e c d u p (elim p.which [ inl y ↦ never (is_new (base_in e)) y.0 (based_is e b).0 | inr y ↦ y.1 ]) g k fall
       based_free q e h b n (kept c x m l nr nu) d g k fall =
           let free = not_done q e h (λ c2 m2 u. idle e nr nu u) in
           let one : c ≡ d = both c d (content_at w q) (ap content_in (a.waiting q e h b free) ∙ l) g in
           ap (λ (y : Content). refers y k) (sym one) ∙ kept_free q e c h m l k fall
-      based_free q e h b n (falls f m) d g k fall = true_false (is_falling e) f n
+      based_free q e h b n (falls f m) d g k fall = never (is_falling e) f n
       based_free q e h b n (off x m l) d g k fall = none_some d (content_at w q) (ap content_in (a.waiting q e h b (not_done q e h (λ c m2 u. none_some c (mine_of e) m m2))) ∙ l) g
 
       free_of : (q : Key) (d : Content) → at_key t is_falling q ≡ false → content_at w q ≡ Some d → (k : Key) → at_key t is_falling k ≡ true → refers d k ≡ false
-      free_of q d n g k fall = elim (decide (at_key t is_based q)) [
-        | inl b ↦ (let e = passed is_based (entry_of t q) b in based_free q e.0 e.1 e.2 (sym (at_is t is_falling q e.0 (is_falling e.0) e.1 refl) ∙ n) (class_at t s q e.0 e.1) d g k fall)
+      free_of q d n g k fall = elim (cases_Bool (at_key t is_based q)) [
+        | inl b ↦ (let e = some_passed is_based (entry_of t q) b in based_free q e.0 e.1 e.2 (sym (at_is t is_falling q e.0 (is_falling e.0) e.1 refl) ∙ n) (class_at t s q e.0 e.1) d g k fall)
         | inr b ↦ (elim (a.others q b) [
           | inl same ↦ alone q k d b (ap content_in (sym same) ∙ g) fall
           | inr pick ↦ (
@@ -212,7 +199,7 @@ module _ (t : TableValue) (s : Sound t) (v : IsVouched t) (w0 : World) (backs : 
         standing = λ k e b l h f.
             let x = to_go_some (at_key t is_falling k) b l in
             a.waiting k e h (falling_based e f) (falling_waits k e h f) ∙ ap (λ (y : Bool). let z : WorldEntry = record { version = later y (version_of (base_in e)); content = content_left y e } in Some z) (sym x.1);
-        gone = λ k f l. true_false (at_key t is_falling k) f (to_go_none (at_key t is_falling k) l);
+        gone = λ k f l. never (at_key t is_falling k) f (to_go_none (at_key t is_falling k) l);
         apart = λ q k c n f h. free_of q c n h k f;
       }
 
@@ -251,7 +238,7 @@ module _ (t : TableValue) (s : Sound t) (v : IsVouched t) (w0 : World) (backs : 
         lives_at k e c h m (off b n l) = none_some c (mine_of e) n m
 
         gone_at : (k : Key) (e : Entry) → entry_of t k ≡ Some e → is_known e ≡ true → mine_of e ≡ None → Class e → content_at v1 k ≡ None
-        gone_at k e h i m (unknown x) = true_false (is_incomplete e) x (known_mine e i)
+        gone_at k e h i m (unknown x) = never (is_incomplete e) x (known_mine e i)
         gone_at k e h i m (up c m2 x) = none_some c (mine_of e) m m2
         gone_at k e h i m (kept c b m2 l nr nu) = none_some c (mine_of e) m m2
         gone_at k e h i m (falls x n) = f.gone k (at_is t is_falling k e true h x) (none k)
@@ -273,13 +260,8 @@ module _ (t : TableValue) (s : Sound t) (v : IsVouched t) (w0 : World) (backs : 
             let b = other_based (entry_of t q) n in
             elim (a.others q b.0) [
               | inl same ↦ inl (f.frame q b.1 ∙ same)
-              | inr pick ↦ inr (pick.old, at_is t is_rising pick.old pick.entry true pick.is_up.entry (rise pick.entry pick.content pick.is_up.mine pick.was_new), sym (same_names (λ ns. meant ns pick.old)) ∙ pick.means)
-            ] where
-              rise : (e : Entry) (c : Content) → mine_of e ≡ Some c → is_new (base_in e) ≡ true → is_rising e ≡ true
-              rise Incomplete c h g = cc
-              rise (Known New m d) c h g = refl
-              rise (Known (Live v b n) m d) c h g = cc
-              rise (Known (Gone v n) m d) c h g = cc
+              | inr pick ↦ inr (pick.old, at_is t is_rising pick.old pick.entry true pick.is_up.entry (new_rising pick.entry pick.content pick.is_up.mine pick.was_new), sym (same_names (λ ns. meant ns pick.old)) ∙ pick.means)
+            ]
 
   -- The world accepts a list of changes in a good order, and then holds the edited data.
   pub all_accepted : Alone w0 t → (ks : List Key) (last : Key → Bool) → IsOrdered t (λ _. false) ks last → ((k : Key) (e : Entry) (c : Content) → IsUp t k e c → last k ≡ true)

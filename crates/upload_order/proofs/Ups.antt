@@ -17,7 +17,7 @@ use Rattle.upload_order.specs.Rename.{named, called, with_id, is_positive}
 use Rattle.renamed_content.specs.Renamed.{renamed}
 use Rattle.upload_order.specs.Kinds.{held_of, at_key, is_rising}
 use Rattle.upload_order.specs.World.{World, stands, bad_ref, BadRef, Exists, Unfit, OldVersion, refusal, on_content, on_modify, after, Backs, IsFresh, Accepts}
-use Rattle.upload_order.proofs.Basics.{both, true_false}
+use Rattle.upload_order.proofs.Basics.{both}
 use Rattle.upload_order.proofs.Static.{IsUp, IsOrdered, no_more, next, with_key}
 use Rattle.upload_order.specs.Plan.{up_entry, up_of}
 use Rattle.upload_order.proofs.Worlds.{no_bad_ref, grown, called_meant}
@@ -26,8 +26,10 @@ use Rattle.upload_order.proofs.AlongStep.{along_step}
 use Rattle.upload_order.specs.Bases.{base_in}
 use Rattle.upload_order.proofs.Conditions.{Sound, IsVouched}
 use Rattle.osm_base.proofs.RisingKeys.{key_itself}
+use Rattle.osm_base.proofs.Tests.{never}
 
-up_case : (k : Key) (e : Entry) (c : Content) → mine_of e ≡ Some c → up_entry k (Some e) ≡ cond (is_new (base_in e)) (Create k c) (Modify k (version_of (base_in e)) c)
+-- the change that is sent of an object
+pub up_case : (k : Key) (e : Entry) (c : Content) → mine_of e ≡ Some c → up_entry k (Some e) ≡ cond (is_new (base_in e)) (Create k c) (Modify k (version_of (base_in e)) c)
 up_case k Incomplete c h = cc
 up_case k (Known New None d) c h = cc
 up_case k (Known (Live v b n) None d) c h = cc
@@ -100,7 +102,7 @@ module _ (t : TableValue) (s : Sound t) (v : IsVouched t) (w0 : World) (backs : 
         let self : called w.names k ≡ k = called_meant w.names k k means in
         let ok : refusal w (Modify k (version_of (base_in e)) c) p ≡ None =
         ap (on_modify w (version_of (base_in e)) c) (ap (stands w) self ∙ a.waiting k e up.entry based free) ∙ same_version w (version_of (base_in e)) c (held_of e) content_ok in
-        let along = along_step t w0 w done a k e c up free before k w.names means (λ j h. refl) (inr (n, refl)) (λ g. true_false (is_new (base_in e)) g n) in
+        let along = along_step t w0 w done a k e c up free before k w.names means (λ j h. refl) (inr (n, refl)) (λ g. never (is_new (base_in e)) g n) in
         (ok, subst (λ (x : Key). Along t w0 (grown w w.names x (version_of (base_in e) + 1) (renamed (called w.names) c)) (with_key k done)) (sym self) along)
 
     pick_change : (b : Bool) → is_new (base_in e) ≡ b → One (cond b (Create k c) (Modify k (version_of (base_in e)) c))

@@ -1,14 +1,15 @@
 -- Who is loose, by the set of those that are vouched for and by what is changed.
 use Rattle.std.proofs.Common.{◌≡◌, ◌&&◌, ◌||◌, Bool, true, false, not, cond, is_some, Option, Some, None, List, [], ◌∷◌, refl, sym, ◌∙◌, ap}
+use Rattle.std.proofs.Math.Bool.{or-false, and-false}
 use Rattle.std.specs.List.{filter, find, list_any}
 use Rattle.std.specs.Option.{option_map_or, option_map, option_or}
 use Rattle.osm_base.specs.Content.{refers, refs_of}
 use Rattle.osm_base.specs.RisingKeys.{is_in}
 use Rattle.osm_base.specs.declared.key.Key.{Key}
 use Rattle.osm_base.specs.declared.content.Content.{Content}
+use Rattle.osm_base.proofs.Tests.{none_from_test, none_before_map, none_of_both}
 use Rattle.osm_table.specs.declared.entry.Entry.{Entry}
 use Rattle.osm_table.specs.Table.{TableValue, entry_of, is_changed, is_incomplete, is_living, keys_by_rank, mine_of, users, uses}
-use Rattle.dataset.proofs.Drafted.{none_at}
 use Rattle.dataset.proofs.Listed.{user_uses}
 use Rattle.upload_order.specs.declared.refusal.PlanRefusal.{PlanRefusal}
 use Rattle.upload_order.specs.declared.refusal.PlanRefusal.TheVariants.{IncompleteRef}
@@ -17,17 +18,9 @@ use Rattle.upload_order.specs.Kinds.{at_key, held_at, held_list, held_of}
 use Rattle.upload_order.specs.Part.{changed_keys}
 use Rattle.upload_order.specs.Refused.{keeps, keeps_at, vouches, vouches_at, vouched_among, is_loose, is_loose_in, loose_of, loose_among, loose_refusal, refs_sent}
 use Rattle.upload_order.proofs.Changed.{not_sent}
-use Rattle.upload_order.proofs.ClearLaw.{map_none, or_none}
 use Rattle.upload_order.proofs.FallSteps.{find_alike}
 use Rattle.upload_order.proofs.FallTurns.{in_put}
-
-held_in : (o : Option Content) (r : Key) → is_in r (option_map_or refs_of o []) ≡ option_map_or (λ c. refers c r) o false
-held_in None r = refl
-held_in (Some c) r = refl
-
-or_false : (a : Bool) → a ≡ (a || false)
-or_false true = refl
-or_false false = refl
+use Rattle.upload_order.proofs.FallStart.{held_case}
 
 and_swap : (a b c : Bool) → (a && (b && c)) ≡ (b && (a && c))
 and_swap true true c = refl
@@ -35,14 +28,10 @@ and_swap true false c = refl
 and_swap false true c = refl
 and_swap false false c = refl
 
-and_false : (b : Bool) → false ≡ (b && false)
-and_false true = refl
-and_false false = refl
-
 -- what a base refers to, and whether it is kept, is what an entry vouches for
 by_entry : (o : Option Entry) (r : Key) → (is_in r (option_map_or refs_of (held_at o) []) && option_map_or (λ e. keeps (mine_of e) r) o false) ≡ option_map_or (λ e. vouches e r) o false
 by_entry None r = refl
-by_entry (Some e) r = ap (λ b. b && keeps (mine_of e) r) (held_in (held_of e) r)
+by_entry (Some e) r = ap (λ b. b && keeps (mine_of e) r) (held_case (held_of e) r)
 
 by_one : (t : TableValue) (s : List Key) (r k : Key) → is_in r (put_where (λ r. at_key t is_incomplete r && keeps_at t k r) s (held_list t k)) ≡ (is_in r s || (at_key t is_incomplete r && vouches_at t r k))
 by_one t s r k =
@@ -55,7 +44,7 @@ or_case false true v w = refl
 or_case false false v w = refl
 
 by_all : (t : TableValue) (s ks : List Key) (r : Key) → is_in r (vouched_among t s ks) ≡ (is_in r s || (at_key t is_incomplete r && list_any (vouches_at t r) ks))
-by_all t s [] r = or_false (is_in r s) ∙ ap (λ b. is_in r s || b) (and_false (at_key t is_incomplete r))
+by_all t s [] r = sym (or-false (is_in r s)) ∙ ap (λ b. is_in r s || b) (sym (and-false (at_key t is_incomplete r)))
 by_all t s (k ∷ ks) r =
     by_all t (put_where (λ r. at_key t is_incomplete r && keeps_at t k r) s (held_list t k)) ks r
     ∙ ap (λ b. b || (at_key t is_incomplete r && list_any (vouches_at t r) ks)) (by_one t s r k)
@@ -91,8 +80,8 @@ in_none true v e = cc
 pub none_looser : (t : TableValue) (s ks : List Key) → loose_among (is_loose_in t []) t ks ≡ None → loose_among (is_loose_in t s) t ks ≡ None
 none_looser t s [] e = refl
 none_looser t s (k ∷ ks) e =
-    let parts = or_none _ _ e in
-    let first = find_none (is_loose_in t []) (is_loose_in t s) (λ r. in_none (at_key t is_incomplete r) (is_in r s)) (refs_sent (entry_of t k)) (map_none (IncompleteRef k) _ parts.0) in
+    let parts = none_of_both _ _ e in
+    let first = find_none (is_loose_in t []) (is_loose_in t s) (λ r. in_none (at_key t is_incomplete r) (is_in r s)) (refs_sent (entry_of t k)) (none_before_map (IncompleteRef k) _ parts.0) in
     ap (λ (o : Option Key). option_or (option_map (IncompleteRef k) o) (loose_among (is_loose_in t s) t ks)) first ∙ none_looser t s ks parts.1
 
 -- of what isn't changed nothing is sent
@@ -124,7 +113,7 @@ none_loose t s ks o empty changed is none =
     ap (loose_among (is_loose_in t []) t) (sym changed)
     ∙ ap (λ (v : List Key). loose_among (is_loose_in t v) t ks) (sym empty)
     ∙ sym is
-    ∙ none_at o none
+    ∙ none_from_test o none
     )
     )
 

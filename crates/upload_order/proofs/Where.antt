@@ -1,5 +1,5 @@
 -- The keys of a part, by a test of their entries.
-use Rattle.std.proofs.Common.{◌≡◌, Bool, true, false, is_some, List, [], ◌∷◌, map, Option, Some, None, refl, sym, ◌∙◌, ap}
+use Rattle.std.proofs.Common.{◌≡◌, Bool, true, false, is_some, List, [], ◌∷◌, map, Option, Some, refl, sym, ◌∙◌, ap}
 use Rattle.std.specs.Prelude.{T}
 use Rattle.std.specs.List.{filter}
 use Rattle.std.specs.Option.{option_map_or}
@@ -9,6 +9,7 @@ use Rattle.osm_base.proofs.ByRank.{rises_keys}
 use Rattle.osm_base.specs.declared.key.Key.{Key}
 use Rattle.osm_base.specs.declared.key.Kind.{Kind}
 use Rattle.osm_base.specs.declared.key.Kind.TheVariants as kind
+use Rattle.osm_base.proofs.Tests.{some_passed}
 use Rattle.osm_table.specs.declared.entry.Entry.{Entry}
 use Rattle.osm_table.specs.Table.{TableValue, entry_of, keys_by_rank}
 use Rattle.upload_order.specs.declared.part.Part.{Part}
@@ -81,13 +82,9 @@ distinct_rising (k ∷ ks) r = (λ i. let e : false ≡ true = sym (head_once k 
 pub distinct_where : (t : TableValue) (test : Key → Entry → Bool) → AreDistinct (keys_where t test)
 distinct_where t test = distinct_filter (λ k. option_map_or (test k) (entry_of t k) false) (keys_by_rank t) (distinct_rising (keys_by_rank t) (rises_keys t.entries))
 
-pub entry_case : (p : Entry → Bool) (o : Option Entry) → option_map_or p o false ≡ true → (e : Entry) × (o ≡ Some e) × (p e ≡ true)
-entry_case p None h = cc
-entry_case p (Some e) h = (e, refl, h)
-
 -- the keys where the entry passes a test
 pub in_where : (t : TableValue) (test : Key → Entry → Bool) (k : Key) → IsIn k (keys_where t test) → (e : Entry) × (entry_of t k ≡ Some e) × (test k e ≡ true)
-in_where t test k i = entry_case (test k) (entry_of t k) (in_filter (λ k. option_map_or (test k) (entry_of t k) false) (keys_by_rank t) k i).1
+in_where t test k i = some_passed (test k) (entry_of t k) (in_filter (λ k. option_map_or (test k) (entry_of t k) false) (keys_by_rank t) k i).1
 
 pub where_in : (t : TableValue) (test : Key → Entry → Bool) (k : Key) (e : Entry) → entry_of t k ≡ Some e → test k e ≡ true → IsIn k (keys_where t test)
 where_in t test k e h p =

@@ -2,7 +2,7 @@
 use Rattle.std.proofs.Common.{◌≡◌, ◌||◌, ◌&&◌, ℤ, pos, Bool, true, false, cond, is_some, List, [], ◌∷◌, Option, Some, None, refl, sym, ap, ◌∙◌, map}
 use Rattle.std.specs.List.{filter, find, list_any, flat_map}
 use Rattle.std.specs.Option.{option_map, option_map_or, option_and_then, is_none}
-use Rattle.std.proofs.lemmas.List.Folds.{list_any-append}
+use Rattle.std.proofs.Math.Bool.{or-true}
 use Rattle.osm_base.specs.Content.{refers, node}
 use Rattle.osm_base.specs.Rank.{is_key}
 use Rattle.osm_base.specs.RisingKeys.{is_in}
@@ -30,7 +30,8 @@ use Rattle.tool_api.proofs.Bridge.{ranked_filter}
 use Rattle.tool_api.proofs.Least.{has_key}
 use Rattle.tool_api.proofs.Passed.{passes}
 use Rattle.way_combine.proofs.Runs.{unfolded_names}
-use Rattle.tool_api.proofs.Bools.{false_between, or_true}
+use Rattle.tool_api.proofs.Bools.{false_between}
+use Rattle.tool_api.proofs.Named.{uses_one, some_user, in_users}
 
 -- What passed the target tests of ways is a way.
 
@@ -70,35 +71,18 @@ user_is k (Some Incomplete) way h = cc
 user_is k (Some (Known base None conflict)) way h = cc
 user_is k (Some (Known base (Some c) conflict)) way h = (refl, relation_refers c k h way)
 
--- whether a key uses one of the ways
-abbrev pub uses_one : TableValue → List Key → Key → Bool
-uses_one t ways k = list_any (λ (w : Key). is_named (users t w) k) ways
-
-user_case : (t : TableValue) (v : Key) (ways : List Key) (k w : Key) (b : Bool) → is_key w v ≡ b → (b || is_named ways w) ≡ true → is_named (users t w) k ≡ true
-    → (is_named ways w ≡ true → uses_one t ways k ≡ true) → uses_one t (v ∷ ways) k ≡ true
-user_case t v ways k w true is h used rest = ap (λ b. b || uses_one t ways k) (ap (λ (j : Key). is_named (users t j) k) (sym (one_key w v is)) ∙ used)
-user_case t v ways k w false is h used rest = ap (λ b. is_named (users t v) k || b) (rest h) ∙ or_true (is_named (users t v) k)
-
-pub some_user : (t : TableValue) (ways : List Key) (k w : Key) → is_named ways w ≡ true → is_named (users t w) k ≡ true → uses_one t ways k ≡ true
-some_user t [] k w named used = cc
-some_user t (v ∷ ways) k w named used = user_case t v ways k w (is_key w v) refl named used (λ h. some_user t ways k w h used)
-
 abbrev pub UsesOne : TableValue → List Key → Key → Type 0
 UsesOne t ways k = (w : Key) × (is_named ways w ≡ true) × (is_named (users t w) k ≡ true)
 
 one_case : (t : TableValue) (v : Key) (ways : List Key) (k : Key) (b : Bool) → is_named (users t v) k ≡ b → (b || uses_one t ways k) ≡ true → (uses_one t ways k ≡ true → UsesOne t ways k) → UsesOne t (v ∷ ways) k
 one_case t v ways k true is h rest = (v, ap (λ b. b || is_named ways v) (key_itself v), is)
-one_case t v ways k false is h rest = let r = rest h in (r.0, ap (λ b. is_key r.0 v || b) r.1 ∙ or_true (is_key r.0 v), r.2)
+one_case t v ways k false is h rest = let r = rest h in (r.0, ap (λ b. is_key r.0 v || b) r.1 ∙ or-true (is_key r.0 v), r.2)
 
 one_used : (t : TableValue) (ways : List Key) (k : Key) → uses_one t ways k ≡ true → UsesOne t ways k
 one_used t [] k h = cc
 one_used t (v ∷ ways) k h = one_case t v ways k (is_named (users t v) k) refl h (one_used t ways k)
 
 -- The users of the ways, by the index, are the relations that the definition finds by a search.
-
-in_users : (t : TableValue) (ways : List Key) (k : Key) → is_in k (flat_map (users t) ways) ≡ uses_one t ways k
-in_users t [] k = refl
-in_users t (w ∷ ways) k = list_any-append (is_key k) (users t w) (flat_map (users t) ways) ∙ ap (λ b. is_named (users t w) k || b) (in_users t ways k)
 
 is_among : (t : TableValue) (ways : List Key) (k : Key) (b : Bool) → uses_one t ways k ≡ b → first_of (target_test t Ways) ways ≡ None → b ≡ ((option_map_or is_relation (content_of t k) false && b) && is_in k (keys_by_rank t))
 is_among t ways k false is passed = false_between (option_map_or is_relation (content_of t k) false) (is_in k (keys_by_rank t))

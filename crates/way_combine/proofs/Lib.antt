@@ -1,9 +1,7 @@
 pub mod Among
 pub mod Combines
-pub mod Ends
 pub mod Folded
 pub mod Joints
-pub mod Looks
 pub mod Runs
 pub mod Sounds
 pub mod Turns

@@ -1,5 +1,6 @@
 -- What the members are after runs are folded, and where they can't be.
 use Rattle.std.proofs.Common.{◌≡◌, ◌||◌, ◌-◌, ℕ, zero, suc, Bool, true, false, cond, List, [], ◌∷◌, length, take, Option, Some, None, refl, sym, ap, ◌∙◌}
+use Rattle.std.proofs.Math.Bool.{or-true}
 use mathlib.Core.Logic.{◌⊎◌, inl, inr}
 use Rattle.std.specs.List.{list_any}
 use Rattle.std.specs.Option.{option_map, is_none}
@@ -9,7 +10,6 @@ use Rattle.osm_base.specs.declared.key.Key.{Key}
 use Rattle.osm_base.specs.declared.members.Member.{Member}
 use Rattle.tool_api.specs.Checks.{is_named}
 use Rattle.tool_api.specs.Upkeep.{is_run, folded_from, folded}
-use Rattle.tool_api.proofs.Bools.{or_true}
 
 -- whether a member is the key
 abbrev pub has_member : List Member → Key → Bool
@@ -44,7 +44,7 @@ Stays ways kept ms r = (r ≡ kept) ⊎ ((is_named ways r ≡ false) × (has_mem
 
 stays_more : (ways : List Key) (kept : Key) (m : Member) (ms : List Member) (r : Key) → Stays ways kept ms r → Stays ways kept (m ∷ ms) r
 stays_more ways kept m ms r (inl e) = inl e
-stays_more ways kept m ms r (inr h) = inr (h.0, ap (λ b. is_key r m.key || b) h.1 ∙ or_true (is_key r m.key))
+stays_more ways kept m ms r (inr h) = inr (h.0, ap (λ b. is_key r m.key || b) h.1 ∙ or-true (is_key r m.key))
 
 mapped : (m : Member) (o : Option (List Member)) (out : List Member) → option_map (λ (ms : List Member). m ∷ ms) o ≡ Some out → (rest : List Member) × (o ≡ Some rest) × (out ≡ m ∷ rest)
 mapped m None out e = cc
@@ -87,7 +87,7 @@ abbrev pub NamesOne : List Key → List Member → Type 0
 NamesOne ways ms = (r : Key) × (is_named ways r ≡ true) × (has_member ms r ≡ true)
 
 names_more : (ways : List Key) (m : Member) (ms : List Member) → NamesOne ways ms → NamesOne ways (m ∷ ms)
-names_more ways m ms h = (h.0, h.1, ap (λ b. is_key h.0 m.key || b) h.2 ∙ or_true (is_key h.0 m.key))
+names_more ways m ms h = (h.0, h.1, ap (λ b. is_key h.0 m.key || b) h.2 ∙ or-true (is_key h.0 m.key))
 
 no_map : (m : Member) (o : Option (List Member)) → option_map (λ (ms : List Member). m ∷ ms) o ≡ None → o ≡ None
 no_map m None e = refl

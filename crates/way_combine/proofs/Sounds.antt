@@ -3,9 +3,12 @@ use Rattle.std.proofs.Common.{◌≡◌, ◌||◌, ◌&&◌, ℕ, ℤ, pos, Bool
 use mathlib.Core.Logic.{◌⊎◌, inl, inr}
 use Rattle.std.specs.List.{filter, find, list_any}
 use Rattle.std.specs.Ordering.{int_eq}
-use Rattle.std.specs.Option.{option_map, option_map_or, option_and_then, option_or, unwrap_or, is_none}
+use Rattle.std.specs.Option.{option_map_or, option_and_then, unwrap_or, is_none}
+use Rattle.std.specs.Cmp.{second_so}
 use Rattle.std.proofs.lemmas.Bool.Decides.{Decides-int_eq}
-use Rattle.osm_base.specs.Content.{node, fits, kind_of_content}
+use Rattle.std.proofs.lemmas.Bool.{and_from}
+use Rattle.std.proofs.Math.Bool.{or-true}
+use Rattle.osm_base.specs.Content.{node, kind_of_content}
 use Rattle.osm_base.specs.Rank.{is_key}
 use Rattle.osm_base.specs.Tags.{Pair}
 use Rattle.osm_base.proofs.AnyMap.{list_any_map}
@@ -22,81 +25,31 @@ use Rattle.osm_table.specs.declared.entry.Entry.{Entry}
 use Rattle.osm_table.specs.declared.entry.Entry.TheVariants.{Incomplete, Known}
 use Rattle.osm_table.specs.Table.{TableValue, entry_of, keys_by_rank, uses, mine_of, Each, IsThere}
 use Rattle.dataset.specs.Sound.{IsSound, IsSoundEntry, IsNumber, LivesIn}
-use Rattle.dataset.proofs.Changes.{deleted_entry}
-use Rattle.dataset.proofs.Differs.{same_at_decides}
+use Rattle.dataset.proofs.Changes.{deleted_entry, either_there}
 use Rattle.dataset.proofs.Listed.{user_uses}
 use Rattle.tool_api.specs.declared.kinds.Kinds.TheVariants.{Ways}
-use Rattle.tool_api.specs.declared.refusal.Refusal.TheVariants.{InConflict, MemberClash}
+use Rattle.tool_api.specs.declared.refusal.Refusal.TheVariants.{MemberClash}
 use Rattle.tool_api.specs.Checks.{is_named, first_of, target_test, entry_test, twice_test, list_tests}
 use Rattle.tool_api.specs.Changes.{edit, delete, deleted, with_mine, content_of}
-use Rattle.tool_api.specs.Closing.{closing_tests, changes_conflict, conflict_change_test, in_conflict, makes_unfit}
+use Rattle.tool_api.specs.Closing.{closing_tests, in_conflict}
 use Rattle.tool_api.specs.Gone.{is_relation}
-use Rattle.tool_api.specs.Upkeep.{first_in, is_among, folded}
+use Rattle.tool_api.specs.Upkeep.{is_among, folded}
 use Rattle.tool_api.specs.Split.{way_refs}
 use Rattle.tool_api.specs.Combine.{joined, united, all_tags, clashes, member_test, is_positive, kept_way, as_way, fold_runs, relations_among, combined}
-use Rattle.tool_api.proofs.Least.{has_key, conflict_some}
-use Rattle.tool_api.proofs.Passed.{Lives, lives, named_lives, passes, both_none, none_passes, passed_tests, keeps_fit, fits_or_stays, none_in}
-use Rattle.way_combine.proofs.Among.{way_kind, user_is, uses_one, some_user}
+use Rattle.tool_api.proofs.Least.{has_key}
+use Rattle.tool_api.proofs.Passed.{Lives, lives, named_lives, passes, both_none, none_passes, passed_tests, none_in}
+use Rattle.way_combine.proofs.Among.{way_kind, user_is}
 use Rattle.way_combine.proofs.Joints.{Only, joined_only}
-use Rattle.way_combine.proofs.Looks.{entry_thrice, next_thrice, four_cases}
 use Rattle.way_combine.proofs.Runs.{folds_alike, folded_stays, Stays}
-use Rattle.tool_api.proofs.Bools.{and_right, both, left_alone, or_true}
-use Rattle.tool_api.proofs.Sounds.{content_edited, edited_there}
+use Rattle.tool_api.proofs.Bools.{left_alone}
+use Rattle.tool_api.proofs.Sounds.{edited_there}
+use Rattle.tool_api.proofs.Changed.{entry_thrice, next_thrice, four_cases, leaves_conflict, fits_edited, sound_edited, edited_from, deleted_from}
+use Rattle.tool_api.proofs.Named.{uses_one, some_user, find_named, or_case}
 
 -- The kept way is one of the ways.
 
-found_case : (j k : Key) (ks : List Key) (o : Option Key) (b : Bool) → cond b (Some j) o ≡ Some k → (o ≡ Some k → is_named ks k ≡ true) → is_named (j ∷ ks) k ≡ true
-found_case j k ks o true e rest = (let i : j ≡ k = cc in ap (λ (x : Key). is_key k x || is_named ks k) i ∙ ap (λ b. b || is_named ks k) (key_itself k))
-found_case j k ks o false e rest = ap (λ b. is_key k j || b) (rest e) ∙ or_true (is_key k j)
-
-find_named : (p : Key → Bool) (ks : List Key) (k : Key) → find p ks ≡ Some k → is_named ks k ≡ true
-find_named p [] k e = cc
-find_named p (j ∷ ks) k e = found_case j k ks (find p ks) (p j) e (find_named p ks k)
-
-first_named : (ks : List Key) (k : Key) → first_in ks ≡ Some k → is_named ks k ≡ true
-first_named [] k e = cc
-first_named (j ∷ ks) k e = (let i : j ≡ k = cc in ap (λ (x : Key). is_key k x || is_named ks k) i ∙ ap (λ b. b || is_named ks k) (key_itself k))
-
-or_case : (ks : List Key) (k : Key) (o : Option Key) → option_or o (first_in ks) ≡ Some k → (o ≡ Some k → is_named ks k ≡ true) → is_named ks k ≡ true
-or_case ks k None e h = first_named ks k e
-or_case ks k (Some j) e h = h e
-
 pub kept_named : (ways : List Key) (kept : Key) → kept_way ways ≡ Some kept → is_named ways kept ≡ true
 kept_named ways kept e = or_case ways kept (find (λ (k : Key). is_positive k.id) ways) e (find_named (λ (k : Key). is_positive k.id) ways kept)
-
--- What a change that wasn't refused has left.
-
--- an entry in conflict that isn't named is as it was
-conflict_case : (a b c : Bool) → (a && not b && not c) ≡ false → a ≡ true → b ≡ false → c ≡ true
-conflict_case true false true e f g = refl
-conflict_case true false false e f g = cc
-conflict_case true true c e f g = cc
-conflict_case false b c e f g = cc
-
-leaves_conflict : (t u : TableValue) (named : List Key) (k : Key) → conflict_change_test t named u ≡ None → in_conflict (entry_of t k) ≡ true → is_named named k ≡ false → entry_of t k ≡ entry_of u k
-leaves_conflict t u named k passed conflict apart =
-    let calm : changes_conflict named k (entry_of t k) (entry_of u k) ≡ false =
-    none_passes (λ (j : Key). changes_conflict named j (entry_of t j) (entry_of u j)) (keys_by_rank t) k (none_in (find (λ (j : Key). changes_conflict named j (entry_of t j) (entry_of u j)) (keys_by_rank t)) InConflict passed) (has_key t k (conflict_some (entry_of t k) conflict)) in
-    (same_at_decides (entry_of t k) (entry_of u k)).0 (conflict_case _ (is_named named k) _ calm conflict apart)
-
--- an edited content fits, or is what it was
-fits_edited : (t u : TableValue) (limit : ℕ) (named : List Key) (k : Key) (base : Base) (c d : Content) → closing_tests t limit named u ≡ None
-    → entry_of t k ≡ Some (Known base (Some c) None) → entry_of u k ≡ Some (Known base (Some d) None) → (fits d ≡ true) ⊎ (Some c ≡ Some d)
-fits_edited t u limit named k base c d passed was is =
-    let fine : makes_unfit (Some c) (Some d) ≡ false =
-    (let a = sym was in let b = sym is in λ i. makes_unfit (option_and_then mine_of (a i)) (option_and_then mine_of (b i))) ∙ keeps_fit t u limit named k _ passed is in
-    fits_or_stays (Some c) d fine
-
-sound_edited : (n : ℕ) (k : Key) (base : Base) (c d : Content) → kind_of_content d ≡ k.kind → (fits d ≡ true) ⊎ (Some c ≡ Some d) → IsSoundEntry n k (Known base (Some c) None) → IsSoundEntry n k (Known base (Some d) None)
-sound_edited n k base c d kind fit s = content_edited n (λ _. d) k base c (kind ∙ sym s.kinds.1) fit s
-
-edited_from : (P : Entry → Type 0) (f : Content → Content) (e : Entry) (o : Option Entry) → option_map (with_mine f) o ≡ Some e → ((x : Entry) → o ≡ Some x → with_mine f x ≡ e → P e) → P e
-edited_from P f e None has h = cc
-edited_from P f e (Some x) has h = h x refl (let i : with_mine f x ≡ e = cc in i)
-
-deleted_from : (P : Entry → Type 0) (e : Entry) (o : Option Entry) → option_and_then deleted o ≡ Some e → ((x : Entry) → o ≡ Some x → deleted x ≡ Some e → P e) → P e
-deleted_from P e None has h = cc
-deleted_from P e (Some x) has h = h x refl has
 
 -- The nodes of references.
 
@@ -108,7 +61,7 @@ int_one n m e = (Decides-int_eq n m).0 e
 
 nodes_case : (n m : ℤ) (ids : List ℤ) (b : Bool) → int_eq n m ≡ b → (b || is_among ids n) ≡ true → (is_among ids n ≡ true → list_any (is_key (node n)) (map node ids) ≡ true) → list_any (is_key (node n)) (map node (m ∷ ids)) ≡ true
 nodes_case n m ids true is e rest = ap (λ b. b || list_any (is_key (node n)) (map node ids)) (ap (λ (x : ℤ). is_key (node n) (node x)) (sym (int_one n m is)) ∙ key_itself (node n))
-nodes_case n m ids false is e rest = ap (λ b. is_key (node n) (node m) || b) (rest e) ∙ or_true (is_key (node n) (node m))
+nodes_case n m ids false is e rest = ap (λ b. is_key (node n) (node m) || b) (rest e) ∙ or-true (is_key (node n) (node m))
 
 among_nodes : (ids : List ℤ) (n : ℤ) → is_among ids n ≡ true → list_any (is_key (node n)) (map node ids) ≡ true
 among_nodes [] n h = cc
@@ -119,7 +72,7 @@ NodeOf ids r = (n : ℤ) × (r ≡ node n) × (is_among ids n ≡ true)
 
 node_case : (m : ℤ) (ids : List ℤ) (r : Key) (b : Bool) → is_key r (node m) ≡ b → (b || list_any (is_key r) (map node ids)) ≡ true → (list_any (is_key r) (map node ids) ≡ true → NodeOf ids r) → NodeOf (m ∷ ids) r
 node_case m ids r true is e rest = (m, one_key r (node m) is, ap (λ b. b || is_among ids m) (int_itself m))
-node_case m ids r false is e rest = let w = rest e in (w.0, w.1, ap (λ b. int_eq w.0 m || b) w.2 ∙ or_true (int_eq w.0 m))
+node_case m ids r false is e rest = let w = rest e in (w.0, w.1, ap (λ b. int_eq w.0 m || b) w.2 ∙ or-true (int_eq w.0 m))
 
 node_among : (ids : List ℤ) (r : Key) → list_any (is_key r) (map node ids) ≡ true → NodeOf ids r
 node_among [] r h = cc
@@ -169,7 +122,7 @@ module _ (t : TableValue) (limit : ℕ) (ways : List Key) (refs : List ℤ) (kep
   kept_among q h = ap (is_named ways) (only_kept q h) ∙ kept_named ways kept p.kept_is
 
   other_among : (q : Key) → is_named others q ≡ true → is_named ways q ≡ true
-  other_among q h = and_right (not (is_key kept q)) (is_named ways q) (sym (in_filter (λ (k : Key). not (is_key kept k)) q ways) ∙ h)
+  other_among q h = second_so (not (is_key kept q)) (is_named ways q) (sym (in_filter (λ (k : Key). not (is_key kept k)) q ways) ∙ h)
 
   -- Each entry by itself.
 
@@ -218,10 +171,6 @@ module _ (t : TableValue) (limit : ℕ) (ways : List Key) (refs : List ℤ) (kep
       (kept_sound q e has) (other_sound q e) (λ here is. rel_sound q e has is) (λ a b c is. p.sound.entries q e is)
 
   -- What entries refer to.
-
-  either_there : (b : Bool) (x y : Option Entry) → IsThere x → IsThere y → IsThere (cond b x y)
-  either_there true x y h g = h
-  either_there false x y h g = g
 
   cut_there : (a b : Bool) (x y z : Option Entry) → (a ≡ true) ⊎ (b ≡ false) → IsThere x → IsThere z → IsThere (cond a x (cond b y z))
   cut_there true b x y z h f g = f
@@ -321,7 +270,7 @@ module _ (t : TableValue) (limit : ℕ) (ways : List Key) (refs : List ℤ) (kep
       let usage : option_map_or (λ (x : Entry). uses x r) (entry_of t q) false ≡ true = ap (λ (o : Option Entry). option_map_or (λ (x : Entry). uses x r) o false) is ∙ used in
       let h = user_is r (entry_of t q) (named_way r named) usage in
       in_filter (λ (k : Key). option_map_or is_relation (content_of t k) false && uses_one t ways k) q (keys_by_rank t)
-      ∙ both _ _ (both _ _ h.1 (some_user t ways q r named (user_uses t r q ∙ usage))) (has_key t q h.0)
+      ∙ and_from _ _ (and_from _ _ h.1 (some_user t ways q r named (user_uses t r q ∙ usage))) (has_key t q h.0)
 
   rest_closed : (q : Key) (e : Entry) → is_named rels q ≡ false → entry_of t q ≡ Some e → LivesIn after e
   rest_closed q e apart is r used =

@@ -10,17 +10,19 @@ use Rattle.std.specs.FinMap.Entries.{is_sorted, is_sorted-put, find-put, by_orde
 use Rattle.std.proofs.lemmas.Cmp.{nat_list_cmp_total}
 use Rattle.std.proofs.lemmas.List.Sums.{fold-append}
 use Rattle.std.specs.List.Sorted.{IsPermutation, IsSortedBy}
+use Rattle.std.specs.Cmp.{Equal-is}
 use Rattle.std.proofs.lemmas.List.Sorted.{list_any-IsPermutation, sorted_far, ranks_by}
+use Rattle.std.proofs.Math.Bool.{or-true}
 use Rattle.osm_base.specs.Same.{same_text, same_tag}
 use Rattle.osm_base.specs.Tags.{Pair, bytes_cmp, value_of, with_tag}
 use Rattle.osm_base.proofs.SameLaws.{same_text_decides, same_tag_decides}
-use Rattle.osm_base.proofs.TagLaws.{one_key, key_itself, value_of_put, fore, aft}
+use Rattle.osm_base.proofs.TagLaws.{one_key, key_itself, value_of_put}
+use Rattle.osm_base.proofs.Tests.{both_T, first_T, second_T, true_from_T}
 use Rattle.tool_api.specs.declared.refusal.Refusal.{Refusal}
 use Rattle.tool_api.specs.declared.refusal.Refusal.TheVariants.{TagClash}
 use Rattle.tool_api.specs.Checks.{◌>>◌}
 use Rattle.tool_api.specs.Combine.{united, clash_test}
 use Rattle.way_combine.specs.Parts.{unless, differs, put_on, union_of}
-use Rattle.tool_api.proofs.Bools.{or_true}
 
 -- a tag is one of those
 abbrev pub In : Pair → List Pair → Type 0
@@ -43,13 +45,8 @@ in_either p (x ∷ xs) ys (inr h) = elim (in_either p xs ys h) [ inl a ↦ inl (
 
 -- Keys and values.
 
-tied : (o : Ordering) → is_eq o ≡ true → o ≡ Equal
-tied Less e = cc
-tied Equal e = refl
-tied Greater e = cc
-
 one_text : (k j : List ℕ) → eq_by_cmp bytes_cmp k j ≡ true → k ≡ j
-one_text k j e = one_key k j (tied (bytes_cmp k j) e)
+one_text k j e = one_key k j ((Equal-is (bytes_cmp k j)).0 e)
 
 pair_of : (k v : List ℕ) (t : Pair) → k ≡ t.0 → v ≡ t.1 → (k, v) ≡ t
 pair_of k v t p q = λ i. (p i, q i)
@@ -153,7 +150,7 @@ some_clash (t ∷ ts) p q (inl e) same apart =
     let b : not (same_text p.1 t.1) ≡ true = unlike_case p.1 t.1 (same_text p.1 t.1) refl (λ f. apart (f ∙ sym (ap (λ (x : Pair). x.1) e))) in
     λ i. (a i && b i) || clash_in ts p
 some_clash (t ∷ ts) p q (inr h) same apart =
-    ap (λ c. (same_text p.0 t.0 && not (same_text p.1 t.1)) || c) (some_clash ts p q h same apart) ∙ or_true (same_text p.0 t.0 && not (same_text p.1 t.1))
+    ap (λ c. (same_text p.0 t.0 && not (same_text p.1 t.1)) || c) (some_clash ts p q h same apart) ∙ or-true (same_text p.0 t.0 && not (same_text p.1 t.1))
 
 none_found : (C : Pair → Bool) (ts : List Pair) → ((p : Pair) → In p ts → C p ≡ false) → find C ts ≡ None
 none_found C [] h = refl
@@ -186,18 +183,14 @@ same_union xs ys agree to from =
 
 below_in : (k : List ℕ) (ts : List Pair) (p : Pair) → T (below_all bytes_cmp k ts) → In p ts → T (is_lt (bytes_cmp k p.0))
 below_in k [] p h has = absurd has
-below_in k (t ∷ ts) p h (inl e) = subst (λ (x : Pair). T (is_lt (bytes_cmp k x.0))) (sym e) (fore (is_lt (bytes_cmp k t.0)) _ h)
-below_in k (t ∷ ts) p h (inr has) = below_in k ts p (aft (is_lt (bytes_cmp k t.0)) _ h) has
-
-is_true : (b : Bool) → T b → b ≡ true
-is_true true h = refl
-is_true false h = absurd h
+below_in k (t ∷ ts) p h (inl e) = subst (λ (x : Pair). T (is_lt (bytes_cmp k x.0))) (sym e) (first_T (is_lt (bytes_cmp k t.0)) _ h)
+below_in k (t ∷ ts) p h (inr has) = below_in k ts p (second_T (is_lt (bytes_cmp k t.0)) _ h) has
 
 first_case : (C : Pair → Bool) (t : Pair) (ts : List Pair) (p : Pair) (b : Bool) → C t ≡ b → T (below_all bytes_cmp t.0 ts) → In p (t ∷ ts) → C p ≡ true
     → ((q : Pair) → In q (t ∷ ts) → is_lt (bytes_cmp q.0 p.0) ≡ true → C q ≡ false) → (In p ts → option_map (λ (q : Pair). TagClash q.0) (find C ts) ≡ Some (TagClash p.0))
     → option_map (λ (q : Pair). TagClash q.0) (cond b (Some t) (find C ts)) ≡ Some (TagClash p.0)
 first_case C t ts p true is sorted (inl e) clash least rest = ap (λ (x : Pair). Some (TagClash x.0)) (sym e)
-first_case C t ts p true is sorted (inr has) clash least rest = (let f : C t ≡ false = least t (inl refl) (is_true _ (below_in t.0 ts p sorted has)) in cc)
+first_case C t ts p true is sorted (inr has) clash least rest = (let f : C t ≡ false = least t (inl refl) (true_from_T _ (below_in t.0 ts p sorted has)) in cc)
 first_case C t ts p false is sorted (inl e) clash least rest = (let f : C t ≡ true = ap C (sym e) ∙ clash in cc)
 first_case C t ts p false is sorted (inr has) clash least rest = rest has
 
@@ -205,8 +198,8 @@ first_found : (C : Pair → Bool) (ts : List Pair) (p : Pair) → T (is_sorted b
     → ((q : Pair) → In q ts → is_lt (bytes_cmp q.0 p.0) ≡ true → C q ≡ false) → option_map (λ (q : Pair). TagClash q.0) (find C ts) ≡ Some (TagClash p.0)
 first_found C [] p sorted has clash least = absurd has
 first_found C (t ∷ ts) p sorted has clash least =
-    first_case C t ts p (C t) refl (fore (below_all bytes_cmp t.0 ts) _ sorted) has clash least
-    (λ more. first_found C ts p (aft (below_all bytes_cmp t.0 ts) _ sorted) more clash (λ q in_q. least q (inr in_q)))
+    first_case C t ts p (C t) refl (first_T (below_all bytes_cmp t.0 ts) _ sorted) has clash least
+    (λ more. first_found C ts p (second_T (below_all bytes_cmp t.0 ts) _ sorted) more clash (λ q in_q. least q (inr in_q)))
 
 -- two values of one key differ from each other, so one differs from any
 other_value : (tags : List Pair) (k u v w : List ℕ) (b : Bool) → same_text u v ≡ b → In (k, v) tags → In (k, w) tags → v ≢ w → clash_in tags (k, u) ≡ true
@@ -319,7 +312,7 @@ is_tag p t e = (same_tag_decides p t).1 e
 in_any : (ts : List Pair) (p : Pair) → In p ts → list_any (same_tag p) ts ≡ true
 in_any [] p h = absurd h
 in_any (t ∷ ts) p (inl e) = ap (λ b. b || list_any (same_tag p) ts) (is_tag p t e)
-in_any (t ∷ ts) p (inr h) = ap (λ b. same_tag p t || b) (in_any ts p h) ∙ or_true (same_tag p t)
+in_any (t ∷ ts) p (inr h) = ap (λ b. same_tag p t || b) (in_any ts p h) ∙ or-true (same_tag p t)
 
 any_case : (ts : List Pair) (p t : Pair) (b : Bool) → same_tag p t ≡ b → (b || list_any (same_tag p) ts) ≡ true → (list_any (same_tag p) ts ≡ true → In p ts) → In p (t ∷ ts)
 any_case ts p t true is h rest = inl ((same_tag_decides p t).0 is)
@@ -363,16 +356,12 @@ Named ts = T (list_all (λ (t : Pair). nat_lt 0 (length t.0)) ts)
 
 named_in : (ts : List Pair) (p : Pair) → Named ts → In p ts → T (nat_lt 0 (length p.0))
 named_in [] p h has = absurd has
-named_in (t ∷ ts) p h (inl e) = subst (λ (x : Pair). T (nat_lt 0 (length x.0))) (sym e) (fore (nat_lt 0 (length t.0)) _ h)
-named_in (t ∷ ts) p h (inr has) = named_in ts p (aft (nat_lt 0 (length t.0)) _ h) has
-
-anded : (a b : Bool) → T a → T b → T (a && b)
-anded true b p q = q
-anded false b p q = p
+named_in (t ∷ ts) p h (inl e) = subst (λ (x : Pair). T (nat_lt 0 (length x.0))) (sym e) (first_T (nat_lt 0 (length t.0)) _ h)
+named_in (t ∷ ts) p h (inr has) = named_in ts p (second_T (nat_lt 0 (length t.0)) _ h) has
 
 in_named : (ts : List Pair) → ((p : Pair) → In p ts → T (nat_lt 0 (length p.0))) → Named ts
 in_named [] h = tt
-in_named (t ∷ ts) h = anded _ _ (h t (inl refl)) (in_named ts (λ p has. h p (inr has)))
+in_named (t ∷ ts) h = both_T _ _ (h t (inl refl)) (in_named ts (λ p has. h p (inr has)))
 
 -- their keys are no less named
 pub named_sorted : (xs ys zs : List Pair) → Named xs → IsPermutation xs ys → zs ≡ ys → Named zs

@@ -3,6 +3,7 @@ use Rattle.std.proofs.Common.{◌≡◌, ◌||◌, ◌+◌, ◌<◌, ◌≤◌, 
 use mathlib.Core.Logic.{◌⊎◌, inl, inr}
 use Rattle.std.specs.List.{AllByRecursion, list_any}
 use Rattle.std.proofs.lemmas.Bool.Decides.{nat_tests}
+use Rattle.std.proofs.lemmas.Bool.{or_right, or_left, or_parts}
 use Rattle.osm_base.specs.Rank.{is_key}
 use Rattle.osm_base.specs.Content.{kind_of_content, node}
 use Rattle.osm_base.specs.Tags.{Pair}
@@ -12,6 +13,7 @@ use Rattle.osm_base.specs.declared.key.Kind.TheVariants as kind
 use Rattle.osm_base.specs.declared.content.Content.{Content}
 use Rattle.osm_base.specs.declared.content.Content.TheVariants as content
 use Rattle.osm_base.proofs.RisingKeys.{one_key, key_itself}
+use Rattle.osm_base.proofs.Tests.{by_bool}
 use Rattle.osm_table.specs.declared.entry.Base.TheVariants.{New}
 use Rattle.osm_table.specs.declared.entry.Entry.{Entry}
 use Rattle.osm_table.specs.declared.entry.Entry.TheVariants.{Known}
@@ -20,7 +22,6 @@ use Rattle.osm_table.proofs.Each.{same_table}
 use Rattle.tool_api.specs.Checks.{is_named}
 use Rattle.tool_api.specs.Changes.{placed, changed, new_key, added, all_added}
 use Rattle.tool_api.proofs.Looks.{entry_placed, next_placed}
-use Rattle.tool_api.proofs.Bools.{or_left, or_right, none_of_two, by_bool}
 use Rattle.tool_api.proofs.Added.{added_at, at_added, there_all, RefersIn}
 
 abbrev pub ways_of : List Pair → List (Key × List ℤ) → List Content
@@ -33,7 +34,7 @@ same_from : (n m : ℕ) → n ≤ m → nat_lt n m ≡ false → m ≡ n
 same_from n m h e = grind (arith, nat_tests)
 
 same_or_more : (n m : ℕ) → n ≤ m → (m ≡ n) ⊎ (n + 1 ≤ m)
-same_or_more n m h = by_bool (nat_lt n m) ((m ≡ n) ⊎ (n + 1 ≤ m)) (λ e. inr (more_from n m e)) (λ e. inl (same_from n m h e))
+same_or_more n m h = by_bool (nat_lt n m) (λ e. inr (more_from n m e)) (λ e. inl (same_from n m h e))
 
 pub new_there : (x : TableValue) (tags : List Pair) (ps : List (Key × List ℤ)) (m : ℕ) → 1 ≤ x.next → x.next ≤ m → m < x.next + length ps → IsThere (entry_of (all_added x (ways_of tags ps)) (new_key kind.Way m))
 new_there x tags [] m one low high = absurd (omega arith)
@@ -64,7 +65,7 @@ added_placed x k (Some e) c apart =
 added_changed : (x : TableValue) (g : Key → Option Entry) (ks : List Key) (c : Content) → is_named ks (new_key (kind_of_content c) x.next) ≡ false → added (changed x g ks) c ≡ changed (added x c) g ks
 added_changed x g [] c out = refl
 added_changed x g (k ∷ ks) c out =
-    let p = none_of_two (is_key (new_key (kind_of_content c) x.next) k) (is_named ks (new_key (kind_of_content c) x.next)) out in
+    let p = or_parts (is_key (new_key (kind_of_content c) x.next) k) (is_named ks (new_key (kind_of_content c) x.next)) out in
     added_changed (placed x k (g k)) g ks c (ap (λ n. is_named ks (new_key (kind_of_content c) n)) (next_placed x k (g k)) ∙ p.1)
     ∙ ap (λ (y : TableValue). changed y g ks) (added_placed x k (g k) c p.0)
 

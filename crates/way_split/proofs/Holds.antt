@@ -1,25 +1,12 @@
 -- What holds of each node of a way holds of each node of its pieces.
-use Rattle.std.proofs.Common.{◌+◌, ◌-◌, ◌==◌, ◌&&◌, ℕ, zero, suc, ℤ, Bool, true, false, cond, nat_lt, List, [], ◌∷◌, ◌++◌, length, drop, take, Option, Some}
+use Rattle.std.proofs.Common.{◌+◌, ◌-◌, ◌==◌, ◌&&◌, ℕ, ℤ, Bool, true, false, cond, nat_lt, List, [], ◌∷◌, ◌++◌, length, drop, take, Option, Some}
 use Rattle.std.specs.List.{AllByRecursion, find, filter, position_or_len}
 use Rattle.std.specs.Option.{option_map_or}
 use Rattle.osm_base.specs.declared.key.Key.{Key}
 use Rattle.osm_base.specs.declared.key.Kind.TheVariants as kind
+use Rattle.osm_base.proofs.Lists.{all_joined, all_taken, all_dropped}
 use Rattle.tool_api.specs.Changes.{new_key}
 use Rattle.tool_api.specs.Split.{pieces_from, pieces, is_closed, turned, all_pieces, keyed}
-
-all_joined : {X : Type 0} (P : X → Type 0) (xs ys : List X) → AllByRecursion P xs → AllByRecursion P ys → AllByRecursion P (xs ++ ys)
-all_joined P [] ys h g = g
-all_joined P (x ∷ xs) ys h g = (h.0, all_joined P xs ys h.1 g)
-
-all_taken : {X : Type 0} (P : X → Type 0) (i : ℕ) (xs : List X) → AllByRecursion P xs → AllByRecursion P (take i xs)
-all_taken P zero xs h = tt
-all_taken P (suc i) [] h = tt
-all_taken P (suc i) (x ∷ xs) h = (h.0, all_taken P i xs h.1)
-
-all_dropped : {X : Type 0} (P : X → Type 0) (i : ℕ) (xs : List X) → AllByRecursion P xs → AllByRecursion P (drop i xs)
-all_dropped P zero xs h = h
-all_dropped P (suc i) [] h = tt
-all_dropped P (suc i) (x ∷ xs) h = all_dropped P i xs h.1
 
 module _ (P : ℤ → Type 0) where
   abbrev All : List ℤ → Type 0

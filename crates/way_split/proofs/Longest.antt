@@ -2,14 +2,12 @@
 use Rattle.std.proofs.Common.{◌≡◌, ◌+◌, ◌<◌, ◌≤◌, ℕ, ℤ, zero, suc, Bool, true, false, cond, nat_lt, List, [], ◌∷◌, length, refl, sym, subst, arith}
 use mathlib.Core.Logic.{◌⊎◌, inl, inr}
 use Rattle.std.proofs.lemmas.Bool.Decides.{nat_tests}
+use Rattle.std.proofs.lemmas.Bool.{ltb-false}
 use Rattle.tool_api.specs.Split.{longest_from, kept_number}
 use Rattle.way_split.specs.Pieces.{size_at, IsFirstLongest}
 
 is_less : (m n : ℕ) → nat_lt m n ≡ true → m < n
 is_less m n e = grind (arith, nat_tests)
-
-no_less : (m n : ℕ) → nat_lt m n ≡ false → n ≤ m
-no_less m n e = grind (arith, nat_tests)
 
 -- none has more references
 abbrev AtMost : ℕ → List (List ℤ) → Type 0
@@ -71,7 +69,7 @@ passed_over i best size p ps n h (inr l) = let m = l.more in inr (record {
 next_case : (c : Bool) (i best size : ℕ) (p : List ℤ) (ps : List (List ℤ)) → nat_lt size (length p) ≡ c → Found (i + 1) i (length p) ps (longest_from (i + 1) i (length p) ps) → Found (i + 1) best size ps (longest_from (i + 1) best size ps)
     → Found i best size (p ∷ ps) (cond c (longest_from (i + 1) i (length p) ps) (longest_from (i + 1) best size ps))
 next_case true i best size p ps is f g = inr (head_best i size p ps _ (is_less size (length p) is) f)
-next_case false i best size p ps is f g = passed_over i best size p ps _ (no_less size (length p) is) g
+next_case false i best size p ps is f g = passed_over i best size p ps _ (ltb-false size (length p) is) g
 
 found : (i best size : ℕ) (ps : List (List ℤ)) → Found i best size ps (longest_from i best size ps)
 found i best size [] = inl (refl, λ j lt. absurd (omega (arith, lt)))

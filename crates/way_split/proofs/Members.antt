@@ -5,6 +5,7 @@ use mathlib.Core.List.{reverse-cons}
 use Rattle.std.specs.List.{list_any, find}
 use Rattle.std.specs.Option.{option_or, option_map_or}
 use Rattle.std.proofs.lemmas.List.Folds.{list_any-append}
+use Rattle.std.proofs.lemmas.Bool.{or_right, or_cases}
 use Rattle.osm_base.specs.Rank.{is_key}
 use Rattle.osm_base.specs.Content.{refers, kind_of_content}
 use Rattle.osm_base.specs.declared.key.Key.{Key}
@@ -13,7 +14,6 @@ use Rattle.osm_base.specs.declared.content.Content.{Content}
 use Rattle.osm_base.specs.declared.content.Content.TheVariants as content
 use Rattle.osm_table.specs.Table.{TableValue}
 use Rattle.tool_api.specs.Upkeep.{PieceValue, first_in, member_of, restricted_piece, is_among, in_order, is_turn, pieces_between, first_node, last_node, stand_ins, replaced_from, replaced}
-use Rattle.tool_api.proofs.Bools.{or_right, either_is}
 
 -- whether a member names the key
 abbrev among : Key → List Member → Bool
@@ -61,7 +61,7 @@ found_piece r test (p ∷ ps) q e is = found_case r (test p) p q ps (find test p
 
 one_case : (r : Key) (role : List ℕ) (o : Option PieceValue) (P : Type 0) → ((q : PieceValue) → o ≡ Some q → is_key r q.key ≡ true → P) → among r (option_map_or (λ (p : PieceValue). member_of p role ∷ []) o []) ≡ true → P
 one_case r role None P there e = let f : false ≡ true = e in cc
-one_case r role (Some q) P there e = elim (either_is (is_key r q.key) false e) [
+one_case r role (Some q) P there e = elim (or_cases (is_key r q.key) false e) [
   | inl is ↦ there q refl is
   | inr never ↦ (let f : false ≡ true = never in cc)
 ]
@@ -92,7 +92,7 @@ module _ (t : TableValue) (way : Key) (ps : List PieceValue) where
 
   one_member : (r : Key) (b : Bool) (m : Member) (xs : List Member) → among r (cond b xs (m ∷ [])) ≡ true → (among r xs ≡ true → has_piece r ps ≡ true) → (is_key r m.key ≡ true) ⊎ (has_piece r ps ≡ true)
   one_member r true m xs e there = inr (there e)
-  one_member r false m xs e there = elim (either_is (is_key r m.key) false e) [
+  one_member r false m xs e there = elim (or_cases (is_key r m.key) false e) [
     | inl is ↦ inl is
     | inr never ↦ (let f : false ≡ true = never in cc)
   ]
@@ -110,7 +110,7 @@ module _ (t : TableValue) (way : Key) (ps : List PieceValue) where
   members_from r v before (m ∷ ms) e =
       let here = cond (is_key way m.key) (stand_ins t way ps v before m (first_in ms)) (m ∷ []) in
       let rest = replaced_from t way ps v (Some m) ms in
-      elim (either_is (among r here) (among r rest) (sym (among_joined r here rest) ∙ e)) [
+      elim (or_cases (among r here) (among r rest) (sym (among_joined r here rest) ∙ e)) [
         | inl a ↦ left_or (is_key r m.key) (among r ms) (has_piece r ps ≡ true) (one_member r (is_key way m.key) m (stand_ins t way ps v before m (first_in ms)) a (stands_for r v before m (first_in ms)))
         | inr b ↦ right_or (is_key r m.key) (among r ms) (has_piece r ps ≡ true) (members_from r v (Some m) ms b)
       ]

@@ -4,7 +4,8 @@ use Rattle.std.specs.List.{list_any}
 use Rattle.osm_base.specs.Rank.{is_key}
 use Rattle.osm_base.specs.declared.key.Key.{Key}
 use Rattle.osm_base.specs.declared.key.Kind.TheVariants as kind
-use Rattle.osm_base.proofs.RisingKeys.{one_key, key_itself}
+use Rattle.osm_base.proofs.RisingKeys.{key_itself}
+use Rattle.osm_base.proofs.Lists.{at_case}
 use Rattle.tool_api.specs.Changes.{new_key}
 use Rattle.tool_api.specs.Split.{keyed, piece_of, others}
 use Rattle.way_split.proofs.Members.{has_piece}
@@ -22,10 +23,6 @@ pub others_new : (way k : Key) (p : List ℤ) (ps : List (Key × List ℤ)) → 
 others_new way k p ps e = ap (λ b. cond (not b) ((k, p) ∷ others way ps) (others way ps)) e
 
 module _ (P : Key → Type 0) (way : Key) (here : P way) where
-  at_head : (r k : Key) (b : Bool) (rest : Bool) → is_key r k ≡ b → (b || rest) ≡ true → P k → (rest ≡ true → P r) → P r
-  at_head r k true rest is e p there = subst P (sym (one_key r k is)) p
-  at_head r k false rest is e p there = there e
-
   abbrev Fresh : ℕ → Type 0
   Fresh n = (m : ℕ) → n ≤ m → is_key way (new_key kind.Way m) ≡ false
 
@@ -38,10 +35,10 @@ module _ (P : Key → Type 0) (way : Key) (here : P way) where
       → New n (length (others way (cond b ((way, p) ∷ front) ((new_key kind.Way n, p) ∷ cs))))
       → list_any (λ (p : Key × List ℤ). is_key r p.0) (cond b ((way, p) ∷ front) ((new_key kind.Way n, p) ∷ cs)) ≡ true → P r
   part_case true r n p front cs fresh left right new e =
-      at_head r way (is_key r way) _ refl e here (left (subst (λ (xs : List (Key × List ℤ)). New n (length xs)) (others_kept way p front) new))
+      at_case P way r (is_key r way) _ refl e here (left (subst (λ (xs : List (Key × List ℤ)). New n (length xs)) (others_kept way p front) new))
   part_case false r n p front cs fresh left right new e =
       let all : New n (suc (length (others way cs))) = subst (λ (xs : List (Key × List ℤ)). New n (length xs)) (others_new way (new_key kind.Way n) p cs (fresh n (omega arith))) new in
-      at_head r (new_key kind.Way n) (is_key r (new_key kind.Way n)) _ refl e (all n (omega arith) (omega arith)) (right (λ m low high. all m (omega arith) (omega arith)))
+      at_case P (new_key kind.Way n) r (is_key r (new_key kind.Way n)) _ refl e (all n (omega arith) (omega arith)) (right (λ m low high. all m (omega arith) (omega arith)))
 
   parts_are : (kept i n : ℕ) (r : Key) (ps : List (List ℤ)) → Fresh n → New n (length (others way (keyed way kept i n ps))) → list_any (λ (p : Key × List ℤ). is_key r p.0) (keyed way kept i n ps) ≡ true → P r
   parts_are kept i n r [] fresh new e = let f : false ≡ true = e in cc

@@ -7,6 +7,7 @@ use mathlib.Core.Logic.{◌⊎◌, inl, inr}
 use Rattle.std.specs.List.{AllByRecursion, find}
 use Rattle.std.specs.Option.{option_map, option_map_or, option_and_then}
 use Rattle.std.specs.FinMap as fin
+use Rattle.std.specs.Cmp.{first_so}
 use Rattle.osm_base.specs.Rank.{is_key}
 use Rattle.osm_base.specs.RisingKeys.{is_in}
 use Rattle.osm_base.specs.Content.{fits, kind_of_content, node}
@@ -18,6 +19,7 @@ use Rattle.osm_base.specs.declared.members.Member.{Member}
 use Rattle.osm_base.specs.declared.content.Content.{Content}
 use Rattle.osm_base.specs.declared.content.Content.TheVariants as content
 use Rattle.osm_base.proofs.RisingKeys.{one_key, key_turned, in_filter}
+use Rattle.osm_base.proofs.Tests.{by_bool}
 use Rattle.osm_table.specs.declared.entry.Base.{Base}
 use Rattle.osm_table.specs.declared.entry.Conflict.{Conflict}
 use Rattle.osm_table.specs.declared.entry.Entry.{Entry}
@@ -28,7 +30,6 @@ use Rattle.dataset.specs.Sound.{IsSound, IsSoundEntry, IsNumber, LivesIn}
 use Rattle.dataset.proofs.Differs.{same_at_decides}
 use Rattle.dataset.proofs.Kept.{entry_more}
 use Rattle.tool_api.specs.declared.kinds.Kinds.TheVariants.{Nodes, Ways}
-use Rattle.tool_api.specs.declared.refusal.Refusal.{Refusal}
 use Rattle.tool_api.specs.declared.refusal.Refusal.TheVariants.{InConflict, WrongKind, NamedTwice, NotInWay}
 use Rattle.tool_api.specs.Checks.{is_named, takes, conflict_test, entry_test, target_test, when}
 use Rattle.tool_api.specs.Changes.{changed, edit, with_mine, new_key, all_added, content_of}
@@ -39,14 +40,14 @@ use Rattle.tool_api.specs.Upkeep.{is_among, replaced}
 use Rattle.tool_api.specs.Split.{way_refs, tags_at, node_tests, split_pieces, keyed, piece_of, others, kept_refs, relations_of, split_table}
 use Rattle.tool_api.proofs.Least.{has_key, changes_conflict_at}
 use Rattle.tool_api.proofs.Looks.{entry_changed, next_changed}
-use Rattle.tool_api.proofs.Passed.{both_none, none_passes, passed_tests, keeps_fit, fits_or_stays, none_in}
+use Rattle.tool_api.proofs.Passed.{both_none, none_passes, passed_tests, keeps_fit, fits_or_stays, none_in, passed_when}
 use Rattle.tool_api.proofs.Sounds.{content_edited, each_changed, next_is}
 use Rattle.way_split.proofs.Holds.{all_pieces_hold, parts_hold, all_filtered, found_holds}
 use Rattle.way_split.proofs.Members.{has_piece, replaced_refers, replaced_kind}
 use Rattle.way_split.proofs.PartKeys.{pieces_are}
 use Rattle.tool_api.proofs.Added.{RefersIn, next_added, there_all, fresh, new_fit, all_added_sound, number_room}
 use Rattle.way_split.proofs.Added.{ways_of, new_there, all_added_changed, refer_on, nodes_there, there_nodes, ways_refer}
-use Rattle.tool_api.proofs.Bools.{and_left, by_bool, left_alone}
+use Rattle.tool_api.proofs.Bools.{left_alone}
 
 -- What passed the target tests of a way is a living way without conflict.
 pub data IsWay : Option Entry → Type 0 where
@@ -84,7 +85,7 @@ rel_case (Some (Known base (Some (content.Relation tags members)) conflict)) e =
 
 related : (t : TableValue) (way k : Key) → is_named (relations_of t way) k ≡ true → IsRelation (entry_of t k)
 related t way k named =
-    rel_case (entry_of t k) (and_left (option_map_or is_relation (content_of t k) false) (is_in k (users t way))
+    rel_case (entry_of t k) (first_so (option_map_or is_relation (content_of t k) false) (is_in k (users t way))
     (sym (in_filter (λ j. option_map_or is_relation (content_of t j) false) k (users t way)) ∙ named))
 
 way_there : (o : Option Entry) → IsWay o → IsThere o
@@ -99,26 +100,22 @@ never_new o (is_rel base tags members conflict) e = cc
 
 relations_old : (t : TableValue) (way : Key) → IsSound t → (k : Kind) (m : ℕ) → t.next ≤ m → is_named (relations_of t way) (new_key k m) ≡ false
 relations_old t way s k m low =
-    by_bool (is_named (relations_of t way) (new_key k m)) _ (λ named. absurd (never_new _ (related t way (new_key k m) named) (fresh t k m s low))) (λ out. out)
+    by_bool (is_named (relations_of t way) (new_key k m)) (λ named. absurd (never_new _ (related t way (new_key k m) named) (fresh t k m s low))) (λ out. out)
 
 never_way : (o : Option Entry) → IsWay o → o ≡ None → ⊥
 never_way o (is_way base tags refs) e = cc
 
 way_old : (t : TableValue) (way : Key) → IsSound t → IsWay (entry_of t way) → (k : Kind) (m : ℕ) → t.next ≤ m → is_key (new_key k m) way ≡ false
 way_old t way s lives k m low =
-    by_bool (is_key (new_key k m) way) _ (λ is. absurd (never_way _ lives (ap (entry_of t) (sym (one_key (new_key k m) way is)) ∙ fresh t k m s low))) (λ out. out)
+    by_bool (is_key (new_key k m) way) (λ is. absurd (never_way _ lives (ap (entry_of t) (sym (one_key (new_key k m) way is)) ∙ fresh t k m s low))) (λ out. out)
 
 both_kinds : (o : Option Entry) → IsWay o → IsRelation o → ⊥
 both_kinds o (is_way base tags refs) r = elim r [ ]
 
 not_way : (t : TableValue) (way k : Key) → IsWay (entry_of t way) → IsRelation (entry_of t k) → is_key k way ≡ false
-not_way t way k lives rel = by_bool (is_key k way) _ (λ is. absurd (both_kinds (entry_of t way) lives (subst (λ (j : Key). IsRelation (entry_of t j)) (one_key k way is) rel))) (λ out. out)
+not_way t way k lives rel = by_bool (is_key k way) (λ is. absurd (both_kinds (entry_of t way) lives (subst (λ (j : Key). IsRelation (entry_of t j)) (one_key k way is) rel))) (λ out. out)
 
 -- nodes that passed their tests are nodes
-passed_when : (b : Bool) (r : Refusal) → when (not b) r ≡ None → b ≡ true
-passed_when true r e = refl
-passed_when false r e = cc
-
 node_case : (k j : Key) (b rest : Bool) → is_key k j ≡ b → (b || rest) ≡ true → takes Nodes j.kind ≡ true → (rest ≡ true → takes Nodes k.kind ≡ true) → takes Nodes k.kind ≡ true
 node_case k j true rest is e here there = ap (λ (x : Key). takes Nodes x.kind) (one_key k j is) ∙ here
 node_case k j false rest is e here there = there e
@@ -265,7 +262,7 @@ module _ (t : TableValue) (limit : ℕ) (way : Key) (nodes : List Key) (kept : �
   relation_out k rel =
       let apart = not_way t way k p.lives rel in
       ap (λ b. b || is_named nodes k) apart
-      ∙ by_bool (is_named nodes k) (is_named nodes k ≡ false)
+      ∙ by_bool (is_named nodes k)
       (λ named. absurd (not_node t.next k (entry_of t k) rel (λ e is. p.sound.entries k e is) (node_kinds (way_refs (content_of t way)) [] nodes k p.tested named))) (λ out. out)
 
   relation_at : (k : Key) (e : Entry) → is_named (relations_of t way) k ≡ true → members_edit t way (parts_of t way nodes kept) k ≡ Some e → entry_of (ended t way (parts_of t way nodes kept)) k ≡ Some e

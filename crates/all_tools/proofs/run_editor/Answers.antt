@@ -21,200 +21,50 @@ is_new at verb i y x made new =
     let T = (dyn-1-ghosts (own-1, lawful-own-1)).0 in
     (read_made T (T.entry at) at refl _ (λ j z. j.1.kind z) i y x made ∙ new.0, read_made T (T.entry at) at refl _ (λ j z. j.1.done z) i y x made ∙ new.1, read_made T (T.entry at) at refl _ (λ j z. j.1.undone z) i y x made ∙ new.2)
 
--- Add
-pub with_four-requires-clause-first : goal.with_four-requires-clause-first
-with_four-requires-clause-first g c = is_new at-1-1 Add _ _ _ c.into_dyn_box.ensures.1 c.in_ok-first.ensures.first
+pub with_four-requires-clause-new : goal.with_four-requires-clause-new
+with_four-requires-clause-new g c = (is_new at-1-1 Add _ _ _ c.into_dyn_box.ensures.1 c.in_ok-first.ensures.first, is_new at-1-1 Add _ _ _ c.into_dyn_box-2.ensures.1 c.in_ok-first.ensures.second, is_new at-1-1 Add _ _ _ c.into_dyn_box-3.ensures.1 c.in_ok-first.ensures.third, is_new at-1-1 Add _ _ _ c.into_dyn_box-4.ensures.1 c.in_ok-first.ensures.fourth)
 
-pub with_four-requires-clause-second : goal.with_four-requires-clause-second
-with_four-requires-clause-second g c = is_new at-1-1 Add _ _ _ c.into_dyn_box-2.ensures.1 c.in_ok-first.ensures.second
+pub with_four-requires-2-clause-new : goal.with_four-requires-2-clause-new
+with_four-requires-2-clause-new g c = (is_new at-1-2 Tag _ _ _ c.into_dyn_box-5.ensures.1 c.in_ok-first-2.ensures.first, is_new at-1-2 Tag _ _ _ c.into_dyn_box-6.ensures.1 c.in_ok-first-2.ensures.second, is_new at-1-2 Tag _ _ _ c.into_dyn_box-7.ensures.1 c.in_ok-first-2.ensures.third, is_new at-1-2 Tag _ _ _ c.into_dyn_box-8.ensures.1 c.in_ok-first-2.ensures.fourth)
 
-pub with_four-requires-clause-third : goal.with_four-requires-clause-third
-with_four-requires-clause-third g c = is_new at-1-1 Add _ _ _ c.into_dyn_box-3.ensures.1 c.in_ok-first.ensures.third
+pub with_four-requires-3-clause-new : goal.with_four-requires-3-clause-new
+with_four-requires-3-clause-new g c = (is_new at-1-3 Move _ _ _ c.into_dyn_box-9.ensures.1 c.in_ok-first-3.ensures.first, is_new at-1-3 Move _ _ _ c.into_dyn_box-10.ensures.1 c.in_ok-first-3.ensures.second, is_new at-1-3 Move _ _ _ c.into_dyn_box-11.ensures.1 c.in_ok-first-3.ensures.third, is_new at-1-3 Move _ _ _ c.into_dyn_box-12.ensures.1 c.in_ok-first-3.ensures.fourth)
 
-pub with_four-requires-clause-fourth : goal.with_four-requires-clause-fourth
-with_four-requires-clause-fourth g c = is_new at-1-1 Add _ _ _ c.into_dyn_box-4.ensures.1 c.in_ok-first.ensures.fourth
+pub with_four-requires-4-clause-new : goal.with_four-requires-4-clause-new
+with_four-requires-4-clause-new g c = (is_new at-1-4 Change _ _ _ c.into_dyn_box-13.ensures.1 c.in_ok-first-4.ensures.first, is_new at-1-4 Change _ _ _ c.into_dyn_box-14.ensures.1 c.in_ok-first-4.ensures.second, is_new at-1-4 Change _ _ _ c.into_dyn_box-15.ensures.1 c.in_ok-first-4.ensures.third, is_new at-1-4 Change _ _ _ c.into_dyn_box-16.ensures.1 c.in_ok-first-4.ensures.fourth)
 
--- Tag
-pub with_four-requires-2-clause-first : goal.with_four-requires-2-clause-first
-with_four-requires-2-clause-first g c = is_new at-1-2 Tag _ _ _ c.into_dyn_box-5.ensures.1 c.in_ok-first-2.ensures.first
+pub with_four-requires-5-clause-new : goal.with_four-requires-5-clause-new
+with_four-requires-5-clause-new g c = (is_new at-1-5 Delete _ _ _ c.into_dyn_box-17.ensures.1 c.in_ok-first-5.ensures.first, is_new at-1-5 Delete _ _ _ c.into_dyn_box-18.ensures.1 c.in_ok-first-5.ensures.second, is_new at-1-5 Delete _ _ _ c.into_dyn_box-19.ensures.1 c.in_ok-first-5.ensures.third, is_new at-1-5 Delete _ _ _ c.into_dyn_box-20.ensures.1 c.in_ok-first-5.ensures.fourth)
 
-pub with_four-requires-2-clause-second : goal.with_four-requires-2-clause-second
-with_four-requires-2-clause-second g c = is_new at-1-2 Tag _ _ _ c.into_dyn_box-6.ensures.1 c.in_ok-first-2.ensures.second
+pub with_four-requires-6-clause-new : goal.with_four-requires-6-clause-new
+with_four-requires-6-clause-new g c = (is_new at-1-6 Erase _ _ _ c.into_dyn_box-21.ensures.1 c.in_ok-first-6.ensures.first, is_new at-1-6 Erase _ _ _ c.into_dyn_box-22.ensures.1 c.in_ok-first-6.ensures.second, is_new at-1-6 Erase _ _ _ c.into_dyn_box-23.ensures.1 c.in_ok-first-6.ensures.third, is_new at-1-6 Erase _ _ _ c.into_dyn_box-24.ensures.1 c.in_ok-first-6.ensures.fourth)
 
-pub with_four-requires-2-clause-third : goal.with_four-requires-2-clause-third
-with_four-requires-2-clause-third g c = is_new at-1-2 Tag _ _ _ c.into_dyn_box-7.ensures.1 c.in_ok-first-2.ensures.third
+pub with_four-requires-7-clause-new : goal.with_four-requires-7-clause-new
+with_four-requires-7-clause-new g c = (is_new at-1-7 Purge _ _ _ c.into_dyn_box-25.ensures.1 c.in_ok-first-7.ensures.first, is_new at-1-7 Purge _ _ _ c.into_dyn_box-26.ensures.1 c.in_ok-first-7.ensures.second, is_new at-1-7 Purge _ _ _ c.into_dyn_box-27.ensures.1 c.in_ok-first-7.ensures.third, is_new at-1-7 Purge _ _ _ c.into_dyn_box-28.ensures.1 c.in_ok-first-7.ensures.fourth)
 
-pub with_four-requires-2-clause-fourth : goal.with_four-requires-2-clause-fourth
-with_four-requires-2-clause-fourth g c = is_new at-1-2 Tag _ _ _ c.into_dyn_box-8.ensures.1 c.in_ok-first-2.ensures.fourth
+pub with_four-requires-8-clause-new : goal.with_four-requires-8-clause-new
+with_four-requires-8-clause-new g c = (is_new at-1-8 Split _ _ _ c.into_dyn_box-29.ensures.1 c.in_ok-first-8.ensures.first, is_new at-1-8 Split _ _ _ c.into_dyn_box-30.ensures.1 c.in_ok-first-8.ensures.second, is_new at-1-8 Split _ _ _ c.into_dyn_box-31.ensures.1 c.in_ok-first-8.ensures.third, is_new at-1-8 Split _ _ _ c.into_dyn_box-32.ensures.1 c.in_ok-first-8.ensures.fourth)
 
--- Move
-pub with_four-requires-3-clause-first : goal.with_four-requires-3-clause-first
-with_four-requires-3-clause-first g c = is_new at-1-3 Move _ _ _ c.into_dyn_box-9.ensures.1 c.in_ok-first-3.ensures.first
+pub with_four-requires-9-clause-new : goal.with_four-requires-9-clause-new
+with_four-requires-9-clause-new g c = (is_new at-1-9 Combine _ _ _ c.into_dyn_box-33.ensures.1 c.in_ok-first-9.ensures.first, is_new at-1-9 Combine _ _ _ c.into_dyn_box-34.ensures.1 c.in_ok-first-9.ensures.second, is_new at-1-9 Combine _ _ _ c.into_dyn_box-35.ensures.1 c.in_ok-first-9.ensures.third, is_new at-1-9 Combine _ _ _ c.into_dyn_box-36.ensures.1 c.in_ok-first-9.ensures.fourth)
 
-pub with_four-requires-3-clause-second : goal.with_four-requires-3-clause-second
-with_four-requires-3-clause-second g c = is_new at-1-3 Move _ _ _ c.into_dyn_box-10.ensures.1 c.in_ok-first-3.ensures.second
+pub with_four-requires-10-clause-new : goal.with_four-requires-10-clause-new
+with_four-requires-10-clause-new g c = (is_new at-1-10 Reverse _ _ _ c.into_dyn_box-37.ensures.1 c.in_ok-first-10.ensures.first, is_new at-1-10 Reverse _ _ _ c.into_dyn_box-38.ensures.1 c.in_ok-first-10.ensures.second, is_new at-1-10 Reverse _ _ _ c.into_dyn_box-39.ensures.1 c.in_ok-first-10.ensures.third, is_new at-1-10 Reverse _ _ _ c.into_dyn_box-40.ensures.1 c.in_ok-first-10.ensures.fourth)
 
-pub with_four-requires-3-clause-third : goal.with_four-requires-3-clause-third
-with_four-requires-3-clause-third g c = is_new at-1-3 Move _ _ _ c.into_dyn_box-11.ensures.1 c.in_ok-first-3.ensures.third
+pub with_four-requires-11-clause-new : goal.with_four-requires-11-clause-new
+with_four-requires-11-clause-new g c = (is_new at-1-11 Merge _ _ _ c.into_dyn_box-41.ensures.1 c.in_ok-first-11.ensures.first, is_new at-1-11 Merge _ _ _ c.into_dyn_box-42.ensures.1 c.in_ok-first-11.ensures.second, is_new at-1-11 Merge _ _ _ c.into_dyn_box-43.ensures.1 c.in_ok-first-11.ensures.third, is_new at-1-11 Merge _ _ _ c.into_dyn_box-44.ensures.1 c.in_ok-first-11.ensures.fourth)
 
-pub with_four-requires-3-clause-fourth : goal.with_four-requires-3-clause-fourth
-with_four-requires-3-clause-fourth g c = is_new at-1-3 Move _ _ _ c.into_dyn_box-12.ensures.1 c.in_ok-first-3.ensures.fourth
+pub with_four-requires-12-clause-new : goal.with_four-requires-12-clause-new
+with_four-requires-12-clause-new g c = (is_new at-1-12 Import _ _ _ c.into_dyn_box-45.ensures.1 c.in_ok-first-12.ensures.first, is_new at-1-12 Import _ _ _ c.into_dyn_box-46.ensures.1 c.in_ok-first-12.ensures.second, is_new at-1-12 Import _ _ _ c.into_dyn_box-47.ensures.1 c.in_ok-first-12.ensures.third, is_new at-1-12 Import _ _ _ c.into_dyn_box-48.ensures.1 c.in_ok-first-12.ensures.fourth)
 
--- Change
-pub with_four-requires-4-clause-first : goal.with_four-requires-4-clause-first
-with_four-requires-4-clause-first g c = is_new at-1-4 Change _ _ _ c.into_dyn_box-13.ensures.1 c.in_ok-first-4.ensures.first
+pub with_four-requires-13-clause-new : goal.with_four-requires-13-clause-new
+with_four-requires-13-clause-new g c = (is_new at-1-13 Resolve _ _ _ c.into_dyn_box-49.ensures.1 c.in_ok-first-13.ensures.first, is_new at-1-13 Resolve _ _ _ c.into_dyn_box-50.ensures.1 c.in_ok-first-13.ensures.second, is_new at-1-13 Resolve _ _ _ c.into_dyn_box-51.ensures.1 c.in_ok-first-13.ensures.third, is_new at-1-13 Resolve _ _ _ c.into_dyn_box-52.ensures.1 c.in_ok-first-13.ensures.fourth)
 
-pub with_four-requires-4-clause-second : goal.with_four-requires-4-clause-second
-with_four-requires-4-clause-second g c = is_new at-1-4 Change _ _ _ c.into_dyn_box-14.ensures.1 c.in_ok-first-4.ensures.second
+pub with_four-requires-14-clause-new : goal.with_four-requires-14-clause-new
+with_four-requires-14-clause-new g c = (is_new at-1-14 Squeeze _ _ _ c.into_dyn_box-53.ensures.1 c.in_ok-first-14.ensures.first, is_new at-1-14 Squeeze _ _ _ c.into_dyn_box-54.ensures.1 c.in_ok-first-14.ensures.second, is_new at-1-14 Squeeze _ _ _ c.into_dyn_box-55.ensures.1 c.in_ok-first-14.ensures.third, is_new at-1-14 Squeeze _ _ _ c.into_dyn_box-56.ensures.1 c.in_ok-first-14.ensures.fourth)
 
-pub with_four-requires-4-clause-third : goal.with_four-requires-4-clause-third
-with_four-requires-4-clause-third g c = is_new at-1-4 Change _ _ _ c.into_dyn_box-15.ensures.1 c.in_ok-first-4.ensures.third
-
-pub with_four-requires-4-clause-fourth : goal.with_four-requires-4-clause-fourth
-with_four-requires-4-clause-fourth g c = is_new at-1-4 Change _ _ _ c.into_dyn_box-16.ensures.1 c.in_ok-first-4.ensures.fourth
-
--- Delete
-pub with_four-requires-5-clause-first : goal.with_four-requires-5-clause-first
-with_four-requires-5-clause-first g c = is_new at-1-5 Delete _ _ _ c.into_dyn_box-17.ensures.1 c.in_ok-first-5.ensures.first
-
-pub with_four-requires-5-clause-second : goal.with_four-requires-5-clause-second
-with_four-requires-5-clause-second g c = is_new at-1-5 Delete _ _ _ c.into_dyn_box-18.ensures.1 c.in_ok-first-5.ensures.second
-
-pub with_four-requires-5-clause-third : goal.with_four-requires-5-clause-third
-with_four-requires-5-clause-third g c = is_new at-1-5 Delete _ _ _ c.into_dyn_box-19.ensures.1 c.in_ok-first-5.ensures.third
-
-pub with_four-requires-5-clause-fourth : goal.with_four-requires-5-clause-fourth
-with_four-requires-5-clause-fourth g c = is_new at-1-5 Delete _ _ _ c.into_dyn_box-20.ensures.1 c.in_ok-first-5.ensures.fourth
-
--- Erase
-pub with_four-requires-6-clause-first : goal.with_four-requires-6-clause-first
-with_four-requires-6-clause-first g c = is_new at-1-6 Erase _ _ _ c.into_dyn_box-21.ensures.1 c.in_ok-first-6.ensures.first
-
-pub with_four-requires-6-clause-second : goal.with_four-requires-6-clause-second
-with_four-requires-6-clause-second g c = is_new at-1-6 Erase _ _ _ c.into_dyn_box-22.ensures.1 c.in_ok-first-6.ensures.second
-
-pub with_four-requires-6-clause-third : goal.with_four-requires-6-clause-third
-with_four-requires-6-clause-third g c = is_new at-1-6 Erase _ _ _ c.into_dyn_box-23.ensures.1 c.in_ok-first-6.ensures.third
-
-pub with_four-requires-6-clause-fourth : goal.with_four-requires-6-clause-fourth
-with_four-requires-6-clause-fourth g c = is_new at-1-6 Erase _ _ _ c.into_dyn_box-24.ensures.1 c.in_ok-first-6.ensures.fourth
-
--- Purge
-pub with_four-requires-7-clause-first : goal.with_four-requires-7-clause-first
-with_four-requires-7-clause-first g c = is_new at-1-7 Purge _ _ _ c.into_dyn_box-25.ensures.1 c.in_ok-first-7.ensures.first
-
-pub with_four-requires-7-clause-second : goal.with_four-requires-7-clause-second
-with_four-requires-7-clause-second g c = is_new at-1-7 Purge _ _ _ c.into_dyn_box-26.ensures.1 c.in_ok-first-7.ensures.second
-
-pub with_four-requires-7-clause-third : goal.with_four-requires-7-clause-third
-with_four-requires-7-clause-third g c = is_new at-1-7 Purge _ _ _ c.into_dyn_box-27.ensures.1 c.in_ok-first-7.ensures.third
-
-pub with_four-requires-7-clause-fourth : goal.with_four-requires-7-clause-fourth
-with_four-requires-7-clause-fourth g c = is_new at-1-7 Purge _ _ _ c.into_dyn_box-28.ensures.1 c.in_ok-first-7.ensures.fourth
-
--- Split
-pub with_four-requires-8-clause-first : goal.with_four-requires-8-clause-first
-with_four-requires-8-clause-first g c = is_new at-1-8 Split _ _ _ c.into_dyn_box-29.ensures.1 c.in_ok-first-8.ensures.first
-
-pub with_four-requires-8-clause-second : goal.with_four-requires-8-clause-second
-with_four-requires-8-clause-second g c = is_new at-1-8 Split _ _ _ c.into_dyn_box-30.ensures.1 c.in_ok-first-8.ensures.second
-
-pub with_four-requires-8-clause-third : goal.with_four-requires-8-clause-third
-with_four-requires-8-clause-third g c = is_new at-1-8 Split _ _ _ c.into_dyn_box-31.ensures.1 c.in_ok-first-8.ensures.third
-
-pub with_four-requires-8-clause-fourth : goal.with_four-requires-8-clause-fourth
-with_four-requires-8-clause-fourth g c = is_new at-1-8 Split _ _ _ c.into_dyn_box-32.ensures.1 c.in_ok-first-8.ensures.fourth
-
--- Combine
-pub with_four-requires-9-clause-first : goal.with_four-requires-9-clause-first
-with_four-requires-9-clause-first g c = is_new at-1-9 Combine _ _ _ c.into_dyn_box-33.ensures.1 c.in_ok-first-9.ensures.first
-
-pub with_four-requires-9-clause-second : goal.with_four-requires-9-clause-second
-with_four-requires-9-clause-second g c = is_new at-1-9 Combine _ _ _ c.into_dyn_box-34.ensures.1 c.in_ok-first-9.ensures.second
-
-pub with_four-requires-9-clause-third : goal.with_four-requires-9-clause-third
-with_four-requires-9-clause-third g c = is_new at-1-9 Combine _ _ _ c.into_dyn_box-35.ensures.1 c.in_ok-first-9.ensures.third
-
-pub with_four-requires-9-clause-fourth : goal.with_four-requires-9-clause-fourth
-with_four-requires-9-clause-fourth g c = is_new at-1-9 Combine _ _ _ c.into_dyn_box-36.ensures.1 c.in_ok-first-9.ensures.fourth
-
--- Reverse
-pub with_four-requires-10-clause-first : goal.with_four-requires-10-clause-first
-with_four-requires-10-clause-first g c = is_new at-1-10 Reverse _ _ _ c.into_dyn_box-37.ensures.1 c.in_ok-first-10.ensures.first
-
-pub with_four-requires-10-clause-second : goal.with_four-requires-10-clause-second
-with_four-requires-10-clause-second g c = is_new at-1-10 Reverse _ _ _ c.into_dyn_box-38.ensures.1 c.in_ok-first-10.ensures.second
-
-pub with_four-requires-10-clause-third : goal.with_four-requires-10-clause-third
-with_four-requires-10-clause-third g c = is_new at-1-10 Reverse _ _ _ c.into_dyn_box-39.ensures.1 c.in_ok-first-10.ensures.third
-
-pub with_four-requires-10-clause-fourth : goal.with_four-requires-10-clause-fourth
-with_four-requires-10-clause-fourth g c = is_new at-1-10 Reverse _ _ _ c.into_dyn_box-40.ensures.1 c.in_ok-first-10.ensures.fourth
-
--- Merge
-pub with_four-requires-11-clause-first : goal.with_four-requires-11-clause-first
-with_four-requires-11-clause-first g c = is_new at-1-11 Merge _ _ _ c.into_dyn_box-41.ensures.1 c.in_ok-first-11.ensures.first
-
-pub with_four-requires-11-clause-second : goal.with_four-requires-11-clause-second
-with_four-requires-11-clause-second g c = is_new at-1-11 Merge _ _ _ c.into_dyn_box-42.ensures.1 c.in_ok-first-11.ensures.second
-
-pub with_four-requires-11-clause-third : goal.with_four-requires-11-clause-third
-with_four-requires-11-clause-third g c = is_new at-1-11 Merge _ _ _ c.into_dyn_box-43.ensures.1 c.in_ok-first-11.ensures.third
-
-pub with_four-requires-11-clause-fourth : goal.with_four-requires-11-clause-fourth
-with_four-requires-11-clause-fourth g c = is_new at-1-11 Merge _ _ _ c.into_dyn_box-44.ensures.1 c.in_ok-first-11.ensures.fourth
-
--- Import
-pub with_four-requires-12-clause-first : goal.with_four-requires-12-clause-first
-with_four-requires-12-clause-first g c = is_new at-1-12 Import _ _ _ c.into_dyn_box-45.ensures.1 c.in_ok-first-12.ensures.first
-
-pub with_four-requires-12-clause-second : goal.with_four-requires-12-clause-second
-with_four-requires-12-clause-second g c = is_new at-1-12 Import _ _ _ c.into_dyn_box-46.ensures.1 c.in_ok-first-12.ensures.second
-
-pub with_four-requires-12-clause-third : goal.with_four-requires-12-clause-third
-with_four-requires-12-clause-third g c = is_new at-1-12 Import _ _ _ c.into_dyn_box-47.ensures.1 c.in_ok-first-12.ensures.third
-
-pub with_four-requires-12-clause-fourth : goal.with_four-requires-12-clause-fourth
-with_four-requires-12-clause-fourth g c = is_new at-1-12 Import _ _ _ c.into_dyn_box-48.ensures.1 c.in_ok-first-12.ensures.fourth
-
--- Resolve
-pub with_four-requires-13-clause-first : goal.with_four-requires-13-clause-first
-with_four-requires-13-clause-first g c = is_new at-1-13 Resolve _ _ _ c.into_dyn_box-49.ensures.1 c.in_ok-first-13.ensures.first
-
-pub with_four-requires-13-clause-second : goal.with_four-requires-13-clause-second
-with_four-requires-13-clause-second g c = is_new at-1-13 Resolve _ _ _ c.into_dyn_box-50.ensures.1 c.in_ok-first-13.ensures.second
-
-pub with_four-requires-13-clause-third : goal.with_four-requires-13-clause-third
-with_four-requires-13-clause-third g c = is_new at-1-13 Resolve _ _ _ c.into_dyn_box-51.ensures.1 c.in_ok-first-13.ensures.third
-
-pub with_four-requires-13-clause-fourth : goal.with_four-requires-13-clause-fourth
-with_four-requires-13-clause-fourth g c = is_new at-1-13 Resolve _ _ _ c.into_dyn_box-52.ensures.1 c.in_ok-first-13.ensures.fourth
-
--- Squeeze
-pub with_four-requires-14-clause-first : goal.with_four-requires-14-clause-first
-with_four-requires-14-clause-first g c = is_new at-1-14 Squeeze _ _ _ c.into_dyn_box-53.ensures.1 c.in_ok-first-14.ensures.first
-
-pub with_four-requires-14-clause-second : goal.with_four-requires-14-clause-second
-with_four-requires-14-clause-second g c = is_new at-1-14 Squeeze _ _ _ c.into_dyn_box-54.ensures.1 c.in_ok-first-14.ensures.second
-
-pub with_four-requires-14-clause-third : goal.with_four-requires-14-clause-third
-with_four-requires-14-clause-third g c = is_new at-1-14 Squeeze _ _ _ c.into_dyn_box-55.ensures.1 c.in_ok-first-14.ensures.third
-
-pub with_four-requires-14-clause-fourth : goal.with_four-requires-14-clause-fourth
-with_four-requires-14-clause-fourth g c = is_new at-1-14 Squeeze _ _ _ c.into_dyn_box-56.ensures.1 c.in_ok-first-14.ensures.fourth
-
--- Fuse
-pub with_four-requires-15-clause-first : goal.with_four-requires-15-clause-first
-with_four-requires-15-clause-first g c = is_new at-1-15 Fuse _ _ _ c.into_dyn_box-57.ensures.1 c.in_ok-first-15.ensures.first
-
-pub with_four-requires-15-clause-second : goal.with_four-requires-15-clause-second
-with_four-requires-15-clause-second g c = is_new at-1-15 Fuse _ _ _ c.into_dyn_box-58.ensures.1 c.in_ok-first-15.ensures.second
-
-pub with_four-requires-15-clause-third : goal.with_four-requires-15-clause-third
-with_four-requires-15-clause-third g c = is_new at-1-15 Fuse _ _ _ c.into_dyn_box-59.ensures.1 c.in_ok-first-15.ensures.third
-
-pub with_four-requires-15-clause-fourth : goal.with_four-requires-15-clause-fourth
-with_four-requires-15-clause-fourth g c = is_new at-1-15 Fuse _ _ _ c.into_dyn_box-60.ensures.1 c.in_ok-first-15.ensures.fourth
+pub with_four-requires-15-clause-new : goal.with_four-requires-15-clause-new
+with_four-requires-15-clause-new g c = (is_new at-1-15 Fuse _ _ _ c.into_dyn_box-57.ensures.1 c.in_ok-first-15.ensures.first, is_new at-1-15 Fuse _ _ _ c.into_dyn_box-58.ensures.1 c.in_ok-first-15.ensures.second, is_new at-1-15 Fuse _ _ _ c.into_dyn_box-59.ensures.1 c.in_ok-first-15.ensures.third, is_new at-1-15 Fuse _ _ _ c.into_dyn_box-60.ensures.1 c.in_ok-first-15.ensures.fourth)
 
 pub returns-clause-outcome : goal.returns-clause-outcome
 returns-clause-outcome g c =

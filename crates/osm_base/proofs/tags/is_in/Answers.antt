@@ -1,6 +1,7 @@
 use Rattle.std.proofs.Common.{sym}
-use Rattle.osm_base.proofs.TagPlaces.{has_tag_stands, in_order}
+use Rattle.osm_base.proofs.TagPlaces.{has_tag_stands}
 use Rattle.osm_base.proofs.tags.is_in.Goals as goal
+use Rattle.osm_base.proofs.TagLaws.{in_order}
 
 pub returns : goal.returns
 returns c =

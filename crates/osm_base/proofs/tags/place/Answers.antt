@@ -2,8 +2,9 @@ use Rattle.std.proofs.Common.{rules, []}
 use Rattle.std.specs.Ordering.{is_lt}
 use Rattle.std.proofs.lemmas.List.Sorted.{IsPartitionPoint-from_clause}
 use Rattle.osm_base.specs.Tags.{Pair, bytes_cmp}
-use Rattle.osm_base.proofs.TagPlaces.{partition_end, partitioned, in_order}
+use Rattle.osm_base.proofs.TagPlaces.{partition_end, partitioned}
 use Rattle.osm_base.proofs.tags.place.Goals as goal
+use Rattle.osm_base.proofs.TagLaws.{in_order}
 
 pub returns : goal.returns
 returns c =

@@ -1,8 +1,9 @@
 use Rattle.std.proofs.Common.{◌≡◌, ◌∙◌, ap, sym, true, false}
 use Rattle.std.specs.List.{remove}
 use Rattle.osm_base.specs.Tags.{place_of}
-use Rattle.osm_base.proofs.TagPlaces.{stands, there, new, has_tag_there, has_tag_new, without_tag_there, without_tag_new, in_order}
+use Rattle.osm_base.proofs.TagPlaces.{stands, there, new, has_tag_there, has_tag_new, without_tag_there, without_tag_new}
 use Rattle.osm_base.proofs.tags.take_item.Goals as goal
+use Rattle.osm_base.proofs.TagLaws.{in_order}
 
 pub returns-then-stands_at-clause-tags : goal.returns-then-stands_at-clause-tags
 returns-then-stands_at-clause-tags c =

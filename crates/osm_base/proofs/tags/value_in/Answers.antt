@@ -1,7 +1,8 @@
 use Rattle.std.proofs.Common.{◌≡◌, ◌∙◌, ap, sym, true, false, Some, get_or}
 use Rattle.osm_base.specs.Tags.{Pair, place_of}
-use Rattle.osm_base.proofs.TagPlaces.{stands, there, new, value_of_there, value_of_new, in_order}
+use Rattle.osm_base.proofs.TagPlaces.{stands, there, new, value_of_there, value_of_new}
 use Rattle.osm_base.proofs.tags.value_in.Goals as goal
+use Rattle.osm_base.proofs.TagLaws.{in_order}
 
 pub returns-then-stands_at : goal.returns-then-stands_at
 returns-then-stands_at c =

@@ -2,7 +2,7 @@ use Rattle.std.proofs.Common.{Option, sym, ap, ◌∙◌}
 use Rattle.std.specs.Option.{option_or}
 use Rattle.osm_base.specs.declared.key.Key.{Key}
 use Rattle.tool_api.specs.Upkeep.{first_in}
-use Rattle.way_combine.proofs.Ends.{first_got}
+use Rattle.tool_api.proofs.Named.{first_got}
 use Rattle.way_combine.proofs.change.kept_way.Goals as goal
 
 pub returns-in-Some : goal.returns-in-Some

@@ -2,8 +2,8 @@ use Rattle.std.proofs.Common.{sym, subst, List}
 use Rattle.osm_base.specs.declared.key.Key.{Key}
 use Rattle.osm_table.specs.declared.entry.Entry.{Entry}
 use Rattle.osm_table.specs.Told.{IsToldMap}
-use Rattle.osm_table.specs.ToldCode.{told_kept, AreTold}
-use Rattle.osm_table.proofs.ToldLaws.{told_empty}
+use Rattle.osm_table.specs.ToldCode.{told_kept, AreTold, AreThere}
+use Rattle.osm_table.proofs.ToldLaws.{told_empty, there_empty}
 use Rattle.osm_table.proofs.told_map.ToldMap.with_capacity.Goals as goal
 
 pub invariant_of-result : goal.invariant_of-result
@@ -12,4 +12,6 @@ invariant_of-result c = (
   subst (λ (es : List (Key × Entry)). AreTold es) (sym c.in_ok-with_capacity.ensures.empty) (λ key e has. cc),
   c.in_ok-with_capacity.ensures.unique,
   c.in_ok-told.ensures,
+  λ _. subst (λ (es : List (Key × Entry)). AreThere (told_kept es)) (sym c.in_ok-with_capacity.ensures.empty) there_empty,
+  λ closed. cc,
 )

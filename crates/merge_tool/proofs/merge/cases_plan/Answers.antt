@@ -1,7 +1,7 @@
 use Rattle.std.proofs.Common.{◌∙◌, sym}
 use Rattle.dataset.specs.Draft.{drafted}
 use Rattle.merge_tool.proofs.Plans.{drafted_is, drafted_sound, refused, no_room, taken_in}
-use Rattle.merge_tool.proofs.merge.merge_plan.Goals as goal
+use Rattle.merge_tool.proofs.merge.cases_plan.Goals as goal
 
 pub returns-in-Some : goal.returns-in-Some
 returns-in-Some c = refused c.args.ds.now c.args.told.now c.args.limit c.in-Some.refusal (sym c.in-Some.is ∙ c.in_ok-refusal.ensures)

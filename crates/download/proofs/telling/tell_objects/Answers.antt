@@ -1,0 +1,11 @@
+use Rattle.std.proofs.Common.{◌∙◌, ap, List}
+use Rattle.opl_line.specs.declared.object.OplObject.{OplObject}
+use Rattle.download.specs.Tell.{references}
+use Rattle.download.proofs.Closed.{closed_there}
+use Rattle.download.proofs.telling.tell_objects.Goals as goal
+
+pub close-requires : goal.close-requires
+close-requires c =
+    closed_there c.args.objects.items c.deref-2.result.now c.in_ok-told.told c.tell_all.new.told c.mention_all.new.told c.in_ok-mention_all.field-0
+    (c.deref-2.ensures.value ∙ c.in_ok-references.ensures ∙ ap (λ (os : List OplObject). references os) c.deref.ensures.value)
+    c.in_ok-told.ensures c.in_ok-tell_all.ensures c.in_ok-mention_all.ensures.told c.in_ok-mention_all.ensures.there c.if-branch.true

@@ -1,0 +1,52 @@
+//! Hashed maps of entries by key, as tables and told maps keep them.
+ghost use Rattle.std.specs.Prelude.{◌≡◌, IfOk};
+ghost use Rattle.std.specs.FinMap as map;
+ghost use Rattle.std.specs.List.{IsDistinct};
+ghost use Rattle.std.specs.Map.{keys_of};
+ghost use Rattle.std.specs.Option.{option_map};
+ghost use Rattle.indexmap.specs.IndexMap.{get};
+ghost use Rattle.osm_base.specs.KeyEq.{eq};
+ghost use Rattle.osm_base.specs.Rank.{rank_cmp};
+
+use crate::shared_entry::SharedEntry;
+use indexmap::IndexMap;
+use osm_base::{Key, Keys};
+use std::alloc::AllocError;
+
+/// The entry of a key, and the place behind it. The place `near` is looked at first, which hashes nothing.
+pub fn get_near(
+    entries: &IndexMap<Key, SharedEntry>,
+    near: usize,
+    key: Key,
+) -> Option<(usize, &SharedEntry)>
+    ensures { option_map (λ found. found.1.now) result ≡ get eq entries.now key }
+{
+    if let Some((there, entry)) = entries.get_index(near) {
+        if *there == key {
+            return Some((near.saturating_add(1), entry));
+        }
+    }
+    match entries.get_full(&key) {
+        None => None,
+        Some((place, _, entry)) => Some((place.saturating_add(1), entry)),
+    }
+}
+
+/// The keys by rank.
+///
+/// # Errors
+/// No memory was left.
+pub fn ordered(entries: &IndexMap<Key, SharedEntry>) -> Result<Keys, AllocError>
+    ensures { IfOk result (λ ks. ks ≡ map.keys (map.from_entries {R = rank_cmp} entries.now.entries)) }
+{
+    let mut keys = keys(entries)?;
+    keys.sort()?;
+    Ok(Keys::from_vec(keys))
+}
+
+fn keys(entries: &IndexMap<Key, SharedEntry>) -> Result<Vec<Key>, AllocError>
+    ensures listed { IfOk result (λ keys. keys.items ≡ keys_of entries.now.entries) }
+    ensures unique { IfOk result (λ _. IsDistinct eq (keys_of entries.now.entries)) }
+{
+    entries.keys().copied().collect(*entries.allocator())
+}
