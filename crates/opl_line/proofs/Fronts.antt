@@ -1,5 +1,5 @@
 -- Numbers at the front of bytes.
-use Rattle.std.proofs.Common.{◌≡◌, ℕ, suc, ◌<◌, ◌≤◌, ◌+◌, ◌-◌, ◌*◌, ◌^◌, Bool, true, false, cond, List, [], ◌∷◌, length, get_or, take, drop, Option, Some, None, Result, Ok, Err, refl, sym, ap, ◌∙◌, arith}
+use Rattle.std.proofs.Common.{◌≡◌, ℕ, suc, ◌<◌, ◌≤◌, ◌+◌, ◌-◌, ◌*◌, ◌^◌, Bool, true, false, cond, List, [], ◌∷◌, length, get_or, take, drop, Option, Some, None, Ok, refl, sym, ap, ◌∙◌, arith}
 use Rattle.std.specs.Prelude.{◌==◌, ◌&&◌, ◌||◌, not, nat_le, nat_lt}
 use Rattle.std.specs.List.{list_all}
 use Rattle.std.specs.Char.{is_ascii_digit, digit_value}
@@ -12,7 +12,6 @@ use Rattle.std.proofs.lemmas.Grind.{pow_more}
 use Rattle.std.proofs.lemmas.Str.{digit_value_digit}
 use Rattle.osm_base.specs.Number.{number_test, number_text, kind_letter}
 use Rattle.osm_base.specs.declared.key.Kind.{Kind}
-use Rattle.opl_line.specs.declared.fault.LineFault.{LineFault}
 use Rattle.opl_line.specs.declared.mode.Mode.{Mode}
 use Rattle.opl_line.specs.Reads.{◌>>=◌}
 use Rattle.opl_line.specs.Line.{is_blank, id_at, key_at}

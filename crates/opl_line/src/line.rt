@@ -16,7 +16,9 @@ use crate::mode::{Mode, is_allowed};
 use crate::object::{Fields, LineKind, OplObject};
 use crate::pieces::is_blank;
 use opl_text::Pool;
-use osm_base::{Content, Coord, Key, Kind, Members, Meta, Refs, Tags, Text, coord_of, kind_of};
+use osm_base::{
+    Content, Coord, Key, Kind, Members, Meta, Moment, Refs, Tags, Text, coord_of, kind_of,
+};
 
 #[tactic(auto, unfolding(crate::specs::Line::id_at))]
 fn id_at(mode: Mode, text: &[u8]) -> Result<(i64, Option<&[u8]>), LineAnswer>
@@ -201,7 +203,7 @@ fn meta_of(pool: &mut Pool, fields: &mut Fields) -> Result<Meta, LineAnswer>
     let user = text_or_none(pool, fields.user.take())?;
     Ok(Meta {
         changeset: fields.changeset.unwrap_or(0),
-        time: fields.time.unwrap_or(None),
+        time: Moment::new(fields.time.unwrap_or(None)),
         uid: fields.uid.unwrap_or(0),
         user,
     })

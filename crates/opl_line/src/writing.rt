@@ -68,7 +68,7 @@ fn write_back(meta: &Meta, out: &mut Vec<u8>) -> Result<(), AllocError>
     ensures kept { OnErr result (Extends out.old.items out.new.items) }
 {
     out.extend_from_slice(b" t")?;
-    write_time(meta.time, out)?;
+    write_time(meta.time.stamp(), out)?;
     write_number(b'i', meta.uid, out)?;
     out.extend_from_slice(b" u")?;
     write_escaped(&meta.user, out)?;

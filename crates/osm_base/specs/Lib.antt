@@ -4,6 +4,7 @@ pub mod Content
 pub mod Tags
 pub mod Same
 pub mod Meta
+pub mod Moment
 pub mod Coord
 pub mod Number
 pub mod KeyEq

@@ -3,6 +3,7 @@ ghost use Rattle.std.specs.Prelude.{◌≡◌, IfOk, IsTrue, ◌↔◌};
 ghost use Rattle.osm_base.specs.Meta.{empty_meta};
 ghost use Rattle.osm_base.specs.Same.{same_meta};
 
+use crate::moment::Moment;
 use crate::text::Text;
 use std::alloc::{AllocError, Global};
 
@@ -34,8 +35,8 @@ pub struct Meta {
     /// The changeset that it belongs to, 0 where unknown.
     pub changeset: u32,
 
-    /// When it was made.
-    pub time: Option<Stamp>,
+    /// When it was made, if that is known.
+    pub time: Moment,
 
     /// The user's number, 0 where unknown.
     pub uid: u32,
@@ -54,7 +55,7 @@ impl Meta {
     {
         Ok(Meta {
             changeset: 0,
-            time: None,
+            time: Moment::new(None),
             uid: 0,
             user: Text::new(alloc)?,
         })
@@ -69,7 +70,7 @@ impl Meta {
     {
         Ok(Meta {
             changeset: self.changeset,
-            time: self.time,
+            time: Moment::new(self.time.stamp()),
             uid: self.uid,
             user: self.user.copy()?,
         })
@@ -81,7 +82,7 @@ impl Meta {
         ensures decides { IsTrue result ↔ (self.now ≡ other.now) }
     {
         self.changeset == other.changeset
-            && self.time == other.time
+            && self.time.stamp() == other.time.stamp()
             && self.uid == other.uid
             && self.user.same(&other.user)
     }

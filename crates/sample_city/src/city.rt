@@ -7,7 +7,7 @@ ghost use Rattle.sample_city.specs.City.{all_of, all_told, as_told, city, city_m
 ghost use Rattle.sample_city.specs.Common.{in_common};
 
 use osm_base::{
-    Content, Coord, Key, Kind, Member, Members, Meta, Refs, Stamp, Tags, Text, coord_of,
+    Content, Coord, Key, Kind, Member, Members, Meta, Moment, Refs, Stamp, Tags, Text, coord_of,
     write_digits,
 };
 use osm_table::{Told, ToldMap};
@@ -38,14 +38,14 @@ impl Common {
         Ok(Common {
             meta: Meta {
                 changeset: 1,
-                time: Some(Stamp {
+                time: Moment::new(Some(Stamp {
                     year: 2020,
                     month: 1,
                     day: 1,
                     hour: 0,
                     minute: 0,
                     second: 0,
-                }),
+                })),
                 uid: 1,
                 user: text(alloc, b"city")?,
             },
