@@ -1,3 +1,4 @@
+pub mod Batches
 pub mod Cutting
 mod Examples
 pub mod Keys

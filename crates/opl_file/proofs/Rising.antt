@@ -1,12 +1,12 @@
 -- Keys that rise by rank, with one more behind them.
-use Rattle.std.proofs.Common.{◌≡◌, ℕ, ◌+◌, ◌<◌, ◌||◌, false, List, [], ◌∷◌, ◌++◌, if◌then◌else◌, take, drop, take-append-drop, length, get_or, refl, sym, ap, subst, ◌∙◌}
+use Rattle.std.proofs.Common.{◌≡◌, ◌||◌, false, List, [], ◌∷◌, ◌++◌, if◌then◌else◌, refl, sym, ap, subst, ◌∙◌}
 use Rattle.std.specs.Cmp.{both_ways}
 use Rattle.std.specs.FinMap.Entries.{below_all}
-use Rattle.std.specs.List.{list_any}
+use Rattle.std.specs.List.{fold, list_any}
 use Rattle.std.specs.Ordering.{is_lt, is_eq}
 use Rattle.std.specs.Prelude.{T}
 use Rattle.std.specs.Bool.{passes}
-use Rattle.std.proofs.lemmas.List.{map-append, map_more, map_push}
+use Rattle.std.proofs.lemmas.List.{append_assoc, append-nil, map_push}
 use Rattle.indexmap.specs.IndexSet.{insert_key}
 use Rattle.osm_base.proofs.RisingKeys.{key_turned}
 use Rattle.osm_base.specs.KeyEq.{eq}
@@ -73,15 +73,14 @@ comes_last objects front last key e h =
     let keys : keys_of objects ≡ keys_of front ++ last.key ∷ [] = ap keys_of e ∙ map_push _ front last in
     rises_last (keys_of front) last.key key (subst (λ ks. T (rises ks)) keys h) ∙ ap (λ ks. rises (ks ++ key ∷ [])) (sym keys)
 
--- the keys of the first objects, with the next one's inserted
-pub next_hashed : (objects : List OplObject) (i : ℕ) (object : OplObject) (old new : List Key) → i < length objects → object ≡ get_or objects i object → T (rises (keys_of objects)) → new ≡ insert_key eq old object.key → old ≡ keys_of (take i objects)
-    → new ≡ keys_of (take (i + 1) objects)
-next_hashed objects i object old new l at h e before =
-    let seen : List Key = keys_of (take i objects) in
-    let key : Key = object.key in
-    let later : List Key = keys_of (drop (i + 1) objects) in
-    let more : keys_of (take (i + 1) objects) ≡ seen ++ key ∷ [] = map_more _ objects i object l ∙ ap (λ (next : OplObject). seen ++ next.key ∷ []) (sym at) in
-    let parts : keys_of objects ≡ keys_of (take (i + 1) objects) ++ later = ap keys_of (sym (take-append-drop (i + 1) objects)) ∙ map-append _ (take (i + 1) objects) (drop (i + 1) objects) in
-    let rising : T (rises ((seen ++ key ∷ []) ++ later)) = subst (λ ks. T (rises ks)) (parts ∙ ap (λ ks. ks ++ later) more) h in
-    let other : list_any (eq key) seen ≡ false = last_new seen key (rises_front (seen ++ key ∷ []) later rising) in
-    e ∙ ap (λ ks. insert_key eq ks key) before ∙ ap (λ b. if b then seen else seen ++ key ∷ []) other ∙ sym more
+-- rising keys that are inserted one by one all stay, in their order
+inserted_behind : (front keys : List Key) → T (rises (front ++ keys)) → fold (insert_key eq) front keys ≡ front ++ keys
+inserted_behind front [] h = sym (append-nil front)
+inserted_behind front (k ∷ ks) h =
+    let parts : (front ++ k ∷ []) ++ ks ≡ front ++ k ∷ ks = append_assoc front (k ∷ []) ks in
+    let rising : T (rises ((front ++ k ∷ []) ++ ks)) = subst (λ js. T (rises js)) (sym parts) h in
+    let other : list_any (eq k) front ≡ false = last_new front k (rises_front (front ++ k ∷ []) ks rising) in
+    ap (λ b. fold (insert_key eq) (if b then front else front ++ k ∷ []) ks) other ∙ inserted_behind (front ++ k ∷ []) ks rising ∙ parts
+
+pub all_inserted : (keys : List Key) → T (rises keys) → fold (insert_key eq) [] keys ≡ keys
+all_inserted keys h = inserted_behind [] keys h

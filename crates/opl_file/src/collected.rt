@@ -51,10 +51,7 @@ impl Collected {
         ensures ok { IfOk result (λ added. self.new ≡ (if added then self.old ++ object ∷ [] else self.old)) }
         ensures err { OnErr result (self.new ≡ self.old) }
     {
-        if !self
-            .known
-            .note(self.alloc, self.objects.as_slice(), object.key)?
-        {
+        if !self.known.note(self.alloc, &self.objects, object.key)? {
             return Ok(false);
         }
         if self.objects.push(object).is_err() {

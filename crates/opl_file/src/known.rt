@@ -3,12 +3,16 @@
 //! Nearly every file stands in rank order. There a key is new where it comes after the last one,
 //! so beside the objects nothing is kept. The first key that doesn't rise has all keys hashed
 //! once, and from then on each is looked up.
-ghost use Rattle.std.specs.Prelude.{◌≡◌, ◌∷◌, ◌++◌, [], not, if◌then◌else◌, List, T, IfOk, OnErr};
+ghost use Rattle.std.specs.Prelude.{◌≡◌, ◌∷◌, ◌++◌, [], not, if◌then◌else◌, List, T, IfOk, OnOk, OnErr};
+ghost use Rattle.std.specs.List.{fold};
+ghost use Rattle.indexmap.specs.IndexSet.{insert_key};
+ghost use Rattle.osm_base.specs.KeyEq.{eq};
 ghost use Rattle.osm_base.specs.RisingKeys.{rises};
 ghost use Rattle.osm_base.specs.declared.key.Key.{Key};
 ghost use Rattle.opl_file.specs.Objects.{has_key, keys_of};
 ghost use Rattle.opl_file.specs.Known.{Knows};
 
+use crate::Objects;
 use indexmap::IndexSet;
 use opl_line::OplObject;
 use osm_base::{Key, rank};
@@ -35,7 +39,7 @@ impl Known {
     pub(crate) fn note(
         &mut self,
         alloc: Global,
-        objects: &[OplObject],
+        objects: &Objects,
         key: Key,
     ) -> Result<bool, AllocError>
         requires { Knows self.old (keys_of objects.now) }
@@ -69,24 +73,33 @@ impl Known {
 }
 
 // Whether the keys still rise with this one behind them.
-fn comes_last(objects: &[OplObject], key: Key) -> bool
+fn comes_last(objects: &Objects, key: Key) -> bool
     requires { T (rises (keys_of objects.now)) }
     ensures { result ≡ rises (keys_of objects.now ++ key ∷ []) }
 {
-    match objects.split_last() {
+    match objects.last() {
         None => true,
-        Some((last, _)) => rank(last.key, key).is_lt(),
+        Some(last) => rank(last.key, key).is_lt(),
     }
 }
 
 // The keys of the objects, each hashed once.
-fn hashed(alloc: Global, objects: &[OplObject]) -> Result<IndexSet<Key>, AllocError>
+fn hashed(alloc: Global, objects: &Objects) -> Result<IndexSet<Key>, AllocError>
     requires { T (rises (keys_of objects.now)) }
     ensures { IfOk result (λ set. set.keys ≡ keys_of objects.now) }
 {
-    let mut keys = IndexSet::with_capacity(alloc, objects.len())?;
+    let mut keys = IndexSet::new(alloc);
+    for batch in objects.batches() {
+        hash_all(&mut keys, batch)?;
+    }
+    Ok(keys)
+}
+
+fn hash_all(keys: &mut IndexSet<Key>, objects: &[OplObject]) -> Result<(), AllocError>
+    ensures { OnOk result (keys.new.keys ≡ fold (insert_key eq) keys.old.keys (keys_of objects.now)) }
+{
     for object in objects {
         keys.insert(object.key)?;
     }
-    Ok(keys)
+    Ok(())
 }
