@@ -1,7 +1,8 @@
 //! The users of one key: distinct keys that rise by rank.
 //!
 //! A place is found by halving, so a list of u keys costs about log u comparisons for each key put
-//! in or taken out, and one move of the keys behind it. Most keys have one user, who takes no block.
+//! in or taken out, and one move of the keys behind it. Most keys have one user, who takes no block,
+//! and most others have two, so a list begins with room for these.
 ghost use Rattle.std.specs.Prelude.{◌≡◌, ◌≤◌, ◌<◌, ◌&&◌, [], length, not, IfOk, OnOk, OnErr, T, nat_lt, slice_index_or};
 ghost use Rattle.std.specs.List.{insert, remove};
 ghost use Rattle.std.specs.Ordering.{is_lt};
@@ -123,7 +124,8 @@ fn insert_at(alloc: Global, items: &mut Items, at: usize, key: Key) -> Result<()
     match items {
         Items::Nobody => *items = Items::One(key),
         Items::One(first) => {
-            let mut keys = Vec::from_slice(alloc, slice::from_ref(first))?;
+            let mut keys = Vec::with_capacity(alloc, 2)?;
+            keys.push(*first)?;
             keys.insert(at, key)?;
             *items = Items::List(Box::new(alloc, keys)?);
         }
