@@ -32,7 +32,8 @@ pub struct CommandLine<'a> {
     pub script: &'a str,
     /// The most objects that the session may hold, 1 to 5,000,000.
     pub max_objects: u64,
-    /// The most bytes of each file of a download, an import or a confirm, 1 to 1,073,741,824.
+    /// The most bytes of each file that the script names, 1 to 1,073,741,824: of a download, an import, a confirm, a
+    /// `resume` or a `serve`.
     pub max_file: u64,
 }
 

@@ -6,11 +6,10 @@ use Rattle.std.specs.Option.{option_or}
 use Rattle.std.proofs.lemmas.Bool.{true≢false, not-false}
 use Rattle.std.proofs.lemmas.Option.{same_Some}
 use Rattle.osm_base.specs.Rank.{is_key}
-use Rattle.osm_base.specs.Content.{fits, kind_of_content, refs_of}
+use Rattle.osm_base.specs.Content.{fits, kind_of_content}
 use Rattle.osm_base.proofs.RisingKeys.{one_key, key_turned}
 use Rattle.osm_base.specs.declared.key.Key.{Key}
 use Rattle.osm_base.specs.declared.content.Content.{Content}
-use Rattle.osm_base.proofs.Lists.{all_at}
 use Rattle.osm_table.specs.declared.entry.Base.{Base}
 use Rattle.osm_table.specs.declared.entry.Base.TheVariants.{New, Live, Gone}
 use Rattle.osm_table.specs.declared.entry.Conflict.{Conflict}
@@ -21,7 +20,7 @@ use Rattle.osm_table.specs.declared.entry.Entry.TheVariants.{Incomplete, Known}
 use Rattle.osm_table.specs.Same.{same_mine}
 use Rattle.osm_table.specs.Table.{TableValue, entry_of, mine_of, held_by, is_new, is_changed, uses, users, Each, IsThere, IsPositive, IfContent}
 use Rattle.osm_table.proofs.SameLaws.{same_mine_decides}
-use Rattle.dataset.specs.Sound.{IsSound, IsSoundEntry, IsNumber, WhyFits, IsLive, FromTheServer}
+use Rattle.dataset.specs.Sound.{IsSound, IsSoundEntry, IsNumber, WhyFits, IsLive}
 use Rattle.dataset.proofs.Changes.{incomplete_entry}
 use Rattle.dataset.proofs.Ids.{told_id, base_fits}
 use Rattle.resolution.specs.declared.choice.Choice.{Choice}
@@ -33,6 +32,7 @@ use Rattle.tool_api.specs.Resolve.{choice_test, unused_test, gone_test, referenc
 use Rattle.tool_api.specs.Staged.{refers_by, refs_by}
 use Rattle.tool_api.proofs.Passed.{both_none, passes, none_passes, none_in, fits_or_stays, some_when}
 use Rattle.tool_api.proofs.Named.{is_user}
+use Rattle.tool_api.proofs.Sounds.{server_positive}
 use Rattle.conflict.specs.Settled.{settled_tests, entered}
 use Rattle.conflict.proofs.Chosen.{Stems, chosen_stems}
 use Rattle.conflict.proofs.Settled.{settled_at, settled_next}
@@ -61,11 +61,6 @@ limits theirs (Some c) new fine changed = by (fits_or_stays (held_by theirs) c f
     by (inr same) = absurd (true≢false (sym changed ∙ (λ i. new i || not (same_mine (Some c) (same i))) ∙ ap not ((same_mine_decides (Some c) (Some c)).1 refl)))
 
 -- References.
-
--- what a server told refers to positive ids
-server_positive : (o : Option Content) (q : Key) → FromTheServer o → refers_by o q ≡ true → IsPositive q.id
-server_positive None q s h = absurd (true≢false (sym h))
-server_positive (Some c) q s h = all_at (λ r. IsPositive r.id) (refs_of c) q s h
 
 named_refers : (o : Option Content) (q : Key) → is_named (refs_by o) q ≡ true → refers_by o q ≡ true
 named_refers None q h = h

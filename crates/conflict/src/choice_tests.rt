@@ -5,9 +5,9 @@ ghost use Rattle.resolution.specs.Resolve.{can_choose, can_mix, unclashing};
 ghost use Rattle.tool_api.specs.Resolve.{choice_test, clashing_test};
 
 use merge_cases::{Pick, tag_pick};
-use osm_base::{Content, Key, Text};
+use osm_base::{Content, Key};
 use osm_table::{Base, Conflict, EntryParts, SharedEntry, Why};
-use resolution::{Choice, TagKeys};
+use resolution::{Choice, TagKey, TagKeys};
 use std::alloc::AllocError;
 use tool_api::Refusal;
 
@@ -17,7 +17,7 @@ fn unclashing<'a>(
     base: &Content,
     mine: &Content,
     theirs: &Content,
-) -> Option<&'a Text>
+) -> Option<&'a TagKey>
     ensures { option_copied result ≡ unclashing listed.now base.now mine.now theirs.now }
 {
     listed.as_slice().iter().find(|key| {
@@ -37,7 +37,7 @@ fn clashing_test(
         (Choice::Parts { theirs: listed, .. }, Some(base), Some(mine), Some(theirs)) => {
             match unclashing(listed, base, mine, theirs) {
                 None => Ok(None),
-                Some(key) => Ok(Some(Refusal::NotClashing(key.copy()?))),
+                Some(key) => Ok(Some(Refusal::NotClashing(key.text().copy()?))),
             }
         }
         _ => Ok(None),

@@ -167,7 +167,7 @@ fn chosen(
 }
 
 /// The entry without its conflict: theirs is the base, and mine is as chosen. One that has none stays. It walks the tags
-/// of both sides where the content comes in parts, with the listed keys for each that clashes.
+/// of both sides where the content comes in parts, and looks each of their keys up among the listed ones.
 ///
 /// # Errors
 /// No memory was left.

@@ -1,6 +1,7 @@
 -- Sets of keys.
 use Rattle.std.proofs.Common.{◌≡◌, ◌||◌, Bool, true, false, cond, List, [], ◌∷◌, ◌++◌, fold, refl, ap, ◌∙◌}
 use Rattle.std.specs.List.{list_any}
+use Rattle.std.proofs.Math.Bool.{or-false, or_comm}
 use Rattle.std.proofs.lemmas.List.Folds.{list_any-append}
 use Rattle.indexmap.specs.IndexSet.{insert_key}
 use Rattle.osm_base.specs.Rank.{is_key}
@@ -29,15 +30,9 @@ there : (ks : List Key) (key k : Key) (b : Bool) → is_key k key ≡ b → amon
 there ks key k true is has = ap (among ks) (one_key k key is) ∙ has
 there ks key k false is has = refl
 
-or_last : (a b : Bool) → (a || (b || false)) ≡ (b || a)
-or_last true true = refl
-or_last true false = refl
-or_last false true = refl
-or_last false false = refl
-
 by_test : (ks : List Key) (key k : Key) (b : Bool) → among ks key ≡ b → among (cond b ks (ks ++ key ∷ [])) k ≡ (is_key k key || among ks k)
 by_test ks key k true has = there ks key k (is_key k key) refl has
-by_test ks key k false has = list_any-append (is_key k) ks (key ∷ []) ∙ or_last (among ks k) (is_key k key)
+by_test ks key k false has = list_any-append (is_key k) ks (key ∷ []) ∙ ap (λ b. among ks k || b) (or-false (is_key k key)) ∙ or_comm (among ks k) (is_key k key)
 
 in_set : (keys set : List Key) (k : Key) → among (fold with_key set keys) k ≡ (among set k || among keys k)
 in_set [] set k = elim (among set k) as (λ b. b ≡ (b || false)) [ true ↦ refl | false ↦ refl ]

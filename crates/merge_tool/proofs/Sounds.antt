@@ -1,12 +1,10 @@
 -- The table with a download merged into it is sound.
-use Rattle.std.proofs.Common.{◌≡◌, ℕ, Bool, true, false, List, [], ◌∷◌, Option, Some, None, is_some, cond, refl, sym, ◌∙◌, ap, subst, inl, inr, ◌⊎◌}
-use Rattle.std.specs.List.{AllByRecursion, list_any}
+use Rattle.std.proofs.Common.{◌≡◌, ℕ, Bool, true, false, Option, Some, None, is_some, cond, refl, sym, ◌∙◌, ap, subst, inl, inr, ◌⊎◌}
 use Rattle.std.specs.Option.{option_map}
 use Rattle.std.specs.FinMap as fin
-use Rattle.std.proofs.lemmas.Bool.{true≢false, or_cases}
+use Rattle.std.proofs.lemmas.Bool.{true≢false}
 use Rattle.osm_base.specs.Rank.{is_key}
-use Rattle.osm_base.specs.Content.{refers, refs_of}
-use Rattle.osm_base.proofs.RisingKeys.{one_key}
+use Rattle.osm_base.specs.Content.{refers}
 use Rattle.osm_base.specs.declared.key.Key.{Key}
 use Rattle.osm_base.specs.declared.content.Content.{Content}
 use Rattle.osm_table.specs.declared.entry.Base.{Base}
@@ -19,8 +17,9 @@ use Rattle.osm_table.specs.declared.told.Told.TheVariants as told
 use Rattle.osm_table.specs.Table.{TableValue, entry_of, held_by, Each, IsThere, IsPositive, IfContent}
 use Rattle.osm_table.specs.Told.{ToldEntries, IsTold, IsToldMap}
 use Rattle.dataset.specs.Exact.{mine_at}
-use Rattle.dataset.specs.Sound.{IsSound, IsSoundEntry, IsNumber, FromTheServer}
+use Rattle.dataset.specs.Sound.{IsSound, IsSoundEntry, IsNumber}
 use Rattle.tool_api.proofs.Looks.{next_changed}
+use Rattle.tool_api.proofs.Sounds.{server_positive}
 use Rattle.closure.specs.Closure.{has}
 use Rattle.merge_cases.specs.declared.verdict.Verdict.{Verdict}
 use Rattle.merge_cases.specs.declared.verdict.Verdict.TheVariants.{Stay, Mention, Take, Clash, Keep, Candidate, Settle, Join, Dispute}
@@ -28,17 +27,11 @@ use Rattle.merge_cases.specs.Join.{joined}
 use Rattle.merge_cases.proofs.JoinedOf.{TakesOver, joined_takes}
 use Rattle.tool_api.specs.Staged.{verdict_at, theirs_at, staged, stage_of, with_theirs, against, all_joined, lost_of, refers_by}
 use Rattle.tool_api.specs.Merged.{both_keys, reached_keys, lost_content, wanted, held, named, final, merged}
-use Rattle.osm_base.proofs.Lists.{all_at}
 use Rattle.merge_tool.proofs.Rows.{theirs_by}
 use Rattle.merge_tool.proofs.Stand.{settled, wanted_lost, namer}
 use Rattle.merge_tool.proofs.Fitting.{there}
 use Rattle.merge_tool.proofs.Outcome.{merged_at, merged_closed}
 use Rattle.merge_tool.proofs.Places.{SoundAt, IfTold, staged_sound, candidate_sound, back_sound, bared_sound}
-
--- what servers told refers to positive ids
-server_positive : (o : Option Content) (q : Key) → FromTheServer o → refers_by o q ≡ true → IsPositive q.id
-server_positive None q s h = absurd (true≢false (sym h))
-server_positive (Some c) q s h = all_at (λ r. IsPositive r.id) (refs_of c) q s h
 
 told_positive : (k : Key) (s : Option Told) (q : Key) → IfTold k s → refers_by (held_by (theirs_by s)) q ≡ true → IsPositive q.id
 told_positive k None q t h = absurd (true≢false (sym h))

@@ -1,9 +1,12 @@
 -- A key put behind others.
-use Rattle.std.proofs.Common.{◌≡◌, ◌<◌, ◌&&◌, ◌||◌, Bool, true, false, not, ℕ, List, [], ◌∷◌, ◌++◌, length, nat_lt, refl, sym, ◌∙◌, ap}
+use Rattle.std.proofs.Common.{◌≡◌, ◌<◌, ◌&&◌, ◌||◌, Bool, true, false, cond, not, ℕ, List, [], ◌∷◌, ◌++◌, length, nat_lt, refl, sym, ◌∙◌, ap}
 use Rattle.std.specs.Prelude.{T}
 use Rattle.std.specs.Bool.{passes}
+use Rattle.std.specs.Cmp.Lexicographic.{nat_list_eq_equiv}
+use Rattle.std.specs.List.{list_any}
 use Rattle.std.proofs.lemmas.Bool.{true≢false, lt-ltb, or_parts}
 use Rattle.std.proofs.lemmas.List.Folds.{list_any-append}
+use Rattle.indexmap.specs.IndexSet.{insert_key}
 use Rattle.osm_base.specs.Same.{same_text}
 use Rattle.osm_base.proofs.SameLaws.{same_text_decides}
 use Rattle.osm_base.proofs.Tests.{both_T, first_T, second_T}
@@ -15,6 +18,15 @@ turned a b e = by (same_text b a) refl
     by : (c : Bool) → same_text b a ≡ c → same_text b a ≡ false
     by true g = absurd (true≢false (sym ((same_text_decides a b).1 (sym ((same_text_decides b a).0 g))) ∙ e))
     by false g = g
+
+-- the key is among others where one of them is the key
+pub found : (key : List ℕ) (keys : List (List ℕ)) → list_any (same_text key) keys ≡ is_listed keys key
+found key [] = refl
+found key (x ∷ xs) = λ i. nat_list_eq_equiv.symm key x i || found key xs i
+
+-- a key that isn't among others comes behind them
+pub pushed_last : (key : List ℕ) (keys : List (List ℕ)) → is_listed keys key ≡ false → insert_key same_text keys key ≡ keys ++ key ∷ []
+pushed_last key keys out = ap (λ there. cond there keys (keys ++ key ∷ [])) (found key keys ∙ out)
 
 -- a key that isn't among others isn't among them with one more that is unlike
 still : (keys : List (List ℕ)) (x key : List ℕ) → T (not (is_listed keys x)) → same_text key x ≡ false → T (not (is_listed (keys ++ key ∷ []) x))

@@ -8,8 +8,10 @@
 
 mod choice;
 mod law;
+mod tag_key;
 mod tag_keys;
 
 pub use choice::{Choice, Side};
 pub use law::parts_settle_clashes_alone;
+pub use tag_key::TagKey;
 pub use tag_keys::TagKeys;

@@ -2,14 +2,17 @@
 ghost use Rattle.std.specs.Prelude.{◌≡◌, ◌==◌, ◌<◌, ◌++◌, ◌∷◌, [], false, length, Some, OnOk, OnErr, slice_get};
 ghost use Rattle.resolution.specs.Keys.{is_listed};
 
+use crate::tag_key::TagKey;
+use indexmap::IndexSet;
 use osm_base::Text;
 use std::alloc::{AllocError, Global};
 use std::marker::Model;
 
-/// Keys of tags, in the order in which they were given: none is empty, and none stands twice.
+/// Keys of tags, in the order in which they were given: none is empty, and none stands twice. A key is found among them
+/// by one look-up.
 #[derive(Drop)]
 pub struct TagKeys {
-    keys: Vec<Text>,
+    keys: IndexSet<TagKey>,
 }
 
 impl Model for TagKeys {
@@ -18,9 +21,9 @@ impl Model for TagKeys {
 
     ghost Value = { List (List ℕ) };
 
-    ghost view = { λ k. k.keys.items };
+    ghost view = { λ k. k.keys.keys };
 
-    ghost invariant = { λ k. T (are_tag_keys k.keys.items) };
+    ghost invariant = { λ k. T (are_tag_keys k.keys.keys) };
 }
 
 impl TagKeys {
@@ -29,7 +32,7 @@ impl TagKeys {
         ensures { result ≡ [] }
     {
         TagKeys {
-            keys: Vec::new(alloc),
+            keys: IndexSet::new(alloc),
         }
     }
 
@@ -52,35 +55,36 @@ impl TagKeys {
         requires { i < length self.now }
         ensures { slice_get self.now i ≡ Some result.now }
     {
-        self.keys[i].as_bytes()
+        self.as_slice()[i].as_bytes()
     }
 
     /// The keys, in order.
-    pub fn as_slice(&self) -> &[Text]
+    pub fn as_slice(&self) -> &[TagKey]
         ensures { result.now ≡ self.now }
     {
         self.keys.as_slice()
     }
 
-    /// Whether the key is listed. It walks the list.
+    /// Whether the key is listed. One look-up.
+    #[tactic(auto, using(crate::proofs::Pushed::found))]
     pub fn has(&self, key: &[u8]) -> bool
         ensures { result ≡ is_listed self.now key.now }
     {
-        self.keys.iter().any(|listed| listed.as_bytes() == key)
+        self.keys.contains(key)
     }
 
-    /// Adds a key at the end. It must not be empty, and not be there.
+    /// Adds a key at the end. It must not be empty, and not be there. One look-up.
     ///
     /// # Errors
     /// No memory was left, and nothing has changed.
-    #[tactic(auto, using(crate::proofs::Pushed::pushed))]
+    #[tactic(auto, using(crate::proofs::Pushed::pushed, crate::proofs::Pushed::pushed_last))]
     pub fn push(&mut self, key: Text) -> Result<(), AllocError>
         requires named { 0 < length key }
         requires new { is_listed self.now key ≡ false }
         ensures ok { OnOk result (self.new ≡ self.old ++ key ∷ []) }
         ensures err { OnErr result (self.new ≡ self.old) }
     {
-        self.keys.push(key)?;
+        self.keys.insert(TagKey::new(key))?;
         Ok(())
     }
 }

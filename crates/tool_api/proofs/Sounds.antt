@@ -1,24 +1,26 @@
--- Edits and new objects keep a table sound.
+-- Edits and new objects keep a table sound, and what a server told refers to positive ids.
 use Rattle.std.proofs.Common.{◌≡◌, ◌||◌, ℕ, ◌+◌, ◌≤◌, Bool, true, false, cond, nat_lt, List, Option, Some, None, refl, sym, ◌∙◌, subst, arith}
 use mathlib.Core.Logic.{◌⊎◌, inl, inr}
 use Rattle.std.specs.Option.{option_map, option_and_then}
 use Rattle.std.specs.FinMap as fin
-use Rattle.std.proofs.lemmas.Bool.{ltb-false}
+use Rattle.std.proofs.lemmas.Bool.{true≢false, ltb-false}
 use Rattle.osm_base.specs.Content.{refers, refs_of, fits, kind_of_content}
 use Rattle.osm_base.specs.declared.key.Kind.{Kind}
 use Rattle.osm_base.specs.declared.key.Key.{Key}
 use Rattle.osm_base.specs.declared.content.Content.{Content}
+use Rattle.osm_base.proofs.Lists.{all_at}
 use Rattle.osm_table.specs.declared.entry.Base.{Base}
 use Rattle.osm_table.specs.declared.entry.Base.TheVariants.{New, Live, Gone}
 use Rattle.osm_table.specs.declared.entry.Entry.{Entry}
 use Rattle.osm_table.specs.declared.entry.Entry.TheVariants.{Incomplete, Known}
-use Rattle.osm_table.specs.Table.{TableValue, entry_of, mine_of, Each, IsThere}
+use Rattle.osm_table.specs.Table.{TableValue, entry_of, mine_of, Each, IsThere, IsPositive}
 use Rattle.osm_table.proofs.Each.{get_with_same}
-use Rattle.dataset.specs.Sound.{IsSound, IsSoundEntry, IsNumber, LivesIn, IdFits}
+use Rattle.dataset.specs.Sound.{IsSound, IsSoundEntry, IsNumber, LivesIn, IdFits, FromTheServer}
 use Rattle.dataset.proofs.Changes.{mine_entry, new_sound, number_sound}
 use Rattle.tool_api.specs.Checks.{is_named, ref_tests}
 use Rattle.tool_api.specs.Changes.{changed, edit, with_mine, new_key, added}
 use Rattle.tool_api.specs.Closing.{closing_tests, makes_unfit}
+use Rattle.tool_api.specs.Staged.{refers_by}
 use Rattle.tool_api.proofs.Looks.{entry_changed, next_changed}
 use Rattle.tool_api.proofs.Passed.{Lives, lives, refs_there, passed_tests, keeps_fit, fits_or_stays}
 
@@ -103,6 +105,12 @@ edit_sound t f ks limit named kind refs live s passed = record {
   closed = refs_edited t f ks refs s.closed live;
   number = next_is IsNumber t (edit t f) ks s.number;
 }
+
+-- What a server told.
+
+pub server_positive : (o : Option Content) (q : Key) → FromTheServer o → refers_by o q ≡ true → IsPositive q.id
+server_positive None q s h = absurd (true≢false (sym h))
+server_positive (Some c) q s h = all_at (λ r. IsPositive r.id) (refs_of c) q s h
 
 -- A new object.
 

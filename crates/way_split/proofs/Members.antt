@@ -4,6 +4,7 @@ use mathlib.Core.Logic.{◌⊎◌, inl, inr}
 use mathlib.Core.List.{reverse-cons}
 use Rattle.std.specs.List.{list_any, find}
 use Rattle.std.specs.Option.{option_or, option_map_or}
+use Rattle.std.proofs.Math.Bool.{or-false, or_comm}
 use Rattle.std.proofs.lemmas.List.Folds.{list_any-append}
 use Rattle.std.proofs.lemmas.Bool.{or_right, or_cases}
 use Rattle.osm_base.specs.Rank.{is_key}
@@ -35,17 +36,11 @@ among_pieces : (r : Key) (role : List ℕ) (ps : List PieceValue) → among r (m
 among_pieces r role [] = refl
 among_pieces r role (p ∷ ps) = ap (λ b. is_key r p.key || b) (among_pieces r role ps)
 
-turn_test : (a b : Bool) → (a || (b || false)) ≡ (b || a)
-turn_test true true = refl
-turn_test true false = refl
-turn_test false true = refl
-turn_test false false = refl
-
 has_reversed : (r : Key) (ps : List PieceValue) → has_piece r (reverse ps) ≡ has_piece r ps
 has_reversed r [] = refl
 has_reversed r (p ∷ ps) =
     ap (has_piece r) (reverse-cons p ps) ∙ list_any-append (λ (p : PieceValue). is_key r p.key) (reverse ps) (p ∷ [])
-    ∙ ap (λ b. b || (is_key r p.key || false)) (has_reversed r ps) ∙ turn_test (has_piece r ps) (is_key r p.key)
+    ∙ ap (λ b. b || (is_key r p.key || false)) (has_reversed r ps) ∙ ap (λ b. has_piece r ps || b) (or-false (is_key r p.key)) ∙ or_comm (has_piece r ps) (is_key r p.key)
 
 order_case : (r : Key) (b : Bool) (ps : List PieceValue) → has_piece r (reverse ps) ≡ has_piece r ps → has_piece r (in_order b ps) ≡ has_piece r ps
 order_case r true ps e = e
