@@ -13,7 +13,7 @@ use Rattle.osm_base.specs.RankLaws.{rank_ties, eq_decides}
 use Rattle.osm_base.specs.RisingKeys.{is_in}
 use Rattle.osm_base.proofs.MapViews.{get_view}
 use Rattle.ref_index.specs.declared.pair.Pair.{Pair}
-use Rattle.ref_index.specs.Bag.{count, pair_eq}
+use Rattle.ref_index.specs.Bag.{Bag, count, pair_eq}
 use Rattle.ref_index.specs.PairRank.{pair_total, pair_exact, pair_ties}
 use Rattle.ref_index.specs.Users.{Lists, users_of, is_listed}
 use Rattle.ref_index.specs.Repeats.{Repeats, AreRepeats, numbered, number_of, times_there, bag_of}
@@ -71,6 +71,10 @@ count_case false n = refl
 
 pub counted : (repeats : Repeats) (lists : Lists) (q : Pair) → count (bag_of repeats lists) q ≡ times_there repeats lists q
 counted repeats lists q = ap (λ (o : Option ℕ). unwrap_or o 0) (get_bag repeats lists q) ∙ count_case (is_listed lists q) (number_of repeats q)
+
+-- in a bag that is theirs
+pub counted_in : (bag : Bag) (repeats : Repeats) (lists : Lists) (q : Pair) → bag_of repeats lists ≡ bag → count bag q ≡ times_there repeats lists q
+counted_in bag repeats lists q is = ap (λ (b : Bag). count b q) (sym is) ∙ counted repeats lists q
 
 same_case : (b c : Bool) (n m : ℕ) → 0 < n → 0 < m → cond b n 0 ≡ cond c m 0 → ◌≡◌ {A = Option ℕ} (cond b (Some n) None) (cond c (Some m) None)
 same_case true true n m h g e = ap Some e

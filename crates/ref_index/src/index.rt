@@ -74,6 +74,28 @@ impl RefIndex {
         Ok(())
     }
 
+    /// Adds a pair once more. Costs what a pair that comes does in `change`.
+    ///
+    /// # Errors
+    ///
+    /// Where no memory is found, or where the pair would be there 2^64 times. Then nothing changes.
+    pub fn add(&mut self, pair: Pair) -> Result<(), AllocError>
+        ensures ok { OnOk result ((p : Pair) → count self.new p ≡ (if is_pair p pair then 1 else 0) + count self.old p) }
+        ensures err { OnErr result (self.new ≡ self.old) }
+    {
+        add(&mut self.lists, &mut self.repeats, pair)?;
+        Ok(())
+    }
+
+    /// Takes a pair that is there once. It takes no memory, and costs what a pair that goes does in
+    /// `change`.
+    pub fn take(&mut self, pair: Pair)
+        requires { 0 < count self.old pair }
+        ensures { (p : Pair) → (if is_pair p pair then 1 else 0) + count self.new p ≡ count self.old p }
+    {
+        take(&mut self.lists, &mut self.repeats, pair);
+    }
+
     /// The distinct users of a key, by rank. Costs one look-up by hash and takes no memory.
     pub fn users(&self, of: Key) -> &[Key]
         ensures rises { T (rises result.now) }

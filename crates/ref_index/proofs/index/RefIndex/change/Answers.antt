@@ -1,8 +1,6 @@
-use Rattle.std.proofs.Common.{◌≡◌, ◌∙◌, ap, sym, arith}
+use Rattle.std.proofs.Common.{◌∙◌, arith}
 use Rattle.std.proofs.lemmas.Result.{err_from_is_err_and}
-use Rattle.ref_index.specs.Bag.{Bag, count}
-use Rattle.ref_index.specs.Repeats.{times_there}
-use Rattle.ref_index.proofs.BagView.{counted, same_bag}
+use Rattle.ref_index.proofs.BagView.{counted, counted_in, same_bag}
 use Rattle.ref_index.proofs.index.RefIndex.change.Goals as goal
 
 pub returns-in_err-add_all-clause-err : goal.returns-in_err-add_all-clause-err
@@ -13,13 +11,13 @@ returns-in_err-add_all-clause-err c =
 pub take_all-requires-clause-there : goal.take_all-requires-clause-there
 take_all-requires-clause-there c = λ q.
     let there = c.requires.there q in
-    let old : count c.args.self.now q ≡ times_there c.self.inside.repeats.entries c.self.inside.lists.entries q = ap (λ (b : Bag). count b q) (sym c.self.view_is) ∙ counted c.self.inside.repeats.entries c.self.inside.lists.entries q in
+    let old = counted_in c.args.self.now c.self.inside.repeats.entries c.self.inside.lists.entries q c.self.view_is in
     let more = c.in_ok-add_all.ensures.ok q in
     omega (arith, there, old, more)
 
 pub returns-clause-ok : goal.returns-clause-ok
 returns-clause-ok c = λ q.
-    let old : count c.args.self.now q ≡ times_there c.self.inside.repeats.entries c.self.inside.lists.entries q = ap (λ (b : Bag). count b q) (sym c.self.view_is) ∙ counted c.self.inside.repeats.entries c.self.inside.lists.entries q in
+    let old = counted_in c.args.self.now c.self.inside.repeats.entries c.self.inside.lists.entries q c.self.view_is in
     let new = counted c.take_all.new.repeats.entries c.take_all.new.lists.entries q in
     let more = c.in_ok-add_all.ensures.ok q in
     let less = c.take_all.ensures.count q in
