@@ -1,7 +1,8 @@
 -- The index is exact after a patch, if the pairs of one side go and those of the other come.
-use Rattle.std.proofs.Common.{◌≡◌, ℕ, ℤ, not, ◌+◌, ◌≤◌, ◌&&◌, Bool, true, false, cond, Option, Some, None, List, [], ◌∷◌, map, refl, sym, ◌∙◌, ap, arith}
+use Rattle.std.proofs.Common.{◌≡◌, ℕ, ℤ, not, ◌+◌, ◌<◌, ◌≤◌, ◌&&◌, Bool, true, false, cond, Option, Some, None, List, [], ◌∷◌, ◌++◌, length, get_or, take, map, refl, sym, ◌∙◌, ap, arith}
 use Rattle.std.specs.Option.{option_map_or, unwrap_or}
 use Rattle.std.specs.Prelude.{T}
+use Rattle.std.proofs.lemmas.List.{take_more}
 use Rattle.std.proofs.lemmas.List.Sums.{sum_by-cons, sum_by-append}
 use Rattle.std.specs.FinMap as fin
 use Rattle.osm_base.specs.Rank.{rank_cmp, is_key}
@@ -24,15 +25,6 @@ use Rattle.osm_base.proofs.RisingKeys.{one_key}
 use Rattle.dataset.proofs.Looked.{get_edited, tail_none, tail_order}
 use Rattle.dataset.proofs.Laws.{by_edit}
 
--- the references of a way and of a relation, as pairs
-pub node_pairs : (user : Key) (ids : List ℤ) → map {B = Pair} (λ id. record { of = node id; user = user }) ids ≡ map (λ k. record { of = k; user = user }) (map node ids)
-node_pairs user [] = refl
-node_pairs user (id ∷ ids) = ap (λ (ps : List Pair). record { of = node id; user = user } ∷ ps) (node_pairs user ids)
-
-pub member_pairs : (user : Key) (ms : List Member) → map {B = Pair} (λ m. record { of = m.key; user = user }) ms ≡ map (λ k. record { of = k; user = user }) (map (λ m. m.key) ms)
-member_pairs user [] = refl
-member_pairs user (m ∷ ms) = ap (λ (ps : List Pair). record { of = m.key; user = user } ∷ ps) (member_pairs user ms)
-
 count_step : (a b : Bool) (n m : ℕ) → n ≡ cond b m 0 → cond (a && b) 1 0 + n ≡ cond b (cond a 1 0 + m) 0
 count_step true true n m e = ap (λ x. 1 + x) e
 count_step true false n m e = let z : n ≡ 0 = e in omega arith
@@ -52,6 +44,9 @@ listed_pairs of user key (k ∷ ks) =
     ∙ count_step (is_key of k) (is_key user key) _ (times_key of ks) (listed_pairs of user key ks)
     ∙ ap (λ n. cond (is_key user key) n 0) (sym (sum_by-cons (λ (j : Key). cond (is_key of j) 1 0) k ks))
 
+times_both : (p : Pair) (ps qs : List Pair) → times p (ps ++ qs) ≡ times p ps + times p qs
+times_both p ps qs = sum_by-append (λ (q : Pair). cond (is_pair p q) 1 0) ps qs
+
 moved_case : (b k : Bool) (p : Pair) (ps : List Pair) (n : ℕ) → times p ps ≡ cond k n 0 → times p (cond b [] ps) ≡ cond k (cond b 0 n) 0
 moved_case true k p ps n e = no_pairs k
 moved_case false k p ps n e = e
@@ -68,7 +63,7 @@ edit_step false a n e o f is none h = let z : 0 + n ≡ n = omega arith in z ∙
 pub times_by : (side : Edit → Option Entry) (es : List Edit) (of user : Key) → T (in_order es) → times (record { of = of; user = user }) (pairs_by side es) ≡ option_map_or (times_moved side of) (edit_at user es) 0
 times_by side [] of user h = refl
 times_by side (e ∷ es) of user h =
-    sum_by-append (λ (p : Pair). cond (is_pair (record { of = of; user = user }) p) 1 0) (moved_pairs side e) (pairs_by side es)
+    times_both (record { of = of; user = user }) (moved_pairs side e) (pairs_by side es)
     ∙ ap (λ n. n + times (record { of = of; user = user }) (pairs_by side es)) (moved_case (keeps_refs e) (is_key user e.key) (record { of = of; user = user }) (pairs_of e.key (side e)) _ (listed_pairs of user e.key (refs_at (side e))))
     ∙ edit_step (is_key user e.key) (times_moved side of e) _ e (edit_at user es) (times_moved side of) refl
     (λ t. ap (λ (k : Key). edit_at k es) (one_key user e.key t) ∙ tail_none e es h)
@@ -77,6 +72,19 @@ times_by side (e ∷ es) of user h =
 fewer : (b : Bool) (n m : ℕ) → m ≡ n → cond b 0 n ≤ m
 fewer true n m e = omega arith
 fewer false n m e = omega arith
+
+more_edits : (side : Edit → Option Entry) (es : List Edit) (e : Edit) (p : Pair) → times p (pairs_by side (es ++ e ∷ [])) ≡ times p (moved_pairs side e) + times p (pairs_by side es)
+more_edits side [] e p = times_both p (moved_pairs side e) []
+more_edits side (x ∷ es) e p =
+    let all = times_both p (moved_pairs side x) (pairs_by side (es ++ e ∷ [])) in
+    let rest = more_edits side es e p in
+    let first = times_both p (moved_pairs side x) (pairs_by side es) in
+    omega (arith, all, rest, first)
+
+-- the pairs of the first few edits, and of one more
+pub next_edit : (side : Edit → Option Entry) (es : List Edit) (i : ℕ) (e : Edit) (p : Pair) → i < length es → e ≡ get_or es i e → times p (pairs_by side (take (i + 1) es)) ≡ times p (moved_pairs side e) + times p (pairs_by side (take i es))
+next_edit side es i e p within at =
+    ap (λ (xs : List Edit). times p (pairs_by side xs)) (take_more es i e within ∙ ap (λ (x : Edit). take i es ++ x ∷ []) (sym at)) ∙ more_edits side (take i es) e p
 
 -- the pairs of what stands there are in an exact bag
 pub gone_there : (side : Edit → Option Entry) (es : List Edit) (t : TableValue) (bag : Bag) → T (in_order es) → ((k : Key) (e : Edit) → edit_at k es ≡ Some e → entry_of t k ≡ side e) → IsExact t bag → (p : Pair) → times p (pairs_by side es) ≤ count bag p

@@ -1,6 +1,7 @@
 -- A data set led by a patch: the index stays exact, and the table is the patch's.
-use Rattle.std.proofs.Common.{◌≡◌, ℕ, ◌+◌, ◌≤◌, not, Bool, true, false, List, sym, ◌∙◌, ap, subst}
+use Rattle.std.proofs.Common.{◌≡◌, ℕ, ◌+◌, ◌≤◌, not, Bool, true, false, Option, List, sym, ◌∙◌, ap, subst, arith}
 use Rattle.std.specs.Prelude.{T}
+use Rattle.osm_table.specs.declared.entry.Entry.{Entry}
 use Rattle.osm_table.specs.Table.{TableValue}
 use Rattle.ref_index.specs.declared.pair.Pair.{Pair}
 use Rattle.ref_index.specs.Bag.{Bag, count, times}
@@ -11,18 +12,25 @@ use Rattle.dataset.specs.Sides.{side, led}
 use Rattle.dataset.proofs.Exactness.{gone_there, stays_exact, kept_refs}
 use Rattle.dataset.proofs.SideLaws.{Stands, stands_found}
 
-pub lead_gone : (t : TableValue) (bag : Bag) (forth : Bool) (es : List Edit) (gone : List Pair) → gone ≡ pairs_by (side (not forth)) es → T (in_order es) → Stands (side (not forth)) es t → IsExact t bag → (p : Pair) → times p gone ≤ count bag p
-lead_gone t bag forth es gone e h a exact p =
-    subst (λ (ps : List Pair). times p ps ≤ count bag p) (sym e) (gone_there (side (not forth)) es t bag h (stands_found (side (not forth)) es t a) exact p)
+-- each pair of one side of the edits is there so much more often
+abbrev Added : (Edit → Option Entry) → List Edit → Bag → Bag → Type 0
+Added s es old new = (p : Pair) → count new p ≡ times p (pairs_by s es) + count old p
 
-pub lead_exact : (t u : TableValue) (old new : Bag) (forth : Bool) (es : List Edit) (gone come : List Pair) → gone ≡ pairs_by (side (not forth)) es → come ≡ pairs_by (side forth) es → T (in_order es) → Stands (side (not forth)) es t
-    → u ≡ led (side forth) es t → IsExact t old → ((p : Pair) → times p gone + count new p ≡ times p come + count old p) → IsExact u new
-lead_exact t u old new forth es gone come eg ec h a is exact changed =
+-- what goes is still there when more has come
+pub lead_gone : (t : TableValue) (old more : Bag) (forth : Bool) (es : List Edit) → T (in_order es) → Stands (side (not forth)) es t → IsExact t old → Added (side forth) es old more → (p : Pair) → times p (pairs_by (side (not forth)) es) ≤ count more p
+lead_gone t old more forth es h a exact added p =
+    let there = gone_there (side (not forth)) es t old h (stands_found (side (not forth)) es t a) exact p in
+    let now = added p in
+    omega (arith, there, now)
+
+pub lead_exact : (t u : TableValue) (old more new : Bag) (forth : Bool) (es : List Edit) → T (in_order es) → Stands (side (not forth)) es t
+    → u ≡ led (side forth) es t → IsExact t old → Added (side forth) es old more → Added (side (not forth)) es new more → IsExact u new
+lead_exact t u old more new forth es h a is exact added taken =
     stays_exact (side (not forth)) (side forth) es t u old new h (kept_refs forth) (stands_found (side (not forth)) es t a) (ap (λ (x : TableValue). x.entries) is) exact
-    (λ p. ap (λ (ps : List Pair). times p ps + count new p) (sym eg) ∙ changed p ∙ ap (λ (ps : List Pair). times p ps + count old p) ec)
+    (λ p. sym (taken p) ∙ added p)
 
-pub exact_as_it_was : (t u : TableValue) (old new : Bag) → u ≡ t → new ≡ old → IsExact t old → IsExact u new
-exact_as_it_was t u old new et eb h = subst (λ (v : TableValue). IsExact v new) (sym et) (subst (IsExact t) (sym eb) h)
+pub exact_as_it_was : (t u : TableValue) (old new : Bag) → u ≡ t → ((p : Pair) → count new p ≡ count old p) → IsExact t old → IsExact u new
+exact_as_it_was t u old new et same h of user = same (record { of = of; user = user }) ∙ subst (λ (v : TableValue). IsExact v old) (sym et) h of user
 
 -- the table of the exit, by the code's equations
 pub applied : (p : PatchValue) (es : List Edit) (after : ℕ) (t t₀ u new : TableValue) → es ≡ p.edits → after ≡ p.next_after → t ≡ t₀ → u ≡ led (side true) es t → new ≡ record { entries = u.entries; next = after } → new ≡ after_of p t₀

@@ -30,9 +30,13 @@ times_key k ks = count_by (is_key k) ks
 abbrev pub IsExact : TableValue → Bag → Type 0
 IsExact t bag = (of user : Key) → count bag (record { of = of; user = user }) ≡ times_key of (refs_at (entry_of t user))
 
+-- the pairs of one user with some keys
+abbrev pub pairs_with : Key → List Key → List Pair
+pairs_with user ks = map (λ k. record { of = k; user = user }) ks
+
 -- the pairs of one entry
 abbrev pub pairs_of : Key → Option Entry → List Pair
-pairs_of user o = map (λ k. record { of = k; user = user }) (refs_at o)
+pairs_of user o = pairs_with user (refs_at o)
 
 -- whether two ways have the same nodes, or two relations the same members
 abbrev pub same_lists : Option Content → Option Content → Bool

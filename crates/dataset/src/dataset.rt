@@ -16,7 +16,7 @@ ghost use Rattle.dataset.specs.Sides.{side, led};
 use crate::difference::{edits_of_told, edits_over};
 use crate::draft::Draft;
 use crate::edit::Edit;
-use crate::pairs::pairs;
+use crate::pairs::{add_pairs, take_pairs};
 use crate::patch::Patch;
 use crate::writes::{drop_keys, put_keys, write_all, writes_of};
 use osm_base::{Key, Keys};
@@ -218,8 +218,9 @@ impl DataSet {
 
 /// Leads the table by one side of edits, or leaves all as it was. Costs one look-up an edit.
 ///
-/// All that can find no memory comes first: the writes with their entries, the pairs, the new keys,
-/// the index. Where the index finds none the new keys are taken out again.
+/// All that can find no memory comes first: the writes with their entries, the new keys, the pairs
+/// that come. Where the index finds none the new keys are taken out again. Only then do the other
+/// pairs go, so each of them is there.
 fn lead(
     alloc: Global,
     table: &mut Table,
@@ -235,13 +236,12 @@ fn lead(
     ensures err { OnErr result (table.new ≡ table.old) }
 {
     let writes = writes_of(alloc, edits, forth)?;
-    let gone = pairs(alloc, edits, !forth)?;
-    let come = pairs(alloc, edits, forth)?;
     put_keys(table, edits, forth)?;
-    if let Err(e) = index.change(&gone, &come) {
+    if let Err(e) = add_pairs(index, edits, forth) {
         drop_keys(table, edits, !forth);
         return Err(e);
     }
+    take_pairs(index, edits, !forth);
     write_all(table, writes);
     drop_keys(table, edits, forth);
     Ok(())

@@ -10,8 +10,9 @@
 //! Advice for who changes it: what a table has after edits is said key by key, so no law needs the
 //! order in which they are made. By their sides edits bring a key, give one another entry, or take
 //! one out (`specs/Sides`). The first are made before the index changes, and undone where it finds
-//! no memory; the others come last, since they take none. How a tool shows that its draft keeps the
-//! table sound stands in `proofs/Kept` and `proofs/Changes`.
+//! no memory; the others come last, since they take none. In the index, likewise, the pairs that
+//! come are added before those that go are taken. How a tool shows that its draft keeps the table
+//! sound stands in `proofs/Kept` and `proofs/Changes`.
 #![tactic(auto)]
 
 mod dataset;

@@ -1,34 +1,77 @@
-//! The pairs that come and go with edits.
-ghost use Rattle.std.specs.Prelude.{◌≡◌, ◌++◌, map, OnOk, IfOk};
+//! The pairs that come and go with edits. They enter the index one by one, so no list of them takes
+//! memory.
+ghost use Rattle.std.specs.Prelude.{◌≡◌, ◌+◌, ◌<◌, ◌≤◌, if◌then◌else◌, None, length, take, slice_index_or, OnOk, OnErr};
 ghost use Rattle.std.specs.Option.{option_copied};
-ghost use Rattle.osm_base.specs.Content.{refs_of, node};
-ghost use Rattle.dataset.specs.Exact.{keeps_refs, mine_at, moved_pairs, pairs_by, pairs_of, same_lists};
+ghost use Rattle.osm_base.specs.Content.{refs_of};
+ghost use Rattle.ref_index.specs.declared.pair.Pair.{Pair};
+ghost use Rattle.ref_index.specs.Bag.{count, times};
+ghost use Rattle.dataset.specs.Exact.{keeps_refs, mine_at, moved_pairs, pairs_by, pairs_with, same_lists};
 ghost use Rattle.dataset.specs.Sides.{side};
 
 use crate::edit::Edit;
-use osm_base::{Content, Key, Member, node_key};
+use osm_base::{Content, Key, node_key};
 use osm_table::SharedEntry;
-use ref_index::Pair;
-use std::alloc::{AllocError, Global};
+use ref_index::{Pair, RefIndex};
+use std::alloc::AllocError;
 
-/// The pairs of one side of edits, but for edits that keep the references.
-pub fn pairs(alloc: Global, edits: &[Edit], forth: bool) -> Result<Vec<Pair>, AllocError>
-    ensures { IfOk result (λ pairs. pairs.items ≡ pairs_by (side forth) edits.now) }
+/// Adds the pairs of one side of edits, or none of them. Costs the index one look-up a reference,
+/// and nothing for an edit that keeps the references.
+///
+/// # Errors
+///
+/// Where the index finds no memory. Then each pair is there as often as it was.
+pub fn add_pairs(index: &mut RefIndex, edits: &[Edit], forth: bool) -> Result<(), AllocError>
+    ensures ok { OnOk result ((p : Pair) → count index.new p ≡ times p (pairs_by (side forth) edits.now) + count index.old p) }
+    ensures err { OnErr result ((p : Pair) → count index.new p ≡ count index.old p) }
 {
-    let mut pairs = Vec::new(alloc);
-    for edit in edits {
-        push_moved(&mut pairs, edit, forth)?;
-    }
-    Ok(pairs)
-}
-
-fn push_moved(pairs: &mut Vec<Pair>, edit: &Edit, forth: bool) -> Result<(), AllocError>
-    ensures { OnOk result (pairs.new.items ≡ pairs.old.items ++ moved_pairs (side forth) edit.now) }
-{
-    if !keeps_refs(edit) {
-        push_pairs(pairs, edit.key(), edit.side(forth))?;
+    for i in 0..edits.len() {
+        if let Err(e) = add_moved(index, &edits[i], forth) {
+            take_pairs(index, &edits[..i], forth);
+            return Err(e);
+        }
     }
     Ok(())
+}
+
+/// Takes the pairs of one side of edits, which are there. Costs what adding them does, and takes no
+/// memory.
+pub fn take_pairs(index: &mut RefIndex, edits: &[Edit], forth: bool)
+    requires { (p : Pair) → times p (pairs_by (side forth) edits.now) ≤ count index.old p }
+    ensures { (p : Pair) → times p (pairs_by (side forth) edits.now) + count index.new p ≡ count index.old p }
+{
+    for edit in edits {
+        take_moved(index, edit, forth);
+    }
+}
+
+fn add_moved(index: &mut RefIndex, edit: &Edit, forth: bool) -> Result<(), AllocError>
+    ensures ok { OnOk result ((p : Pair) → count index.new p ≡ times p (moved_pairs (side forth) edit.now) + count index.old p) }
+    ensures err { OnErr result ((p : Pair) → count index.new p ≡ count index.old p) }
+{
+    match moved(edit, forth) {
+        Some(content) => add_content(index, edit.key(), content),
+        None => Ok(()),
+    }
+}
+
+fn take_moved(index: &mut RefIndex, edit: &Edit, forth: bool)
+    requires { (p : Pair) → times p (moved_pairs (side forth) edit.now) ≤ count index.old p }
+    ensures { (p : Pair) → times p (moved_pairs (side forth) edit.now) + count index.new p ≡ count index.old p }
+{
+    if let Some(content) = moved(edit, forth) {
+        take_first(index, edit.key(), content, references(content));
+    }
+}
+
+/// The content whose references move with one side of an edit: none where the edit keeps them, or
+/// where nothing lives on that side.
+fn moved(edit: &Edit, forth: bool) -> Option<&Content>
+    ensures { option_copied result ≡ (if keeps_refs edit.now then None else mine_at (side forth edit.now)) }
+{
+    if keeps_refs(edit) {
+        return None;
+    }
+    mine_at(edit.side(forth))
 }
 
 fn keeps_refs(edit: &Edit) -> bool
@@ -67,55 +110,60 @@ fn same_lists(a: Option<&Content>, b: Option<&Content>) -> bool
     }
 }
 
-fn push_pairs(
-    pairs: &mut Vec<Pair>,
-    user: Key,
-    entry: Option<&SharedEntry>,
-) -> Result<(), AllocError>
-    ensures { OnOk result (pairs.new.items ≡ pairs.old.items ++ pairs_of user (option_copied entry.entry)) }
+/// Adds the pairs of a content, or none of them.
+fn add_content(index: &mut RefIndex, user: Key, content: &Content) -> Result<(), AllocError>
+    ensures ok { OnOk result ((p : Pair) → count index.new p ≡ times p (pairs_with user (refs_of content.now)) + count index.old p) }
+    ensures err { OnErr result ((p : Pair) → count index.new p ≡ count index.old p) }
 {
-    match mine_at(entry) {
-        Some(content) => push_content(pairs, user, content),
-        None => Ok(()),
+    for i in 0..references(content) {
+        if let Err(e) = index.add(pair_at(user, content, i)) {
+            take_first(index, user, content, i);
+            return Err(e);
+        }
+    }
+    Ok(())
+}
+
+/// Takes the first few pairs of a content.
+fn take_first(index: &mut RefIndex, user: Key, content: &Content, few: usize)
+    requires few { few ≤ length (refs_of content.now) }
+    requires there { (p : Pair) → times p (take few (pairs_with user (refs_of content.now))) ≤ count index.old p }
+    ensures { (p : Pair) → times p (take few (pairs_with user (refs_of content.now))) + count index.new p ≡ count index.old p }
+{
+    for i in 0..few {
+        index.take(pair_at(user, content, i));
     }
 }
 
-fn push_content(pairs: &mut Vec<Pair>, user: Key, content: &Content) -> Result<(), AllocError>
-    ensures { OnOk result (pairs.new.items ≡ pairs.old.items ++ map (λ k. record { of = k; user = user }) (refs_of content.now)) }
+/// How many references a content has.
+fn references(content: &Content) -> usize
+    ensures { result ≡ length (refs_of content.now) }
 {
     match content {
-        Content::Node { .. } => Ok(()),
-        Content::Way { refs, .. } => {
-            push_nodes(pairs, user, refs.as_slice())?;
-            Ok(())
-        }
-        Content::Relation { members, .. } => {
-            push_members(pairs, user, members.as_slice())?;
-            Ok(())
-        }
+        Content::Node { .. } => 0,
+        Content::Way { refs, .. } => refs.as_slice().len(),
+        Content::Relation { members, .. } => members.as_slice().len(),
     }
 }
 
-fn push_nodes(pairs: &mut Vec<Pair>, user: Key, ids: &[i64]) -> Result<(), AllocError>
-    ensures { OnOk result (pairs.new.items ≡ pairs.old.items ++ map (λ id. record { of = node id; user = user }) ids.now) }
+/// A reference of a content, by its place, as a pair.
+fn pair_at(user: Key, content: &Content, i: usize) -> Pair
+    requires { i < length (refs_of content.now) }
+    ensures { result ≡ slice_index_or (pairs_with user (refs_of content.now)) i result }
 {
-    for id in ids {
-        pairs.push(Pair {
-            of: node_key(*id),
-            user: user,
-        })?;
+    Pair {
+        of: reference_at(content, i),
+        user,
     }
-    Ok(())
 }
 
-fn push_members(pairs: &mut Vec<Pair>, user: Key, members: &[Member]) -> Result<(), AllocError>
-    ensures { OnOk result (pairs.new.items ≡ pairs.old.items ++ map (λ member. record { of = member.key; user = user }) members.now) }
+fn reference_at(content: &Content, i: usize) -> Key
+    requires { i < length (refs_of content.now) }
+    ensures { result ≡ slice_index_or (refs_of content.now) i result }
 {
-    for member in members {
-        pairs.push(Pair {
-            of: member.key,
-            user: user,
-        })?;
+    match content {
+        Content::Node { .. } => unreachable!(),
+        Content::Way { refs, .. } => node_key(refs.as_slice()[i]),
+        Content::Relation { members, .. } => members.as_slice()[i].key,
     }
-    Ok(())
 }

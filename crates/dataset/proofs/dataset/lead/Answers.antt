@@ -1,18 +1,16 @@
-use Rattle.std.proofs.Common.{◌∙◌}
+use Rattle.std.proofs.Common.{◌∙◌, sym}
 use Rattle.dataset.proofs.SideLaws.{writes_there, led_whole, keys_undone}
 use Rattle.dataset.proofs.LeadLaws.{lead_gone, lead_exact, exact_as_it_was}
 use Rattle.dataset.proofs.dataset.lead.Goals as goal
 
-pub change-requires : goal.change-requires
-change-requires c = record {
-  there = lead_gone c.args.table.now c.args.index.now c.args.forth c.args.edits.now c.deref.result.now (c.deref.ensures.value ∙ c.in_ok-gone.ensures) c.requires.order c.requires.stands c.requires.exact;
-}
+pub take_pairs-requires : goal.take_pairs-requires
+take_pairs-requires c = lead_gone c.args.table.now c.args.index.now c.add_pairs.new.index c.args.forth c.args.edits.now c.requires.order c.requires.stands c.requires.exact c.in_default.ensures.ok
 
 pub returns-in-Err-clause-err : goal.returns-in-Err-clause-err
 returns-in-Err-clause-err c = c.drop_keys.ensures ∙ keys_undone c.args.forth c.args.edits.now c.args.table.now c.put_keys.new.table c.requires.order c.requires.stands c.in_ok-put_keys.ensures.ok
 
 pub returns-in-Err-clause-exact : goal.returns-in-Err-clause-exact
-returns-in-Err-clause-exact c = exact_as_it_was c.args.table.now c.drop_keys.new.table c.args.index.now c.change.new.self (returns-in-Err-clause-err c) c.in-Err.ensures.err c.requires.exact
+returns-in-Err-clause-exact c = exact_as_it_was c.args.table.now c.drop_keys.new.table c.args.index.now c.add_pairs.new.index (returns-in-Err-clause-err c) c.in-Err.ensures.err c.requires.exact
 
 pub write_all-requires : goal.write_all-requires
 write_all-requires c = writes_there c.args.forth c.args.edits.now c.in_ok-writes.writes.items c.args.table.now c.put_keys.new.table c.in_ok-writes.ensures c.requires.order c.requires.stands c.in_ok-put_keys.ensures.ok
@@ -24,5 +22,5 @@ returns-clause-ok c =
 
 pub returns-clause-exact : goal.returns-clause-exact
 returns-clause-exact c =
-    lead_exact c.args.table.now c.drop_keys-2.new.table c.args.index.now c.change.new.self c.args.forth c.args.edits.now c.deref.result.now c.deref-2.result.now
-    (c.deref.ensures.value ∙ c.in_ok-gone.ensures) (c.deref-2.ensures.value ∙ c.in_ok-come.ensures) c.requires.order c.requires.stands (returns-clause-ok c) c.requires.exact c.in_default.ensures.ok
+    lead_exact c.args.table.now c.drop_keys-2.new.table c.args.index.now c.add_pairs.new.index c.take_pairs.new.index c.args.forth c.args.edits.now
+    c.requires.order c.requires.stands (returns-clause-ok c) c.requires.exact c.in_default.ensures.ok (λ p. sym (c.take_pairs.ensures p))
