@@ -40,26 +40,18 @@ impl Moment {
     pub fn new(time: Option<Stamp>) -> Moment
         ensures { result ≡ time }
     {
-        Moment {
-            kept: match time {
-                None => Kept::Unknown,
-                Some(Stamp {
-                    year,
-                    month,
-                    day,
-                    hour,
-                    minute,
-                    second,
-                }) => Kept::Known {
-                    month,
-                    day,
-                    hour,
-                    minute,
-                    second,
-                    year,
-                },
+        let kept = match time {
+            None => Kept::Unknown,
+            Some(time) => Kept::Known {
+                month: time.month,
+                day: time.day,
+                hour: time.hour,
+                minute: time.minute,
+                second: time.second,
+                year: time.year,
             },
-        }
+        };
+        Moment { kept }
     }
 
     /// The time, if it is known.
