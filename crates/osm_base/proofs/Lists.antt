@@ -1,6 +1,6 @@
 -- What holds of each item of a list, and lists that a test or `dedup` has left.
-use Rattle.std.proofs.Common.{◌≡◌, ◌≤◌, ◌||◌, ℕ, zero, suc, Bool, true, false, cond, List, [], ◌∷◌, ◌++◌, length, take, drop, refl, sym, subst, arith}
-use Rattle.std.specs.List.{AllByRecursion, list_any, filter, dedup, dedup_from}
+use Rattle.std.proofs.Common.{◌≡◌, ◌≤◌, ◌||◌, ℕ, zero, suc, Bool, true, false, cond, List, [], ◌∷◌, ◌++◌, length, take, drop, Some, None, refl, sym, ap, ◌∙◌, subst, arith}
+use Rattle.std.specs.List.{AllByRecursion, list_any, find, filter, dedup, dedup_from}
 use Rattle.std.proofs.lemmas.List.Sums.{length-filter, count_by-le-length}
 use Rattle.osm_base.specs.Rank.{is_key}
 use Rattle.osm_base.specs.declared.key.Key.{Key}
@@ -29,6 +29,11 @@ at_case P k r false rest is e here there = there e
 pub all_at : (P : Key → Type 0) (ks : List Key) (r : Key) → AllByRecursion P ks → list_any (is_key r) ks ≡ true → P r
 all_at P [] r h e = let f : false ≡ true = e in cc
 all_at P (k ∷ ks) r h e = at_case P k r (is_key r k) (list_any (is_key r) ks) refl e h.0 (all_at P ks r h.1)
+
+-- a test that no item passes finds none
+pub find_none : {X : Type 0} (p : X → Bool) (xs : List X) → ((x : X) → p x ≡ false) → find p xs ≡ None
+find_none p [] h = refl
+find_none p (x ∷ xs) h = ap (λ b. cond b (Some x) (find p xs)) (h x) ∙ find_none p xs h
 
 -- those that a test keeps are no more
 pub length-filter_le : {X : Type 0} (p : X → Bool) (xs : List X) → length (filter p xs) ≤ length xs

@@ -53,7 +53,8 @@ same_coord_decides a b =
     Decides-like (same_coord a b) (coord_as a b) (λ e. (ap (λ (c : Coord). c.lon) e, ap (λ (c : Coord). c.lat) e))
     (Decides-and (int_eq a.lon b.lon) (int_eq a.lat b.lat) (signed_Decides a.lon b.lon) (signed_Decides a.lat b.lat))
 
-never : {P : Type 0} → (P → false ≡ true) → Decides false P
+-- a test that fails decides what never holds
+pub never : {P : Type 0} → (P → false ≡ true) → Decides false P
 never none = (λ h. cc, none)
 
 pub same_content_decides : (a b : Content) → Decides (same_content a b) (a ≡ b)

@@ -1,9 +1,9 @@
 -- Each test of equality decides equality.
-use Rattle.std.proofs.Common.{◌≡◌, ℕ, ◌==◌, ◌&&◌, true, false, Option, Some, None, refl, ap, Decides}
+use Rattle.std.proofs.Common.{◌≡◌, ℕ, ◌==◌, ◌&&◌, Option, Some, None, refl, ap, Decides}
 use Rattle.std.specs.Cmp.{unsigned_Decides}
 use Rattle.std.proofs.lemmas.Bool.Decides.{Decides-and, Decides-like}
 use Rattle.osm_base.specs.Same.{same_content, same_meta}
-use Rattle.osm_base.proofs.SameLaws.{same_content_decides, same_meta_decides}
+use Rattle.osm_base.proofs.SameLaws.{never, same_content_decides, same_meta_decides}
 use Rattle.osm_base.specs.declared.content.Content.{Content}
 use Rattle.osm_base.specs.declared.meta.Meta.{Meta}
 use Rattle.osm_table.specs.declared.entry.Base.{Base}
@@ -14,9 +14,6 @@ use Rattle.osm_table.specs.declared.entry.Conflict.{Conflict}
 use Rattle.osm_table.specs.declared.entry.Entry.{Entry}
 use Rattle.osm_table.specs.declared.entry.Entry.TheVariants.{Incomplete, Known}
 use Rattle.osm_table.specs.Same.{same_base, same_why, same_conflict, same_conflicts, same_mine, same_entry}
-
-apart : {P : Type 0} → (P → false ≡ true) → Decides false P
-apart f = (λ h. cc, f)
 
 live_decides : (v w : ℕ) (c d : Content) (m n : Meta) → Decides (v == w && same_content c d && same_meta m n) (Live v c m ≡ Live w d n)
 live_decides v w c d m n =
@@ -30,24 +27,24 @@ gone_decides v w m n =
 
 pub same_base_decides : (a b : Base) → Decides (same_base a b) (a ≡ b)
 same_base_decides New New = (λ h. refl, λ e. refl)
-same_base_decides New (Live w d n) = apart (λ e. cc)
-same_base_decides New (Gone w n) = apart (λ e. cc)
-same_base_decides (Live v c m) New = apart (λ e. cc)
+same_base_decides New (Live w d n) = never (λ e. cc)
+same_base_decides New (Gone w n) = never (λ e. cc)
+same_base_decides (Live v c m) New = never (λ e. cc)
 same_base_decides (Live v c m) (Live w d n) = live_decides v w c d m n
-same_base_decides (Live v c m) (Gone w n) = apart (λ e. cc)
-same_base_decides (Gone v m) New = apart (λ e. cc)
-same_base_decides (Gone v m) (Live w d n) = apart (λ e. cc)
+same_base_decides (Live v c m) (Gone w n) = never (λ e. cc)
+same_base_decides (Gone v m) New = never (λ e. cc)
+same_base_decides (Gone v m) (Live w d n) = never (λ e. cc)
 same_base_decides (Gone v m) (Gone w n) = gone_decides v w m n
 
 pub same_why_decides : (a b : Why) → Decides (same_why a b) (a ≡ b)
 same_why_decides Changed Changed = (λ h. refl, λ e. refl)
-same_why_decides Changed Held = apart (λ e. cc)
-same_why_decides Changed Withdrawn = apart (λ e. cc)
-same_why_decides Held Changed = apart (λ e. cc)
+same_why_decides Changed Held = never (λ e. cc)
+same_why_decides Changed Withdrawn = never (λ e. cc)
+same_why_decides Held Changed = never (λ e. cc)
 same_why_decides Held Held = (λ h. refl, λ e. refl)
-same_why_decides Held Withdrawn = apart (λ e. cc)
-same_why_decides Withdrawn Changed = apart (λ e. cc)
-same_why_decides Withdrawn Held = apart (λ e. cc)
+same_why_decides Held Withdrawn = never (λ e. cc)
+same_why_decides Withdrawn Changed = never (λ e. cc)
+same_why_decides Withdrawn Held = never (λ e. cc)
 same_why_decides Withdrawn Withdrawn = (λ h. refl, λ e. refl)
 
 conflict_as : (a b : Conflict) → (a.why ≡ b.why) × (a.theirs ≡ b.theirs) → a ≡ b
@@ -60,14 +57,14 @@ same_conflict_decides a b =
 
 pub same_conflicts_decides : (a b : Option Conflict) → Decides (same_conflicts a b) (a ≡ b)
 same_conflicts_decides None None = (λ h. refl, λ e. refl)
-same_conflicts_decides None (Some b) = apart (λ e. cc)
-same_conflicts_decides (Some a) None = apart (λ e. cc)
+same_conflicts_decides None (Some b) = never (λ e. cc)
+same_conflicts_decides (Some a) None = never (λ e. cc)
 same_conflicts_decides (Some a) (Some b) = Decides-like (same_conflict a b) (λ e. ap Some e) (λ e. cc) (same_conflict_decides a b)
 
 pub same_mine_decides : (a b : Option Content) → Decides (same_mine a b) (a ≡ b)
 same_mine_decides None None = (λ h. refl, λ e. refl)
-same_mine_decides None (Some b) = apart (λ e. cc)
-same_mine_decides (Some a) None = apart (λ e. cc)
+same_mine_decides None (Some b) = never (λ e. cc)
+same_mine_decides (Some a) None = never (λ e. cc)
 same_mine_decides (Some a) (Some b) = Decides-like (same_content a b) (λ e. ap Some e) (λ e. cc) (same_content_decides a b)
 
 known_decides : (a b : Base) (m n : Option Content) (c d : Option Conflict) → Decides (same_base a b && same_mine m n && same_conflicts c d) (Known a m c ≡ Known b n d)
@@ -77,6 +74,6 @@ known_decides a b m n c d =
 
 pub same_entry_decides : (a b : Entry) → Decides (same_entry a b) (a ≡ b)
 same_entry_decides Incomplete Incomplete = (λ h. refl, λ e. refl)
-same_entry_decides Incomplete (Known b n d) = apart (λ e. cc)
-same_entry_decides (Known a m c) Incomplete = apart (λ e. cc)
+same_entry_decides Incomplete (Known b n d) = never (λ e. cc)
+same_entry_decides (Known a m c) Incomplete = never (λ e. cc)
 same_entry_decides (Known a m c) (Known b n d) = known_decides a b m n c d
