@@ -1,7 +1,6 @@
 -- What a merge makes of an empty table, where what is told refers to nothing but what is told of as there.
-use Rattle.std.proofs.Common.{◌≡◌, ℕ, ◌<◌, ◌≤◌, ◌||◌, Bool, true, false, cond, is_some, List, [], ◌∷◌, length, Option, Some, None, refl, sym, ◌∙◌, ap, subst, inl, inr, ◌⊎◌, arith}
+use Rattle.std.proofs.Common.{◌≡◌, ℕ, ◌<◌, ◌≤◌, ◌||◌, Bool, true, false, cond, is_some, [], length, Option, Some, None, refl, sym, ◌∙◌, ap, subst, inl, inr, ◌⊎◌, arith}
 use Rattle.std.specs.Prelude.{nat_lt, Ok, Err}
-use Rattle.std.specs.List.{find}
 use Rattle.std.specs.Option.{option_map, option_or}
 use Rattle.std.specs.FinMap as fin
 use Rattle.std.proofs.lemmas.Bool.{true≢false}
@@ -37,7 +36,7 @@ use Rattle.tool_api.proofs.Looks.{next_changed}
 use Rattle.merge_tool.proofs.Outcome.{merged_at}
 use Rattle.merge_tool.proofs.Rows.{theirs_by, verdict_by}
 use Rattle.merge_tool.proofs.Stand.{bared_kept, bared_none, namer, settled, wanted_lost}
-use Rattle.osm_base.proofs.Lists.{all_at}
+use Rattle.osm_base.proofs.Lists.{all_at, find_none}
 use Rattle.merge_tool.proofs.Plans.{drafted_is, drafted_sound, no_room, taken_in}
 
 -- One object of which nothing was known.
@@ -83,10 +82,6 @@ told_names m closed j k None e h = absurd (true≢false (sym h))
 told_names m closed j k (Some told.Mentioned) e h = absurd (true≢false (sym h))
 told_names m closed j k (Some (told.Live v c meta)) e h = all_at (λ r. is_told_there (fin.get m r) ≡ true) (refs_of c) k (closed j v c meta e) h
 told_names m closed j k (Some (told.Gone v meta)) e h = absurd (true≢false (sym h))
-
-find_none : (p : Key → Bool) (ks : List Key) → ((k : Key) → p k ≡ false) → find p ks ≡ None
-find_none p [] h = refl
-find_none p (k ∷ ks) h = ap (λ b. cond b (Some k) (find p ks)) (h k) ∙ find_none p ks h
 
 or_none : (o : Option Entry) → option_or o None ≡ o
 or_none None = refl

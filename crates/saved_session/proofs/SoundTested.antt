@@ -12,6 +12,7 @@ use Rattle.osm_base.specs.declared.key.Key.{Key}
 use Rattle.osm_base.specs.declared.content.Content.{Content}
 use Rattle.osm_base.proofs.SameLaws.{is_key_decides}
 use Rattle.osm_base.proofs.RisingKeys.{key_itself, one_key}
+use Rattle.osm_base.proofs.Lists.{find_none}
 use Rattle.osm_base.proofs.Tests.{by_either}
 use Rattle.osm_table.specs.Same.{same_base, same_mine}
 use Rattle.osm_table.proofs.SameLaws.{same_base_decides, same_mine_decides}
@@ -239,14 +240,10 @@ tested_sound t number none =
     (ap (breaks t k) (sym has) ∙ none_found (is_unsound t) (keys_by_rank t) none k (sym (fin.contains_key-keys t.entries k) ∙ ap is_some has))) in
     record { entries = λ k e has. (each k e has).0; closed = λ k e has. (each k e has).1; number = number }
 
-all_fit : (p : Key → Bool) (keys : List Key) → ((k : Key) → p k ≡ false) → find p keys ≡ None
-all_fit p [] none = refl
-all_fit p (k ∷ ks) none = ap (λ b. cond b (Some k) (find p ks)) (none k) ∙ all_fit p ks none
-
 fits_at : (t : TableValue) (k : Key) (o : Option Entry) → ((e : Entry) → o ≡ Some e → is_sound_at t k e ≡ true) → breaks t k o ≡ false
 fits_at t k None h = refl
 fits_at t k (Some e) h = ap not (h e refl)
 
 -- and a sound one has none
 pub sound_tested : (t : TableValue) → IsSound t → least_unsound t ≡ None
-sound_tested t s = all_fit (is_unsound t) (keys_by_rank t) (λ k. fits_at t k (entry_of t k) (λ e has. (at_decides t k e).1 (s.entries k e has, s.closed k e has)))
+sound_tested t s = find_none (is_unsound t) (keys_by_rank t) (λ k. fits_at t k (entry_of t k) (λ e has. (at_decides t k e).1 (s.entries k e has, s.closed k e has)))
