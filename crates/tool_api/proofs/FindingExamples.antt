@@ -1,5 +1,5 @@
 -- Worked examples of findings and of what mends them, on which the definitions compute.
-use Rattle.std.proofs.Common.{◌≡◌, ℕ, pos, negsuc, true, false, List, [], ◌∷◌, map, Option, Some, None, Ok, refl}
+use Rattle.std.proofs.Common.{◌≡◌, ℕ, pos, negsuc, true, false, List, [], ◌∷◌, map, Some, None, Ok, refl}
 use Rattle.std.specs.Prelude.{codes}
 use Rattle.std.specs.FinMap as fin
 use Rattle.std.proofs.lemmas.Str.{chars-nil}
@@ -11,13 +11,10 @@ use Rattle.osm_base.specs.declared.coord.Coord.{Coord}
 use Rattle.osm_base.specs.declared.content.Content.{Content}
 use Rattle.osm_base.specs.declared.content.Content.TheVariants as content
 use Rattle.osm_base.specs.declared.key.Key.{Key}
-use Rattle.osm_base.specs.declared.key.Kind.TheVariants as kind
-use Rattle.osm_base.specs.declared.members.Member.{Member}
 use Rattle.osm_table.specs.declared.entry.Base.TheVariants as base
 use Rattle.osm_table.specs.declared.entry.Entry.{Entry}
 use Rattle.osm_table.specs.declared.entry.Entry.TheVariants.{Known}
-use Rattle.osm_table.specs.Table.{TableValue, keys_by_rank}
-use Rattle.std.specs.List.{filter}
+use Rattle.osm_table.specs.Table.{TableValue}
 use Rattle.tool_api.specs.declared.refusal.Refusal.TheVariants.{NoFinding, NotSamePlace, TagClash, NamedTwice, WrongKind}
 use Rattle.tool_api.specs.Findings.{doubled_of, has_repeat, is_repeated, is_open_ring}
 use Rattle.tool_api.specs.Squeeze.{squeezed, squeeze}

@@ -2,7 +2,7 @@
 --
 -- The state of the server that the conflict holds becomes the base, mine is as chosen, and the conflict goes. For example
 -- where n1 is in conflict, `resolve n1 theirs` is refused as InUse n1 w5 if theirs is deleted and w5 refers to n1.
-use Rattle.std.specs.Prelude.{ℕ, Bool, not, if◌then◌else◌, List, [], ◌∷◌, Option, Some, None, Result, Ok}
+use Rattle.std.specs.Prelude.{ℕ, not, if◌then◌else◌, [], ◌∷◌, Option, Some, None, Result, Ok}
 use Rattle.std.specs.Option.{option_map, option_or}
 use Rattle.osm_base.specs.Rank.{is_key}
 use Rattle.osm_base.specs.declared.key.Key.{Key}
