@@ -1,3 +1,4 @@
+pub mod Batches
 pub mod Closed
 pub mod Examples
 pub mod Found

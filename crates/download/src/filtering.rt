@@ -8,13 +8,13 @@ ghost use Rattle.std.specs.List.{list_any};
 ghost use Rattle.std.specs.Option.{option_copied, option_map};
 ghost use Rattle.osm_base.specs.Content.{kind_of_content, node, refs_of};
 ghost use Rattle.osm_base.specs.Meta.{empty_meta};
-ghost use Rattle.opl_file.specs.Objects.{keys_of};
+ghost use Rattle.opl_file.specs.Objects.{keys_of, objects_in};
 ghost use Rattle.download.specs.Tell.{references, told_of, AreTellable};
 ghost use Rattle.download.specs.Filter.{among, in_box, in_area, is_between, is_wanted, has_tags, is_near, near, is_reached, is_related, on_side, keeps, kept, filtered};
 ghost use Rattle.download.specs.FilterCode.{with_key, key_set, is_way, is_place, way_left, is_left, relation_left};
 
 use crate::key_set::KeySet;
-use crate::telling::tell_objects;
+use crate::telling::tell_batches;
 use opl_file::Objects;
 use opl_line::OplObject;
 use osm_base::{Area, Content, Coord, Key, Member, Tags, Text, node_key};
@@ -60,67 +60,75 @@ fn filter_by(
     requires { AreTellable objects }
     ensures { IfOk result (λ told. told ≡ told_of (kept objects area wanted.now)) }
 {
-    let kept = kept(alloc, objects.into_vec(), area, wanted)?;
-    tell_objects(alloc, kept)
+    let kept = kept(alloc, objects.into_batches(), area, wanted)?;
+    tell_batches(alloc, kept)
 }
 
 fn kept(
     alloc: Global,
-    objects: Vec<OplObject>,
+    batches: Vec<Vec<OplObject>>,
     area: Option<Area>,
     wanted: &Tags,
-) -> Result<Vec<OplObject>, AllocError>
-    ensures { IfOk result (λ left. left.items ≡ kept objects.items area wanted.now) }
+) -> Result<Vec<Vec<OplObject>>, AllocError>
+    ensures { IfOk result (λ left. objects_in left.items ≡ kept (objects_in batches.items) area wanted.now) }
 {
     if area.is_none() && wanted.is_empty() {
-        return Ok(objects);
+        return Ok(batches);
     }
-    kept_part(alloc, objects, area, wanted)
+    kept_part(alloc, batches, area, wanted)
 }
 
 fn kept_part(
     alloc: Global,
-    mut objects: Vec<OplObject>,
+    mut batches: Vec<Vec<OplObject>>,
     area: Option<Area>,
     wanted: &Tags,
-) -> Result<Vec<OplObject>, AllocError>
-    ensures { IfOk result (λ left. left.items ≡ filter (keeps objects.items area wanted.now) objects.items) }
+) -> Result<Vec<Vec<OplObject>>, AllocError>
+    ensures { IfOk result (λ left. objects_in left.items ≡ filter (keeps (objects_in batches.items) area wanted.now) (objects_in batches.items)) }
 {
-    let near = near(alloc, &objects, area)?;
-    keep_ways(&mut objects, wanted, &near);
-    let of_ways = nodes_of_ways(alloc, &objects)?;
-    keep_nodes(&mut objects, area, wanted, &of_ways);
-    let places = places(alloc, &objects)?;
-    let relations = relations_to(alloc, &objects, &places)?;
-    keep_relations(&mut objects, &places, &relations);
-    objects.shrink_to_fit();
-    Ok(objects)
+    let near = near(alloc, &batches, area)?;
+    keep_ways(&mut batches, wanted, &near);
+    let of_ways = nodes_of_ways(alloc, &batches)?;
+    keep_nodes(&mut batches, area, wanted, &of_ways);
+    let places = places(alloc, &batches)?;
+    let relations = relations_to(alloc, &batches, &places)?;
+    keep_relations(&mut batches, &places, &relations);
+    Ok(batches)
 }
 
 // The nodes in the box, if there is one.
 fn near(
     alloc: Global,
-    objects: &[OplObject],
+    batches: &[Vec<OplObject>],
     area: Option<Area>,
 ) -> Result<Option<KeySet>, AllocError>
-    ensures { IfOk result (λ set. option_map among set ≡ near area objects.now) }
+    ensures { IfOk result (λ set. option_map among set ≡ near area (objects_in batches.now)) }
 {
     match area {
         None => Ok(None),
-        Some(area) => Ok(Some(nodes_in(alloc, objects, &area)?)),
+        Some(area) => Ok(Some(nodes_in(alloc, batches, &area)?)),
     }
 }
 
-fn nodes_in(alloc: Global, objects: &[OplObject], area: &Area) -> Result<KeySet, AllocError>
-    ensures { IfOk result (λ set. set ≡ key_set (keys_of (filter (on_side (is_near (Some area.now))) objects.now))) }
+fn nodes_in(alloc: Global, batches: &[Vec<OplObject>], area: &Area) -> Result<KeySet, AllocError>
+    ensures { IfOk result (λ set. set ≡ key_set (keys_of (filter (on_side (is_near (Some area.now))) (objects_in batches.now)))) }
 {
     let mut keys = KeySet::new(alloc);
+    for batch in batches {
+        put_near(&mut keys, batch, area)?;
+    }
+    Ok(keys)
+}
+
+fn put_near(keys: &mut KeySet, objects: &[OplObject], area: &Area) -> Result<(), AllocError>
+    ensures { OnOk result (keys.new ≡ fold with_key keys.old (keys_of (filter (on_side (is_near (Some area.now))) objects.now))) }
+{
     for object in objects {
         if is_near(&object.side, area) {
             keys.put(object.key)?;
         }
     }
-    Ok(keys)
+    Ok(())
 }
 
 fn is_near(side: &Option<Content>, area: &Area) -> bool
@@ -162,7 +170,15 @@ fn is_wanted(wanted: &[u8], value: Option<&[u8]>) -> bool
     }
 }
 
-fn keep_ways(objects: &mut Vec<OplObject>, wanted: &Tags, near: &Option<KeySet>)
+fn keep_ways(batches: &mut Vec<Vec<OplObject>>, wanted: &Tags, near: &Option<KeySet>)
+    ensures { objects_in batches.new.items ≡ filter (on_side (way_left wanted.now (option_map among near.now))) (objects_in batches.old.items) }
+{
+    for batch in batches.iter_mut() {
+        keep_ways_of(batch, wanted, near);
+    }
+}
+
+fn keep_ways_of(objects: &mut Vec<OplObject>, wanted: &Tags, near: &Option<KeySet>)
     ensures { objects.new.items ≡ filter (on_side (way_left wanted.now (option_map among near.now))) objects.old.items }
 {
     objects.retain(|object| way_stays(&object.side, wanted, near));
@@ -197,16 +213,25 @@ fn has_node(keys: &KeySet, ids: &[i64]) -> bool
 }
 
 // The nodes of the ways.
-fn nodes_of_ways(alloc: Global, objects: &[OplObject]) -> Result<KeySet, AllocError>
-    ensures { IfOk result (λ set. set ≡ key_set (references (filter (on_side is_way) objects.now))) }
+fn nodes_of_ways(alloc: Global, batches: &[Vec<OplObject>]) -> Result<KeySet, AllocError>
+    ensures { IfOk result (λ set. set ≡ key_set (references (filter (on_side is_way) (objects_in batches.now)))) }
 {
     let mut keys = KeySet::new(alloc);
-    for object in objects {
-        if let Some(Content::Way { refs, .. }) = &object.side {
-            put_nodes(&mut keys, refs.as_slice())?;
-        }
+    for batch in batches {
+        put_of_ways(&mut keys, batch)?;
     }
     Ok(keys)
+}
+
+fn put_of_ways(keys: &mut KeySet, objects: &[OplObject]) -> Result<(), AllocError>
+    ensures { OnOk result (keys.new ≡ fold with_key keys.old (references (filter (on_side is_way) objects.now))) }
+{
+    for object in objects {
+        if let Some(Content::Way { refs, .. }) = &object.side {
+            put_nodes(keys, refs.as_slice())?;
+        }
+    }
+    Ok(())
 }
 
 fn put_nodes(keys: &mut KeySet, ids: &[i64]) -> Result<(), AllocError>
@@ -218,7 +243,20 @@ fn put_nodes(keys: &mut KeySet, ids: &[i64]) -> Result<(), AllocError>
     Ok(())
 }
 
-fn keep_nodes(objects: &mut Vec<OplObject>, area: Option<Area>, wanted: &Tags, of_ways: &KeySet)
+fn keep_nodes(
+    batches: &mut Vec<Vec<OplObject>>,
+    area: Option<Area>,
+    wanted: &Tags,
+    of_ways: &KeySet,
+)
+    ensures { objects_in batches.new.items ≡ filter (is_left area wanted.now (among of_ways.now)) (objects_in batches.old.items) }
+{
+    for batch in batches.iter_mut() {
+        keep_nodes_of(batch, area, wanted, of_ways);
+    }
+}
+
+fn keep_nodes_of(objects: &mut Vec<OplObject>, area: Option<Area>, wanted: &Tags, of_ways: &KeySet)
     ensures { objects.new.items ≡ filter (is_left area wanted.now (among of_ways.now)) objects.old.items }
 {
     objects.retain(|object| node_stays(object, area, wanted, of_ways));
@@ -248,16 +286,25 @@ fn in_area(at: Coord, area: Option<Area>) -> bool
 }
 
 // The nodes and the ways.
-fn places(alloc: Global, objects: &[OplObject]) -> Result<KeySet, AllocError>
-    ensures { IfOk result (λ set. set ≡ key_set (keys_of (filter (on_side is_place) objects.now))) }
+fn places(alloc: Global, batches: &[Vec<OplObject>]) -> Result<KeySet, AllocError>
+    ensures { IfOk result (λ set. set ≡ key_set (keys_of (filter (on_side is_place) (objects_in batches.now)))) }
 {
     let mut keys = KeySet::new(alloc);
+    for batch in batches {
+        put_places(&mut keys, batch)?;
+    }
+    Ok(keys)
+}
+
+fn put_places(keys: &mut KeySet, objects: &[OplObject]) -> Result<(), AllocError>
+    ensures { OnOk result (keys.new ≡ fold with_key keys.old (keys_of (filter (on_side is_place) objects.now))) }
+{
     for object in objects {
         if is_place(&object.side) {
             keys.put(object.key)?;
         }
     }
-    Ok(keys)
+    Ok(())
 }
 
 fn is_place(side: &Option<Content>) -> bool
@@ -271,16 +318,33 @@ fn is_place(side: &Option<Content>) -> bool
 }
 
 // The relations that refer to one of these.
-fn relations_to(alloc: Global, objects: &[OplObject], places: &KeySet) -> Result<KeySet, AllocError>
-    ensures { IfOk result (λ set. set ≡ key_set (keys_of (filter (on_side (is_related (among places.now))) objects.now))) }
+fn relations_to(
+    alloc: Global,
+    batches: &[Vec<OplObject>],
+    places: &KeySet,
+) -> Result<KeySet, AllocError>
+    ensures { IfOk result (λ set. set ≡ key_set (keys_of (filter (on_side (is_related (among places.now))) (objects_in batches.now)))) }
 {
     let mut keys = KeySet::new(alloc);
+    for batch in batches {
+        put_relations(&mut keys, batch, places)?;
+    }
+    Ok(keys)
+}
+
+fn put_relations(
+    keys: &mut KeySet,
+    objects: &[OplObject],
+    places: &KeySet,
+) -> Result<(), AllocError>
+    ensures { OnOk result (keys.new ≡ fold with_key keys.old (keys_of (filter (on_side (is_related (among places.now))) objects.now))) }
+{
     for object in objects {
         if is_related(&object.side, places) {
             keys.put(object.key)?;
         }
     }
-    Ok(keys)
+    Ok(())
 }
 
 #[tactic(auto, using(osm_base::proofs::AnyMap::list_any_map))]
@@ -299,7 +363,15 @@ fn names_one(members: &[Member], keys: &KeySet) -> bool
     members.iter().any(|member| keys.contains(member.key))
 }
 
-fn keep_relations(objects: &mut Vec<OplObject>, places: &KeySet, relations: &KeySet)
+fn keep_relations(batches: &mut Vec<Vec<OplObject>>, places: &KeySet, relations: &KeySet)
+    ensures { objects_in batches.new.items ≡ filter (on_side (relation_left (among places.now) (among relations.now))) (objects_in batches.old.items) }
+{
+    for batch in batches.iter_mut() {
+        keep_relations_of(batch, places, relations);
+    }
+}
+
+fn keep_relations_of(objects: &mut Vec<OplObject>, places: &KeySet, relations: &KeySet)
     ensures { objects.new.items ≡ filter (on_side (relation_left (among places.now) (among relations.now))) objects.old.items }
 {
     objects.retain(|object| relation_stays(&object.side, places, relations));

@@ -21,7 +21,7 @@ fn new_object(object: OplObject) -> Option<NewObject>
 }
 
 /// The objects of a file that an import adds: those with a negative id that aren't deleted, in the order of the file.
-/// The contents are moved, not copied.
+/// The contents are moved, not copied, and each batch of the objects is given back as soon as it was gone over.
 ///
 /// # Errors
 /// No memory was left.
@@ -29,8 +29,9 @@ pub fn new_objects(alloc: Global, objects: Objects) -> Result<NewObjects, AllocE
     ensures { IfOk result (λ new. new ≡ new_objects_of objects) }
 {
     let new = objects
-        .into_vec()
+        .into_batches()
         .into_iter()
+        .flatten()
         .filter_map(|object| new_object(object))
         .collect(alloc)?;
     Ok(NewObjects::from_vec(new))

@@ -88,7 +88,7 @@ impl Meeting {
         ensures unsound { IfOk result (λ answer. IfSome answer (λ key. IsKept done undone self.old self.new)) }
         ensures err { OnErr result (IsKept done undone self.old self.new) }
     {
-        let world = served(self.alloc(), objects.as_slice())?;
+        let world = served(self.alloc(), objects)?;
         match world.first_unsound()? {
             Some(key) => Ok(Some(key)),
             None => {
@@ -235,14 +235,16 @@ impl Meeting {
 }
 
 /// A server with these objects, each as it stands in the list.
-fn served(alloc: Global, objects: &[OplObject]) -> Result<World, AllocError>
+fn served(alloc: Global, objects: &Objects) -> Result<World, AllocError>
     requires { AreTellable objects.now }
     ensures { IfOk result (λ world. world ≡ world_of (objects_served objects.now)) }
 {
     let mut world = World::new(alloc);
-    for object in objects {
-        let entry = WorldEntry::new(object.version, copied(object.side.as_ref())?);
-        world.put(object.key, entry)?;
+    for batch in objects.batches() {
+        for object in batch {
+            let entry = WorldEntry::new(object.version, copied(object.side.as_ref())?);
+            world.put(object.key, entry)?;
+        }
     }
     Ok(world)
 }

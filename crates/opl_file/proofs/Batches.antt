@@ -14,7 +14,7 @@ abbrev pub Batch : Type 0
 Batch = Vec OplObject Global
 
 -- the objects of a batch behind those of others
-in_more : (front : List Batch) (batch : Batch) → objects_in (front ++ batch ∷ []) ≡ objects_in front ++ batch.items
+pub in_more : (front : List Batch) (batch : Batch) → objects_in (front ++ batch ∷ []) ≡ objects_in front ++ batch.items
 in_more front batch = flat_map-append (λ (b : Batch). b.items) front (batch ∷ []) ∙ ap (λ os. objects_in front ++ os) (append-nil batch.items)
 
 -- What a walk over batches gathers by a fold goes on with the next batch. What it gathers of batch behind batch is what it

@@ -7,6 +7,6 @@ use Rattle.download.proofs.filtering.filter_by.Goals as goal
 
 pub returns : goal.returns
 returns c =
-    subst (λ (os : List OplObject). IfOk c.tell_objects.result (λ (told : ToldValue). told ≡ told_of os))
-    (c.in_ok-kept.ensures ∙ ap (λ (os : List OplObject). kept os c.args.area c.args.wanted.now) c.into_vec.ensures)
-    c.tell_objects.ensures
+    subst (λ (os : List OplObject). IfOk c.tell_batches.result (λ (told : ToldValue). told ≡ told_of os))
+    (c.in_ok-kept.ensures ∙ ap (λ (os : List OplObject). kept os c.args.area c.args.wanted.now) c.into_batches.ensures)
+    c.tell_batches.ensures

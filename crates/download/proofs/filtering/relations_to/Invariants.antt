@@ -1,9 +1,9 @@
 use Rattle.std.proofs.Common.{◌≡◌, drop}
 use Rattle.std.specs.Prelude.{filter, fold}
-use Rattle.opl_file.specs.Objects.{keys_of}
+use Rattle.opl_file.specs.Objects.{keys_of, objects_in}
 use Rattle.download.specs.Filter.{among, is_related, on_side}
 use Rattle.download.specs.FilterCode.{with_key, key_set}
 use Rattle.download.proofs.filtering.relations_to.Given as goal
 
-abbrev pub invariant-loop-object : goal.invariant-loop-object
-invariant-loop-object l = fold with_key l.keys (keys_of (filter (on_side (is_related (among l.places))) (drop l.object-index l.objects))) ≡ key_set (keys_of (filter (on_side (is_related (among l.places))) l.objects))
+abbrev pub invariant-loop-batch : goal.invariant-loop-batch
+invariant-loop-batch l = fold with_key l.keys (keys_of (filter (on_side (is_related (among l.places))) (objects_in (drop l.batch-index l.batches)))) ≡ key_set (keys_of (filter (on_side (is_related (among l.places))) (objects_in l.batches)))

@@ -1,6 +1,7 @@
 use Rattle.std.proofs.Common.{◌≡◌, ◌++◌, drop}
+use Rattle.opl_file.specs.Objects.{objects_in}
 use Rattle.download.specs.Tell.{references}
 use Rattle.download.proofs.telling.references.Given as goal
 
-abbrev pub invariant-loop-object : goal.invariant-loop-object
-invariant-loop-object l = l.keys.items ++ references (drop l.object-index l.objects) ≡ references l.objects
+abbrev pub invariant-loop-batch : goal.invariant-loop-batch
+invariant-loop-batch l = l.keys.items ++ references (objects_in (drop l.batch-index l.batches)) ≡ references (objects_in l.batches)
