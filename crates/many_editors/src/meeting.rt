@@ -10,7 +10,7 @@ ghost use Rattle.many_editors.specs.Boxed.{shown_meeting, verbs_met, AreValid, C
 ghost use Rattle.many_editors.specs.Lifted.{changes_at, fetched, own_act, sent_at, ArePickedAt, IsAt, IsPickedAt, MayFetch, MaySend};
 ghost use Rattle.many_editors.specs.Meeting.{first_meeting, joined, IfEditor};
 ghost use Rattle.many_editors.specs.Own.{MayOwn};
-ghost use Rattle.many_editors.specs.Serving.{objects_served};
+ghost use Rattle.many_editors.specs.Serving.{objects_served, with_served};
 ghost use Rattle.many_editors.specs.Shown as shown;
 ghost use Rattle.many_editors.specs.States.{world_of};
 
@@ -234,17 +234,25 @@ impl Meeting {
     }
 }
 
-/// A server with these objects, each as it stands in the list.
+/// A server with these objects, each as it stands in the file.
 fn served(alloc: Global, objects: &Objects) -> Result<World, AllocError>
     requires { AreTellable objects.now }
     ensures { IfOk result (λ world. world ≡ world_of (objects_served objects.now)) }
 {
     let mut world = World::new(alloc);
     for batch in objects.batches() {
-        for object in batch {
-            let entry = WorldEntry::new(object.version, copied(object.side.as_ref())?);
-            world.put(object.key, entry)?;
-        }
+        serve_batch(&mut world, batch)?;
     }
     Ok(world)
+}
+
+fn serve_batch(world: &mut World, objects: &[OplObject]) -> Result<(), AllocError>
+    requires { AreTellable objects.now }
+    ensures { OnOk result (world.new ≡ record { entries = with_served world.old.entries objects.now; names = world.old.names }) }
+{
+    for object in objects {
+        let entry = WorldEntry::new(object.version, copied(object.side.as_ref())?);
+        world.put(object.key, entry)?;
+    }
+    Ok(())
 }
