@@ -1,5 +1,5 @@
-//! The pairs that come and go with edits. They enter the index one by one, so no list of them takes
-//! memory.
+//! The pairs that come and go with edits, and those of one content. They enter the index one by one,
+//! so no list of them takes memory.
 ghost use Rattle.std.specs.Prelude.{◌≡◌, ◌+◌, ◌<◌, ◌≤◌, if◌then◌else◌, None, length, take, slice_index_or, OnOk, OnErr};
 ghost use Rattle.std.specs.Option.{option_copied};
 ghost use Rattle.osm_base.specs.Content.{refs_of};
@@ -59,7 +59,7 @@ fn take_moved(index: &mut RefIndex, edit: &Edit, forth: bool)
     ensures { (p : Pair) → times p (moved_pairs (side forth) edit.now) + count index.new p ≡ count index.old p }
 {
     if let Some(content) = moved(edit, forth) {
-        take_first(index, edit.key(), content, references(content));
+        take_content(index, edit.key(), content);
     }
 }
 
@@ -110,8 +110,13 @@ fn same_lists(a: Option<&Content>, b: Option<&Content>) -> bool
     }
 }
 
-/// Adds the pairs of a content, or none of them.
-fn add_content(index: &mut RefIndex, user: Key, content: &Content) -> Result<(), AllocError>
+/// Adds the references of a content to an index, each as a pair as often as it stands, or none of
+/// them. Costs the index one pair a reference.
+///
+/// # Errors
+///
+/// Where the index finds no memory. Then each pair is there as often as it was.
+pub fn add_content(index: &mut RefIndex, user: Key, content: &Content) -> Result<(), AllocError>
     ensures ok { OnOk result ((p : Pair) → count index.new p ≡ times p (pairs_with user (refs_of content.now)) + count index.old p) }
     ensures err { OnErr result ((p : Pair) → count index.new p ≡ count index.old p) }
 {
@@ -122,6 +127,15 @@ fn add_content(index: &mut RefIndex, user: Key, content: &Content) -> Result<(),
         }
     }
     Ok(())
+}
+
+/// Takes the references of a content, which are there, out of an index. Costs what adding them does,
+/// and takes no memory.
+pub fn take_content(index: &mut RefIndex, user: Key, content: &Content)
+    requires { (p : Pair) → times p (pairs_with user (refs_of content.now)) ≤ count index.old p }
+    ensures { (p : Pair) → times p (pairs_with user (refs_of content.now)) + count index.new p ≡ count index.old p }
+{
+    take_first(index, user, content, references(content));
 }
 
 /// Takes the first few pairs of a content.

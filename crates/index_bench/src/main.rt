@@ -60,7 +60,7 @@ fn spread(alloc: Global, changes: u32) -> Result<usize, AllocError> {
             of: node(i % 1000 + 1),
             user: way(i),
         };
-        index.change(&[], &[pair])?;
+        index.add(pair)?;
     }
     Ok(index.users(node(1)).len())
 }
@@ -73,7 +73,7 @@ fn crowd(alloc: Global, users: u32) -> Result<usize, AllocError> {
             of: node(1),
             user: way(i.wrapping_mul(2_654_435_761)),
         };
-        index.change(&[], &[pair])?;
+        index.add(pair)?;
     }
     Ok(index.users(node(1)).len())
 }

@@ -1,9 +1,9 @@
 //! The index: a bag of pairs, with the users of each key in a list.
-ghost use Rattle.std.specs.Prelude.{◌≡◌, ℕ, ◌+◌, ◌<◌, ◌≤◌, OnOk, OnErr, T, if◌then◌else◌, nat_lt};
+ghost use Rattle.std.specs.Prelude.{◌≡◌, ◌+◌, ◌<◌, OnOk, OnErr, T, if◌then◌else◌, nat_lt};
 ghost use Rattle.std.specs.FinMap as map;
 ghost use Rattle.osm_base.specs.declared.key.Key.{Key};
 ghost use Rattle.ref_index.specs.declared.pair.Pair.{Pair};
-ghost use Rattle.ref_index.specs.Bag.{count, times, is_pair};
+ghost use Rattle.ref_index.specs.Bag.{count, is_pair};
 ghost use Rattle.osm_base.specs.RisingKeys.{rises, is_in};
 ghost use Rattle.ref_index.specs.Repeats.{AreRepeats, times_there};
 
@@ -51,30 +51,12 @@ impl RefIndex {
         }
     }
 
-    /// Takes the pairs of `gone` out and puts those of `come` in, each as often as it is named.
+    /// Adds a pair once more.
     ///
     /// A pair that comes for the first time costs one look-up by hash and takes no entry of its own.
-    /// One that is there already costs two, and takes an entry the second time. A pair that is there
-    /// more than once and goes costs two. One that is there once and goes costs one, or two where its
-    /// key has no other user, and one more while any pair is there more than once. Each pair that
-    /// comes, and the last of a kind that goes, is also sought in the list of its key: with u users
-    /// about log u comparisons, and for the first and the last of a kind one move of the keys behind
-    /// it.
-    ///
-    /// # Errors
-    ///
-    /// Where no memory is found, or where a pair would be there 2^64 times. Then nothing changes.
-    pub fn change(&mut self, gone: &[Pair], come: &[Pair]) -> Result<(), AllocError>
-        requires there { (p : Pair) → times p gone.now ≤ count self.old p }
-        ensures ok { OnOk result ((p : Pair) → times p gone.now + count self.new p ≡ times p come.now + count self.old p) }
-        ensures err { OnErr result (self.new ≡ self.old) }
-    {
-        add_all(&mut self.lists, &mut self.repeats, come)?;
-        take_all(&mut self.lists, &mut self.repeats, gone);
-        Ok(())
-    }
-
-    /// Adds a pair once more. Costs what a pair that comes does in `change`.
+    /// One that is there already costs two, and takes an entry the second time. The pair is also
+    /// sought in the list of its key: with u users about log u comparisons, and for the first of a
+    /// kind one move of the keys behind it.
     ///
     /// # Errors
     ///
@@ -87,8 +69,11 @@ impl RefIndex {
         Ok(())
     }
 
-    /// Takes a pair that is there once. It takes no memory, and costs what a pair that goes does in
-    /// `change`.
+    /// Takes a pair that is there, once. It needs no memory.
+    ///
+    /// A pair that is there more than once costs two look-ups by hash. One that is there once costs
+    /// one, or two where its key has no other user, and one more while any pair is there more than
+    /// once. It is also sought in the list of its key, and leaves it, as `add` puts it there.
     pub fn take(&mut self, pair: Pair)
         requires { 0 < count self.old pair }
         ensures { (p : Pair) → (if is_pair p pair then 1 else 0) + count self.new p ≡ count self.old p }
@@ -109,37 +94,6 @@ impl RefIndex {
         ensures { result ≡ nat_lt 0 (count self.now (record { of = of; user = user })) }
     {
         is_among(self.users(of), user)
-    }
-}
-
-/// Adds all pairs, or none of them.
-fn add_all(
-    lists: &mut IndexMap<Key, Users>,
-    repeats: &mut IndexMap<Pair, u64>,
-    come: &[Pair],
-) -> Result<(), AllocError>
-    requires repeats { AreRepeats repeats.old.entries lists.old.entries }
-    ensures repeats { AreRepeats repeats.new.entries lists.new.entries }
-    ensures ok { OnOk result ((q : Pair) → times_there repeats.new.entries lists.new.entries q ≡ times q come.now + times_there repeats.old.entries lists.old.entries q) }
-    ensures err { OnErr result ((q : Pair) → times_there repeats.new.entries lists.new.entries q ≡ times_there repeats.old.entries lists.old.entries q) }
-{
-    for i in 0..come.len() {
-        if let Err(e) = add(lists, repeats, come[i]) {
-            take_all(lists, repeats, &come[..i]);
-            return Err(e);
-        }
-    }
-    Ok(())
-}
-
-fn take_all(lists: &mut IndexMap<Key, Users>, repeats: &mut IndexMap<Pair, u64>, gone: &[Pair])
-    requires repeats { AreRepeats repeats.old.entries lists.old.entries }
-    requires there { (q : Pair) → times q gone.now ≤ times_there repeats.old.entries lists.old.entries q }
-    ensures repeats { AreRepeats repeats.new.entries lists.new.entries }
-    ensures count { (q : Pair) → times q gone.now + times_there repeats.new.entries lists.new.entries q ≡ times_there repeats.old.entries lists.old.entries q }
-{
-    for i in 0..gone.len() {
-        take(lists, repeats, gone[i]);
     }
 }
 

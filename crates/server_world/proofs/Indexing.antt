@@ -69,37 +69,49 @@ times_of : (p : Pair) (k : Key) (o : Option WorldEntry) (b : Bool) → is_key p.
 times_of p k o b e = listed_pairs p.of p.user k (refs_in o) ∙ ap (λ c. cond c (times_key p.of (refs_in o)) 0) e
 
 -- the pairs of what stands are in an exact index
-pub gone_there : (m : Objects) (bag : Bag) (k : Key) (o : Option WorldEntry) (gone : List Pair) → IsIndexed m bag → o ≡ fin.get m k → gone ≡ pairs_of k o → (p : Pair) → times p gone ≤ count bag p
-gone_there m bag k o gone exact is are p =
+pub gone_there : (m : Objects) (bag : Bag) (k : Key) (o : Option WorldEntry) → IsIndexed m bag → o ≡ fin.get m k → (p : Pair) → times p (pairs_of k o) ≤ count bag p
+gone_there m bag k o exact is p =
     let there : count bag p ≡ times_key p.of (refs_in (fin.get m p.user)) = exact p.of p.user in
     elim (cases_Bool (is_key p.user k)) [
       | inl t ↦ (
-          let g : times p gone ≡ times_key p.of (refs_in o) = ap (times p) are ∙ times_of p k o true t in
+          let g : times p (pairs_of k o) ≡ times_key p.of (refs_in o) = times_of p k o true t in
           let n : count bag p ≡ times_key p.of (refs_in o) = there ∙ ap (λ (q : Key). times_key p.of (refs_in (fin.get m q))) (one_key p.user k t) ∙ ap (λ (x : Option WorldEntry). times_key p.of (refs_in x)) (sym is) in
           omega (arith, g, n))
-      | inr f ↦ (let g : times p gone ≡ 0 = ap (times p) are ∙ times_of p k o false f in omega (arith, g))
+      | inr f ↦ (let g : times p (pairs_of k o) ≡ 0 = times_of p k o false f in omega (arith, g))
     ]
 
--- the index is exact after an object was set
-pub put_exact : (m : Objects) (old new : Bag) (k : Key) (o : Option WorldEntry) (e : WorldEntry) (gone come : List Pair) → IsIndexed m old → o ≡ fin.get m k → gone ≡ pairs_of k o → come ≡ pairs_of k (Some e)
-    → ((p : Pair) → times p gone + count new p ≡ times p come + count old p) → IsIndexed (fin.insert m k e) new
-put_exact m old new k o e gone come exact is are brings changed of user =
+-- and in the index where others were added
+pub still_there : (m : Objects) (old mid : Bag) (k : Key) (o : Option WorldEntry) (come : List Pair) → IsIndexed m old → o ≡ fin.get m k → ((p : Pair) → count mid p ≡ times p come + count old p) → (p : Pair) → times p (pairs_of k o) ≤ count mid p
+still_there m old mid k o come exact is added p =
+    let there = gone_there m old k o exact is p in
+    let more = added p in
+    omega (arith, there, more)
+
+-- the index is exact after an object was set, whose pairs were added before those of what stood were taken
+pub put_exact : (m : Objects) (old mid new : Bag) (k : Key) (o : Option WorldEntry) (e : WorldEntry) → IsIndexed m old → o ≡ fin.get m k
+    → ((p : Pair) → count mid p ≡ times p (pairs_of k (Some e)) + count old p) → ((p : Pair) → times p (pairs_of k o) + count new p ≡ count mid p) → IsIndexed (fin.insert m k e) new
+put_exact m old mid new k o e exact is added taken of user =
     let p : Pair = record { of = of; user = user } in
-    let moved = changed p in
+    let more = added p in
+    let less = taken p in
     let there : count old p ≡ times_key of (refs_in (fin.get m user)) = exact of user in
     elim (cases_Bool (is_key user k)) [
       | inl t ↦ (
-          let g : times p gone ≡ times_key of (refs_in o) = ap (times p) are ∙ times_of p k o true t in
-          let c : times p come ≡ times_key of (refs_in (Some e)) = ap (times p) brings ∙ times_of p k (Some e) true t in
+          let g : times p (pairs_of k o) ≡ times_key of (refs_in o) = times_of p k o true t in
+          let c : times p (pairs_of k (Some e)) ≡ times_key of (refs_in (Some e)) = times_of p k (Some e) true t in
           let n : count old p ≡ times_key of (refs_in o) = there ∙ ap (λ (q : Key). times_key of (refs_in (fin.get m q))) (one_key user k t) ∙ ap (λ (x : Option WorldEntry). times_key of (refs_in x)) (sym is) in
-          let now : count new p ≡ times_key of (refs_in (Some e)) = omega (arith, g, c, n, moved) in
+          let now : count new p ≡ times_key of (refs_in (Some e)) = omega (arith, g, c, n, more, less) in
           now ∙ ap (λ (x : Option WorldEntry). times_key of (refs_in x)) (sym (at_key_put m k user e t)))
       | inr f ↦ (
-          let g : times p gone ≡ 0 = ap (times p) are ∙ times_of p k o false f in
-          let c : times p come ≡ 0 = ap (times p) brings ∙ times_of p k (Some e) false f in
-          let now : count new p ≡ count old p = omega (arith, g, c, moved) in
+          let g : times p (pairs_of k o) ≡ 0 = times_of p k o false f in
+          let c : times p (pairs_of k (Some e)) ≡ 0 = times_of p k (Some e) false f in
+          let now : count new p ≡ count old p = omega (arith, g, c, more, less) in
           now ∙ there ∙ ap (λ (x : Option WorldEntry). times_key of (refs_in x)) (sym (at_other m k user e f)))
     ]
+
+-- the same pairs, counted alike, keep an index exact
+pub same_indexed : (m : Objects) (old new : Bag) → IsIndexed m old → ((p : Pair) → count new p ≡ count old p) → IsIndexed m new
+same_indexed m old new exact same of user = same (record { of = of; user = user }) ∙ exact of user
 
 no_count : (of : Key) (o : Option ℕ) (x : Option WorldEntry) → o ≡ None → x ≡ None → unwrap_or o 0 ≡ times_key of (refs_in x)
 no_count of o x e f = rw (e, f) refl

@@ -11,7 +11,7 @@ ghost use Rattle.server_world.specs.Free.{last_id};
 ghost use Rattle.server_world.specs.Starts.{key_at, IsStartOf, AreStartsOf};
 
 use crate::entry::WorldEntry;
-use crate::pairs::pairs_of;
+use crate::pairs::{add_object, take_object};
 use crate::starts::{LAST_ID, Starts};
 use indexmap::IndexMap;
 use osm_base::{Key, Keys, Kind};
@@ -125,11 +125,9 @@ impl Objects {
         ensures ok { OnOk result (self.new ≡ fin.insert self.old key entry) }
         ensures err { OnErr result (self.new ≡ self.old) }
     {
-        let alloc = *self.entries.allocator();
-        let gone = pairs_of(alloc, key, self.entries.get(&key))?;
-        let come = pairs_of(alloc, key, Some(&entry))?;
         self.entries.reserve(1)?;
-        self.index.change(&gone, &come)?;
+        add_object(&mut self.index, key, Some(&entry))?;
+        take_object(&mut self.index, key, self.entries.get(&key));
         set(&mut self.entries, key, entry);
         Ok(())
     }

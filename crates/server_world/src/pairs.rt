@@ -1,70 +1,53 @@
-//! The references of one object, as pairs.
-ghost use Rattle.std.specs.Prelude.{◌≡◌, ◌++◌, map, IfOk, OnOk};
+//! The references of one object, as pairs of an index.
+ghost use Rattle.std.specs.Prelude.{◌≡◌, ◌+◌, ◌≤◌, OnOk, OnErr};
 ghost use Rattle.std.specs.Option.{option_copied};
-ghost use Rattle.osm_base.specs.Content.{refs_of, node};
+ghost use Rattle.ref_index.specs.declared.pair.Pair.{Pair};
+ghost use Rattle.ref_index.specs.Bag.{count, times};
+ghost use Rattle.upload_order.specs.World.{content_in};
 ghost use Rattle.server_world.specs.Indexed.{pairs_of};
 
 use crate::entry::WorldEntry;
-use osm_base::{Content, Key, Member, node_key};
-use ref_index::Pair;
-use std::alloc::{AllocError, Global};
+use dataset::{add_content, take_content};
+use osm_base::{Content, Key};
+use ref_index::RefIndex;
+use std::alloc::AllocError;
 
-/// The references of an object, each as often as it stands.
+/// Adds the references of an object, each as often as it stands, or none of them. Costs the index
+/// one pair a reference.
 ///
 /// # Errors
-/// No memory was left.
-pub fn pairs_of(
-    alloc: Global,
+/// No memory was left, and each pair is there as often as it was.
+pub fn add_object(
+    index: &mut RefIndex,
     user: Key,
     entry: Option<&WorldEntry>,
-) -> Result<Vec<Pair>, AllocError>
-    ensures { IfOk result (λ pairs. pairs.items ≡ pairs_of user (option_copied entry.entry)) }
+) -> Result<(), AllocError>
+    ensures ok { OnOk result ((p : Pair) → count index.new p ≡ times p (pairs_of user (option_copied entry.entry)) + count index.old p) }
+    ensures err { OnErr result ((p : Pair) → count index.new p ≡ count index.old p) }
 {
-    let mut pairs = Vec::new(alloc);
-    if let Some(entry) = entry {
-        if let Some(content) = entry.content() {
-            push_content(&mut pairs, user, content)?;
-        }
-    }
-    Ok(pairs)
-}
-
-fn push_content(pairs: &mut Vec<Pair>, user: Key, content: &Content) -> Result<(), AllocError>
-    ensures { OnOk result (pairs.new.items ≡ pairs.old.items ++ map (λ k. record { of = k; user = user }) (refs_of content.now)) }
-{
-    match content {
-        Content::Node { .. } => Ok(()),
-        Content::Way { refs, .. } => {
-            push_nodes(pairs, user, refs.as_slice())?;
-            Ok(())
-        }
-        Content::Relation { members, .. } => {
-            push_members(pairs, user, members.as_slice())?;
-            Ok(())
-        }
+    match content_in(entry) {
+        Some(content) => add_content(index, user, content),
+        None => Ok(()),
     }
 }
 
-fn push_nodes(pairs: &mut Vec<Pair>, user: Key, ids: &[i64]) -> Result<(), AllocError>
-    ensures { OnOk result (pairs.new.items ≡ pairs.old.items ++ map (λ id. record { of = node id; user = user }) ids.now) }
+/// Takes the references of an object, which are there. Costs what adding them does, and takes no
+/// memory.
+pub fn take_object(index: &mut RefIndex, user: Key, entry: Option<&WorldEntry>)
+    requires { (p : Pair) → times p (pairs_of user (option_copied entry)) ≤ count index.old p }
+    ensures { (p : Pair) → times p (pairs_of user (option_copied entry.entry)) + count index.new p ≡ count index.old p }
 {
-    for id in ids {
-        pairs.push(Pair {
-            of: node_key(*id),
-            user,
-        })?;
+    if let Some(content) = content_in(entry) {
+        take_content(index, user, content);
     }
-    Ok(())
 }
 
-fn push_members(pairs: &mut Vec<Pair>, user: Key, members: &[Member]) -> Result<(), AllocError>
-    ensures { OnOk result (pairs.new.items ≡ pairs.old.items ++ map (λ member. record { of = member.key; user = user }) members.now) }
+/// The content of an object, if it stands and isn't deleted.
+fn content_in(entry: Option<&WorldEntry>) -> Option<&Content>
+    ensures { option_copied result ≡ content_in (option_copied entry.entry) }
 {
-    for member in members {
-        pairs.push(Pair {
-            of: member.key,
-            user,
-        })?;
+    match entry {
+        Some(entry) => entry.content(),
+        None => None,
     }
-    Ok(())
 }
