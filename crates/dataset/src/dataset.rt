@@ -5,6 +5,7 @@ ghost use Rattle.std.specs.Option.{option_copied, option_map};
 ghost use Rattle.std.specs.FinMap as fin;
 ghost use Rattle.osm_base.specs.RisingKeys.{is_in};
 ghost use Rattle.osm_table.specs.Table.{entry_of, keys_by_rank, users};
+ghost use Rattle.osm_table.specs.Told.{table_told};
 ghost use Rattle.dataset.specs.Sound.{IsSound};
 ghost use Rattle.dataset.specs.Patch.{IsDiff, in_order, StandsBefore, StandsAfter, after_of, before_of};
 ghost use Rattle.dataset.specs.Diff.{diff};
@@ -20,7 +21,7 @@ use crate::pairs::{add_pairs, take_pairs};
 use crate::patch::Patch;
 use crate::writes::{drop_keys, put_keys, write_all, writes_of};
 use osm_base::{Key, Keys};
-use osm_table::{SharedEntry, Table, ToldMap};
+use osm_table::{OwnTable, Shared, SharedEntry, Table, ToldMap};
 use ref_index::RefIndex;
 use std::alloc::{AllocError, Global};
 use std::marker::Model;
@@ -170,7 +171,8 @@ impl DataSet {
 
     /// Leads the table on, from what the patch has before to what it has after. Costs the edited
     /// entries and their references; an edit that keeps the references, as one of tags alone, costs
-    /// the index nothing.
+    /// the index nothing. The first that follows a `settle` costs a copy of the told map, where
+    /// others have that still.
     ///
     /// # Errors
     ///
@@ -181,15 +183,19 @@ impl DataSet {
         ensures ok { OnOk result (self.new ≡ after_of patch.now self.old) }
         ensures err { OnErr result (self.new ≡ self.old) }
     {
-        lead(
+        let mut table = self.table.take()?;
+        let led = lead(
             patch.alloc(),
-            &mut self.table,
+            &mut table,
             &mut self.index,
             patch.edits(),
             true,
-        )?;
-        self.table.set_next(patch.next_after());
-        Ok(())
+        );
+        if led.is_ok() {
+            table.set_next(patch.next_after());
+        }
+        self.table = Table::own(table);
+        led
     }
 
     /// Leads the table back, from what the patch has after to what it has before. Costs what
@@ -204,14 +210,38 @@ impl DataSet {
         ensures ok { OnOk result (self.new ≡ before_of patch.now self.old) }
         ensures err { OnErr result (self.new ≡ self.old) }
     {
-        lead(
+        let mut table = self.table.take()?;
+        let led = lead(
             patch.alloc(),
-            &mut self.table,
+            &mut table,
             &mut self.index,
             patch.edits(),
             false,
-        )?;
-        self.table.set_next(patch.next_before());
+        );
+        if led.is_ok() {
+            table.set_next(patch.next_before());
+        }
+        self.table = Table::own(table);
+        led
+    }
+
+    /// As `apply`, where the patch leads to a table of which no more is known than what is told.
+    /// The told map becomes the table, so no entry is looked up or put. Costs the patch's references.
+    ///
+    /// # Errors
+    ///
+    /// Where no memory is found; then nothing changes.
+    pub fn settle(&mut self, patch: &Patch, told: Shared<ToldMap>) -> Result<(), AllocError>
+        requires stands { StandsBefore patch.now self.old }
+        requires sound { IsSound (after_of patch.now self.old) }
+        requires told { after_of patch.now self.old ≡ table_told told.told patch.now.next_after }
+        ensures ok { OnOk result (self.new ≡ after_of patch.now self.old) }
+        ensures err { OnErr result (self.new ≡ self.old) }
+    {
+        let edits = patch.edits();
+        add_pairs(&mut self.index, edits, true)?;
+        take_pairs(&mut self.index, edits, false);
+        self.table = Table::told(told, patch.next_after());
         Ok(())
     }
 }
@@ -223,7 +253,7 @@ impl DataSet {
 /// pairs go, so each of them is there.
 fn lead(
     alloc: Global,
-    table: &mut Table,
+    table: &mut OwnTable,
     index: &mut RefIndex,
     edits: &[Edit],
     forth: bool,

@@ -6,10 +6,11 @@ ghost use Rattle.std.specs.FinMap as map;
 ghost use Rattle.osm_base.specs.KeyEq.{eq};
 ghost use Rattle.osm_base.specs.Rank.{is_key};
 ghost use Rattle.osm_table.specs.Table.{IsPositive};
-ghost use Rattle.osm_table.specs.Told.{entry_told, told_of, told_at, with_told, with_mention, is_told_there, IsClosed, IsTold, IsToldMap};
+ghost use Rattle.osm_table.specs.Told.{entry_told, told_of, told_at, with_told, with_mention, is_told_there, table_told, IsClosed, IsTold, IsToldMap};
 
 use crate::entry::Base;
 use crate::key_map::{get_near, ordered};
+use crate::own_table::OwnTable;
 use crate::shared_entry::{EntryParts, SharedEntry};
 use crate::told::Told;
 use indexmap::IndexMap;
@@ -186,6 +187,28 @@ impl ToldMap {
         ensures { IfOk result (λ keys. keys ≡ map.keys self.now.told) }
     {
         ordered(&self.entries)
+    }
+
+    /// The table of which no more is known than what is told. Its entries are the map's own, so it costs nothing.
+    pub fn into_table(self, next: u64) -> OwnTable
+        ensures { result ≡ table_told self.told next }
+    {
+        OwnTable::with_entries(self.entries, next)
+    }
+
+    /// As `into_table`, where the map stays. It copies the keys and the places of their entries.
+    ///
+    /// # Errors
+    /// Answers want of memory.
+    pub fn to_table(&self, next: u64) -> Result<OwnTable, AllocError>
+        ensures { IfOk result (λ table. table ≡ table_told self.now.told next) }
+    {
+        Ok(OwnTable::with_entries(self.entries.clone()?, next))
+    }
+
+    /// The allocator that it takes its memory from.
+    pub fn alloc(&self) -> Global {
+        *self.entries.allocator()
     }
 
     /// What every told map keeps. Costs nothing.
