@@ -183,19 +183,15 @@ impl DataSet {
         ensures ok { OnOk result (self.new ≡ after_of patch.now self.old) }
         ensures err { OnErr result (self.new ≡ self.old) }
     {
-        let mut table = self.table.take()?;
-        let led = lead(
+        lead(
             patch.alloc(),
-            &mut table,
+            &mut self.table,
             &mut self.index,
             patch.edits(),
             true,
-        );
-        if led.is_ok() {
-            table.set_next(patch.next_after());
-        }
-        self.table = Table::own(table);
-        led
+            patch.next_after(),
+        )?;
+        Ok(())
     }
 
     /// Leads the table back, from what the patch has after to what it has before. Costs what
@@ -210,19 +206,15 @@ impl DataSet {
         ensures ok { OnOk result (self.new ≡ before_of patch.now self.old) }
         ensures err { OnErr result (self.new ≡ self.old) }
     {
-        let mut table = self.table.take()?;
-        let led = lead(
+        lead(
             patch.alloc(),
-            &mut table,
+            &mut self.table,
             &mut self.index,
             patch.edits(),
             false,
-        );
-        if led.is_ok() {
-            table.set_next(patch.next_before());
-        }
-        self.table = Table::own(table);
-        led
+            patch.next_before(),
+        )?;
+        Ok(())
     }
 
     /// As `apply`, where the patch leads to a table of which no more is known than what is told.
@@ -246,12 +238,43 @@ impl DataSet {
     }
 }
 
+/// Leads the table by one side of edits to the number of its next new object, or leaves all as it was. Costs one look-up an
+/// edit, and what it costs to take the table as its own.
+fn lead(
+    alloc: Global,
+    table: &mut Table,
+    index: &mut RefIndex,
+    edits: &[Edit],
+    forth: bool,
+    next: u64,
+) -> Result<(), AllocError>
+    requires order { T (in_order edits.now) }
+    requires stands { AllByRecursion (λ e. entry_of table.old e.key ≡ side (not forth) e) edits.now }
+    requires exact { IsExact table.old index.old }
+    ensures ok { OnOk result (table.new ≡ record { entries = (led (side forth) edits.now table.old).entries; next = next }) }
+    ensures exact { IsExact table.new index.new }
+    ensures err { OnErr result (table.new ≡ table.old) }
+{
+    let mut own = table.take()?;
+    match lead_own(alloc, &mut own, index, edits, forth) {
+        Ok(()) => {
+            own.set_next(next);
+            *table = Table::own(own);
+            Ok(())
+        }
+        Err(e) => {
+            *table = Table::own(own);
+            Err(e)
+        }
+    }
+}
+
 /// Leads the table by one side of edits, or leaves all as it was. Costs one look-up an edit.
 ///
 /// All that can find no memory comes first: the writes with their entries, the new keys, the pairs
 /// that come. Where the index finds none the new keys are taken out again. Only then do the other
 /// pairs go, so each of them is there.
-fn lead(
+fn lead_own(
     alloc: Global,
     table: &mut OwnTable,
     index: &mut RefIndex,
