@@ -172,7 +172,7 @@ fn ref_into<'t>(refs: &mut Refs, bytes: &'t [u8]) -> Result<Option<&'t [u8]>, Li
 fn all_refs(pool: &mut Pool, text: &[u8]) -> Result<Refs, LineAnswer>
     ensures { Gives (λ refs. refs) result (folded ref_into [] (split (is_one_of 44 44) text.now)) }
 {
-    let mut refs = Refs::new(pool.allocator());
+    let mut refs = Refs::new(pool.allocator())?;
     let mut rest = text;
     loop {
         match ref_into(&mut refs, rest)? {
@@ -191,7 +191,7 @@ pub fn read_refs(pool: &mut Pool, text: &[u8]) -> Result<Refs, LineAnswer>
     ensures { Gives (λ refs. refs) result (refs_text text.now) }
 {
     if text.is_empty() {
-        return Ok(Refs::new(pool.allocator()));
+        return Ok(Refs::new(pool.allocator())?);
     }
     all_refs(pool, text)
 }
@@ -240,7 +240,7 @@ fn member_into(pool: &mut Pool, members: &mut Members, item: &[u8]) -> Result<()
 fn all_members(pool: &mut Pool, text: &[u8]) -> Result<Members, LineAnswer>
     ensures { Gives (λ members. members) result (folded member_into [] (split (is_one_of 44 44) text.now)) }
 {
-    let mut members = Members::new(pool.allocator());
+    let mut members = Members::new(pool.allocator())?;
     let mut rest = text;
     loop {
         let (item, after) = cut(rest, b',', b',');
@@ -261,7 +261,7 @@ pub fn read_members(pool: &mut Pool, text: &[u8]) -> Result<Members, LineAnswer>
     ensures { Gives (λ members. members) result (members_text text.now) }
 {
     if text.is_empty() {
-        return Ok(Members::new(pool.allocator()));
+        return Ok(Members::new(pool.allocator())?);
     }
     all_members(pool, text)
 }
