@@ -274,7 +274,8 @@ fn kind_of_line(pool: &mut Pool, mode: Mode, line: &[u8]) -> Result<LineKind, Li
 
 /// What a line (without its LF) is: skipped, an object, or its first fault from the left.
 ///
-/// Texts come from the pool, so that one that comes again is shared. The line is walked once.
+/// Texts come from the pool, so that one that comes again is shared. The line is walked once, and of
+/// a field that is a list the commas are counted first.
 ///
 /// # Errors
 /// `Bad` with the line's fault; `Memory` where memory ran out.
