@@ -31,6 +31,8 @@ pub struct ToldMap {
     all_there: bool,
     /// Each reference of an object that is told of as living is known to be told of as there.
     closed: bool,
+    /// The place behind the key that was mentioned last.
+    near: usize,
 }
 
 impl Model for ToldMap {
@@ -64,6 +66,7 @@ impl ToldMap {
             mentioned: SharedEntry::told(alloc, Told::Mentioned)?,
             all_there: true,
             closed: false,
+            near: 0,
         })
     }
 
@@ -81,7 +84,8 @@ impl ToldMap {
     }
 
     /// Mentions a key, where nothing is told of it yet, and answers whether it is told of as there.
-    /// One look-up, and one more for a new key.
+    /// One look-up, and one more for a new key; none for a key that stands behind the one that was
+    /// mentioned before, as a way's next node often does.
     ///
     /// # Errors
     /// Answers want of memory, and then nothing has changed.
@@ -91,8 +95,12 @@ impl ToldMap {
         ensures there { IfOk result (λ there. there ≡ is_told_there (told_at self.new key)) }
         ensures err { OnErr result (self.new ≡ self.old) }
     {
-        match self.get(key) {
-            Some(entry) => Ok(self.all_there || is_there(entry)),
+        match self.get_near(self.near, key) {
+            Some((behind, entry)) => {
+                let there = self.all_there || is_there(entry);
+                self.near = behind;
+                Ok(there)
+            }
             None => {
                 let entry = self.mentioned.copy()?;
                 self.set(key, entry)?;
