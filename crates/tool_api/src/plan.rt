@@ -13,8 +13,5 @@ pub enum Plan {
     Change { draft: Draft, made: Keys },
     /// What is to change, as its difference already, where the table is to have what is told and no more. It makes no new
     /// object.
-    Ready {
-        patch: Patch,
-        told: Shared<ToldMap>,
-    },
+    Ready { patch: Patch, told: Shared<ToldMap> },
 }
