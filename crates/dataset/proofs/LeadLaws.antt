@@ -40,8 +40,8 @@ pub reverted : (p : PatchValue) (es : List Edit) (before : ℕ) (t t₀ new : Ta
 reverted p es before t t₀ new ep eb et en = en ∙ (λ i. record { entries = (led (side false) (ep i) (et i)).entries; next = eb i })
 
 -- the other way about: the table that a patch leads to is the one that its edits lead to
-pub settled : (p : PatchValue) (es : List Edit) (after : ℕ) (t t₀ new : TableValue) → es ≡ p.edits → after ≡ p.next_after → t ≡ t₀ → new ≡ after_of p t₀ → new ≡ record { entries = (led (side true) es t).entries; next = after }
-settled p es after t t₀ new ep ea et is = is ∙ sym (λ i. record { entries = (led (side true) (ep i) (et i)).entries; next = ea i })
+pub adopted : (p : PatchValue) (es : List Edit) (after : ℕ) (t t₀ new : TableValue) → es ≡ p.edits → after ≡ p.next_after → t ≡ t₀ → new ≡ after_of p t₀ → new ≡ record { entries = (led (side true) es t).entries; next = after }
+adopted p es after t t₀ new ep ea et is = is ∙ sym (λ i. record { entries = (led (side true) (ep i) (et i)).entries; next = ea i })
 
 -- what is true of a patch is true of the edits that it lends
 pub rank_here : (p : PatchValue) (es : List Edit) → es ≡ p.edits → IsPatch p → T (in_order es)

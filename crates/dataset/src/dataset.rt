@@ -171,7 +171,7 @@ impl DataSet {
 
     /// Leads the table on, from what the patch has before to what it has after. Costs the edited
     /// entries and their references; an edit that keeps the references, as one of tags alone, costs
-    /// the index nothing. The first that follows a `settle` costs a copy of the told map, where
+    /// the index nothing. The first that follows an `adopt` costs a copy of the told map, where
     /// others have that still.
     ///
     /// # Errors
@@ -223,7 +223,7 @@ impl DataSet {
     /// # Errors
     ///
     /// Where no memory is found; then nothing changes.
-    pub fn settle(&mut self, patch: &Patch, told: Shared<ToldMap>) -> Result<(), AllocError>
+    pub fn adopt(&mut self, patch: &Patch, told: Shared<ToldMap>) -> Result<(), AllocError>
         requires stands { StandsBefore patch.now self.old }
         requires sound { IsSound (after_of patch.now self.old) }
         requires told { after_of patch.now self.old ≡ table_told told.told patch.now.next_after }

@@ -111,7 +111,7 @@ impl Steps {
     ///
     /// # Errors
     /// Want of memory, and then nothing is changed.
-    pub fn settle(
+    pub fn adopt(
         &mut self,
         ds: &mut DataSet,
         patch: Patch,
@@ -127,7 +127,7 @@ impl Steps {
         ensures err_done { OnErr result (self.new.0 ≡ self.old.0) }
     {
         self.behind.reserve(1)?;
-        ds.settle(&patch, told)?;
+        ds.adopt(&patch, told)?;
         match self.behind.push(patch) {
             Ok(()) => Ok(()),
             Err(_) => unreachable!(),

@@ -53,7 +53,7 @@ impl<C: Command> Tool for Undoable<C> {
                 Ok(Reply::Done(made))
             }
             Plan::Ready { patch, told } => {
-                self.steps.settle(ds, patch, told)?;
+                self.steps.adopt(ds, patch, told)?;
                 Ok(Reply::Done(Keys::new(ds.alloc())))
             }
         }
