@@ -57,11 +57,19 @@ fn tag_into(pool: &mut Pool, tags: &mut Tags, item: &[u8]) -> Result<(), LineAns
     Ok(())
 }
 
+/// The most room that is asked for before a list is read: no list of the API is longer (32,000 members). A longer one grows.
+const MOST_ROOM: usize = 32_000;
+
+/// How many items the commas of a list set apart, as the room that it asks for.
+fn room(text: &[u8]) -> usize {
+    count_pieces(text, b',').min(MOST_ROOM)
+}
+
 /// The tags between commas.
 fn all_tags(pool: &mut Pool, text: &[u8]) -> Result<Tags, LineAnswer>
     ensures { Gives (λ tags. tags) result (folded tag_into [] (split (is_one_of 44 44) text.now)) }
 {
-    let mut tags = Tags::with_capacity(pool.allocator(), count_pieces(text, b','))?;
+    let mut tags = Tags::with_capacity(pool.allocator(), room(text))?;
     let mut rest = text;
     loop {
         let (item, after) = cut(rest, b',', b',');
@@ -174,7 +182,7 @@ fn ref_into<'t>(refs: &mut Refs, bytes: &'t [u8]) -> Result<Option<&'t [u8]>, Li
 fn all_refs(pool: &mut Pool, text: &[u8]) -> Result<Refs, LineAnswer>
     ensures { Gives (λ refs. refs) result (folded ref_into [] (split (is_one_of 44 44) text.now)) }
 {
-    let mut refs = Refs::with_capacity(pool.allocator(), count_pieces(text, b','))?;
+    let mut refs = Refs::with_capacity(pool.allocator(), room(text))?;
     let mut rest = text;
     loop {
         match ref_into(&mut refs, rest)? {
@@ -243,7 +251,7 @@ fn member_into(pool: &mut Pool, members: &mut Members, item: &[u8]) -> Result<()
 fn all_members(pool: &mut Pool, text: &[u8]) -> Result<Members, LineAnswer>
     ensures { Gives (λ members. members) result (folded member_into [] (split (is_one_of 44 44) text.now)) }
 {
-    let mut members = Members::with_capacity(pool.allocator(), count_pieces(text, b','))?;
+    let mut members = Members::with_capacity(pool.allocator(), room(text))?;
     let mut rest = text;
     loop {
         let (item, after) = cut(rest, b',', b',');
