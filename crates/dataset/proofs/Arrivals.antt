@@ -1,10 +1,7 @@
 -- What a table has where all that is told has come.
-use Rattle.std.proofs.Common.{◌≡◌, ◌∙◌, ℕ, Bool, true, false, cond, is_some, List, [], ◌∷◌, map, Option, Some, None, refl, sym, ap, subst}
+use Rattle.std.proofs.Common.{◌≡◌, ◌∙◌, ℕ, is_some, List, Option, Some, None, refl, sym, ap, subst}
 use Rattle.std.specs.Option.{option_map, option_or, unwrap_or}
 use Rattle.std.specs.FinMap as fin
-use Rattle.std.specs.FinMap.Entries.{find}
-use Rattle.osm_base.specs.Rank.{rank_cmp, is_key}
-use Rattle.osm_base.specs.RankLaws.{rank_total}
 use Rattle.osm_base.specs.declared.key.Key.{Key}
 use Rattle.osm_base.proofs.ByRank.{rises_keys}
 use Rattle.osm_base.proofs.RisingKeys.{same_keys}
@@ -12,6 +9,7 @@ use Rattle.osm_table.specs.declared.entry.Entry.{Entry}
 use Rattle.osm_table.specs.declared.told.Told.{Told}
 use Rattle.osm_table.specs.Table.{TableValue, entry_of}
 use Rattle.osm_table.specs.Told.{ToldEntries, entry_told}
+use Rattle.osm_table.proofs.TableTold.{get_mapped}
 use Rattle.dataset.specs.Edit.{Edit}
 use Rattle.dataset.specs.Patch.{IsDiff}
 use Rattle.dataset.specs.Draft.{DiffOver, drafted}
@@ -21,20 +19,9 @@ use Rattle.dataset.proofs.Drafted.{get_drafted, whole_at}
 abbrev put_of : Told → Option Entry
 put_of told = Some (entry_told told)
 
-put_case : (b : Bool) (told : Told) (o : Option Told) → cond b (Some (put_of told)) (option_map put_of o) ≡ option_map put_of (cond b (Some told) o)
-put_case true told o = refl
-put_case false told o = refl
-
-find_put : (es : List (Key × Told)) (k : Key) → find rank_cmp k (map (λ e. (e.0, Some (entry_told e.1))) es) ≡ option_map put_of (find rank_cmp k es)
-find_put [] k = refl
-find_put (e ∷ es) k = ap (cond (is_key k e.0) (Some (put_of e.1))) (find_put es k) ∙ put_case (is_key k e.0) e.1 (find rank_cmp k es)
-
 -- what the draft puts at a key
 put_at : (told : ToldEntries) (next : ℕ) (k : Key) → fin.get (arrivals told next).puts k ≡ option_map put_of (fin.get told k)
-put_at told next k =
-    fin.get-from_entries rank_total (map (λ e. (e.0, Some (entry_told e.1))) (fin.entries told)) k
-    ∙ find_put (fin.entries told) k
-    ∙ ap (option_map put_of) (sym (fin.get-entries told k))
+put_at told next k = get_mapped put_of told k
 
 told_case : (o : Option Told) (e : Entry) → Some e ≡ option_map entry_told o → option_map put_of o ≡ Some (Some e)
 told_case None e is = cc

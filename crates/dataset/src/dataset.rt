@@ -5,6 +5,7 @@ ghost use Rattle.std.specs.Option.{option_copied, option_map};
 ghost use Rattle.std.specs.FinMap as fin;
 ghost use Rattle.osm_base.specs.RisingKeys.{is_in};
 ghost use Rattle.osm_table.specs.Table.{entry_of, keys_by_rank, users};
+ghost use Rattle.osm_table.specs.Told.{table_told};
 ghost use Rattle.dataset.specs.Sound.{IsSound};
 ghost use Rattle.dataset.specs.Patch.{IsDiff, in_order, StandsBefore, StandsAfter, after_of, before_of};
 ghost use Rattle.dataset.specs.Diff.{diff};
@@ -20,7 +21,7 @@ use crate::pairs::{add_pairs, take_pairs};
 use crate::patch::Patch;
 use crate::writes::{drop_keys, put_keys, write_all, writes_of};
 use osm_base::{Key, Keys};
-use osm_table::{SharedEntry, Table, ToldMap};
+use osm_table::{OwnTable, Shared, SharedEntry, Table, ToldMap};
 use ref_index::RefIndex;
 use std::alloc::{AllocError, Global};
 use std::marker::Model;
@@ -170,7 +171,8 @@ impl DataSet {
 
     /// Leads the table on, from what the patch has before to what it has after. Costs the edited
     /// entries and their references; an edit that keeps the references, as one of tags alone, costs
-    /// the index nothing.
+    /// the index nothing. The first that follows an `adopt` costs a copy of the told map, where
+    /// others have that still.
     ///
     /// # Errors
     ///
@@ -187,8 +189,8 @@ impl DataSet {
             &mut self.index,
             patch.edits(),
             true,
+            patch.next_after(),
         )?;
-        self.table.set_next(patch.next_after());
         Ok(())
     }
 
@@ -210,9 +212,60 @@ impl DataSet {
             &mut self.index,
             patch.edits(),
             false,
+            patch.next_before(),
         )?;
-        self.table.set_next(patch.next_before());
         Ok(())
+    }
+
+    /// As `apply`, where the patch leads to a table of which no more is known than what is told.
+    /// The told map becomes the table, so no entry is looked up or put. Costs the patch's references.
+    ///
+    /// # Errors
+    ///
+    /// Where no memory is found; then nothing changes.
+    pub fn adopt(&mut self, patch: &Patch, told: Shared<ToldMap>) -> Result<(), AllocError>
+        requires stands { StandsBefore patch.now self.old }
+        requires sound { IsSound (after_of patch.now self.old) }
+        requires told { after_of patch.now self.old ≡ table_told told.told patch.now.next_after }
+        ensures ok { OnOk result (self.new ≡ after_of patch.now self.old) }
+        ensures err { OnErr result (self.new ≡ self.old) }
+    {
+        let edits = patch.edits();
+        add_pairs(&mut self.index, edits, true)?;
+        take_pairs(&mut self.index, edits, false);
+        self.table = Table::told(told, patch.next_after());
+        Ok(())
+    }
+}
+
+/// Leads the table by one side of edits to the number of its next new object, or leaves all as it was. Costs one look-up an
+/// edit, and what it costs to take the table as its own.
+fn lead(
+    alloc: Global,
+    table: &mut Table,
+    index: &mut RefIndex,
+    edits: &[Edit],
+    forth: bool,
+    next: u64,
+) -> Result<(), AllocError>
+    requires order { T (in_order edits.now) }
+    requires stands { AllByRecursion (λ e. entry_of table.old e.key ≡ side (not forth) e) edits.now }
+    requires exact { IsExact table.old index.old }
+    ensures ok { OnOk result (table.new ≡ record { entries = (led (side forth) edits.now table.old).entries; next = next }) }
+    ensures exact { IsExact table.new index.new }
+    ensures err { OnErr result (table.new ≡ table.old) }
+{
+    let mut own = table.take()?;
+    match lead_own(alloc, &mut own, index, edits, forth) {
+        Ok(()) => {
+            own.set_next(next);
+            *table = Table::own(own);
+            Ok(())
+        }
+        Err(e) => {
+            *table = Table::own(own);
+            Err(e)
+        }
     }
 }
 
@@ -221,9 +274,9 @@ impl DataSet {
 /// All that can find no memory comes first: the writes with their entries, the new keys, the pairs
 /// that come. Where the index finds none the new keys are taken out again. Only then do the other
 /// pairs go, so each of them is there.
-fn lead(
+fn lead_own(
     alloc: Global,
-    table: &mut Table,
+    table: &mut OwnTable,
     index: &mut RefIndex,
     edits: &[Edit],
     forth: bool,

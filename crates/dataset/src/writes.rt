@@ -8,7 +8,7 @@ ghost use Rattle.dataset.specs.Sides.{side, led, fresh, gone, is_fresh, writes_o
 
 use crate::edit::Edit;
 use osm_base::Key;
-use osm_table::{SharedEntry, Table};
+use osm_table::{OwnTable, SharedEntry};
 use std::alloc::{AllocError, Global};
 
 /// What a key gets in place of the entry that it has.
@@ -41,7 +41,7 @@ pub fn writes_of(alloc: Global, edits: &[Edit], forth: bool) -> Result<Vec<Write
     Ok(writes)
 }
 
-fn put_fresh(table: &mut Table, edit: &Edit, forth: bool) -> Result<(), AllocError>
+fn put_fresh(table: &mut OwnTable, edit: &Edit, forth: bool) -> Result<(), AllocError>
     ensures ok { OnOk result (table.new ≡ led (side forth) (fresh forth (edit.now ∷ [])) table.old) }
     ensures err { OnErr result (table.new ≡ table.old) }
 {
@@ -63,7 +63,7 @@ fn keys_to_come(edits: &[Edit], forth: bool) -> usize
 
 /// Puts the keys in that edits bring, or leaves all as it was. Costs one look-up each. It asks for their room at once: for
 /// no more than they take, so that edits of objects that stay ask for none.
-pub fn put_keys(table: &mut Table, edits: &[Edit], forth: bool) -> Result<(), AllocError>
+pub fn put_keys(table: &mut OwnTable, edits: &[Edit], forth: bool) -> Result<(), AllocError>
     requires order { T (in_order edits.now) }
     requires stands { AllByRecursion (λ e. entry_of table.old e.key ≡ side (not forth) e) edits.now }
     ensures ok { OnOk result (table.new ≡ led (side forth) (fresh forth edits.now) table.old) }
@@ -79,7 +79,7 @@ pub fn put_keys(table: &mut Table, edits: &[Edit], forth: bool) -> Result<(), Al
     Ok(())
 }
 
-fn drop_gone(table: &mut Table, edit: &Edit, forth: bool)
+fn drop_gone(table: &mut OwnTable, edit: &Edit, forth: bool)
     ensures { table.new ≡ led (side forth) (gone forth (edit.now ∷ [])) table.old }
 {
     if edit.side(forth).is_none() {
@@ -89,7 +89,7 @@ fn drop_gone(table: &mut Table, edit: &Edit, forth: bool)
 
 /// Takes the keys out for which a side has no entry. It begins at the last, since a table gives up
 /// its newest keys at least cost.
-pub fn drop_keys(table: &mut Table, edits: &[Edit], forth: bool)
+pub fn drop_keys(table: &mut OwnTable, edits: &[Edit], forth: bool)
     ensures { table.new ≡ led (side forth) (gone forth edits.now) table.old }
 {
     for i in (0..edits.len()).rev() {
@@ -98,7 +98,7 @@ pub fn drop_keys(table: &mut Table, edits: &[Edit], forth: bool)
 }
 
 /// Sets the entry of a key that is there, which takes no memory.
-fn set_there(table: &mut Table, write: Write)
+fn set_there(table: &mut OwnTable, write: Write)
     requires { IsSome (entry_of table.old write.key) }
     ensures { table.new ≡ with_entry table.old write.key write.entry }
 {
@@ -108,7 +108,7 @@ fn set_there(table: &mut Table, write: Write)
 }
 
 /// Makes writes whose keys are there, which takes no memory.
-pub fn write_all(table: &mut Table, writes: Vec<Write>)
+pub fn write_all(table: &mut OwnTable, writes: Vec<Write>)
     requires { AllByRecursion (λ w. IsSome (entry_of table.old w.key)) writes.items }
     ensures { table.new ≡ written writes.items table.old }
 {

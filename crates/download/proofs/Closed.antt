@@ -3,20 +3,20 @@ use Rattle.std.proofs.Common.{◌≡◌, ℕ, ◌+◌, ◌<◌, ◌&&◌, Bool, 
 use Rattle.std.specs.List.{AllByRecursion, fold}
 use Rattle.std.specs.Option.{option_or}
 use Rattle.std.proofs.lemmas.List.{take_more}
+use Rattle.std.proofs.lemmas.List.Sums.{fold-append}
 use Rattle.osm_base.specs.Rank.{is_key}
 use Rattle.osm_base.specs.Content.{refs_of}
 use Rattle.osm_base.specs.declared.key.Key.{Key}
 use Rattle.osm_base.specs.declared.content.Content.{Content}
 use Rattle.osm_base.specs.declared.meta.Meta.{Meta}
+use Rattle.osm_base.proofs.Lists.{all_joined}
 use Rattle.osm_table.specs.declared.told.Told.{Told}
 use Rattle.osm_table.specs.declared.told.Told.TheVariants.{Mentioned, Live}
 use Rattle.osm_table.specs.Told.{ToldValue, told_at, with_mention, is_told_there, IsClosed}
 use Rattle.opl_line.specs.declared.object.OplObject.{OplObject}
 use Rattle.download.specs.Tell.{refs_of_side, references, told_side, told_of_object, nothing, all_told, told_of, telling, is_mentioned}
+use Rattle.download.specs.TellCode.{AreThereIn, AreMentioned}
 use Rattle.download.proofs.Found.{mention_if, mention_cases, told_at_key}
-
-abbrev pub AreThereIn : ToldValue → List Key → Type 0
-AreThereIn m keys = AllByRecursion (λ (r : Key). is_told_there (told_at m r) ≡ true) keys
 
 -- One mention more.
 
@@ -31,27 +31,41 @@ all_still : (m : ToldValue) (k : Key) (keys : List Key) → AreThereIn m keys �
 all_still m k [] are = tt
 all_still m k (r ∷ rs) are = (there_still m k r are.0, all_still m k rs are.1)
 
-one_more : (m : ToldValue) (k : Key) (keys : List Key) → AreThereIn m keys → is_told_there (told_at m k) ≡ true → AreThereIn m (keys ++ k ∷ [])
-one_more m k [] are is = (is, tt)
-one_more m k (r ∷ rs) are is = (are.0, one_more m k rs are.1 is)
+still_there : (keys more : List Key) (m : ToldValue) → AreThereIn m keys → AreThereIn (fold with_mention m more) keys
+still_there keys [] m are = are
+still_there keys (k ∷ ks) m are = still_there keys ks (with_mention m k) (all_still m k keys are)
 
-mentioned_there : (m new : ToldValue) (k : Key) (keys : List Key) → new ≡ with_mention m k → AreThereIn m keys → is_told_there (told_at new k) ≡ true → AreThereIn new (keys ++ k ∷ [])
-mentioned_there m new k keys e are is = one_more new k keys (subst (λ (n : ToldValue). AreThereIn n keys) (sym e) (all_still m k keys are)) is
+both_there : (keys more : List Key) (old new : ToldValue) (all there : Bool) → new ≡ fold with_mention old more → (all ≡ true → AreThereIn old keys) → (there ≡ true → AreThereIn new more)
+    → (all && there) ≡ true → AreThereIn new (keys ++ more)
+both_there keys more old new true there is before after h =
+    all_joined (λ (r : Key). is_told_there (told_at new r) ≡ true) keys more (subst (λ (m : ToldValue). AreThereIn m keys) (sym is) (still_there keys more old (before refl))) (after h)
+both_there keys more old new false there is before after h = let f : false ≡ true = h in cc
 
--- one key of a list more that is mentioned
-pub next_there : (m new : ToldValue) (keys : List Key) (i : ℕ) (d : Key) (all there : Bool) → i < length keys → new ≡ with_mention m (get_or keys i d)
-    → (all ≡ true → AreThereIn m (take i keys)) → there ≡ is_told_there (told_at new (get_or keys i d)) → (all && there) ≡ true → AreThereIn new (take (i + 1) keys)
-next_there m new keys i d true there within e are is h =
-    subst (AreThereIn new) (sym (take_more keys i d within)) (mentioned_there m new (get_or keys i d) (take i keys) e (are refl) (sym is ∙ h))
-next_there m new keys i d false there within e are is h = let f : false ≡ true = h in cc
+more_mentioned : (begun old new : ToldValue) (keys more : List Key) (all there : Bool) → AreMentioned begun old keys all → AreMentioned old new more there → AreMentioned begun new (keys ++ more) (all && there)
+more_mentioned begun old new keys more all there before after = record {
+  told = after.told ∙ ap (λ (m : ToldValue). fold with_mention m more) before.told ∙ sym (fold-append with_mention begun keys more);
+  all_there = both_there keys more old new all there after.told before.all_there after.all_there;
+}
+
+-- A walk that mentions the keys of one item after the other.
+pub next_mentioned : {X : Type 0} (g : List X → List Key) → ((xs ys : List X) → g (xs ++ ys) ≡ g xs ++ g ys)
+    → (xs : List X) (i : ℕ) (d : X) (more : List Key) (begun old new : ToldValue) (all there : Bool) → i < length xs → more ≡ g (get_or xs i d ∷ [])
+    → AreMentioned begun old (g (take i xs)) all → AreMentioned old new more there → AreMentioned begun new (g (take (i + 1) xs)) (all && there)
+next_mentioned g joins xs i d more begun old new all there within is before after =
+    subst (λ (keys : List Key). AreMentioned begun new keys (all && there)) (ap (λ (ks : List Key). g (take i xs) ++ ks) is ∙ sym (joins (take i xs) (get_or xs i d ∷ [])) ∙ ap g (sym (take_more xs i d within)))
+    (more_mentioned begun old new (g (take i xs)) more all there before after)
+
+-- one key that was mentioned
+pub one_mentioned : (old new : ToldValue) (key : Key) (there : Bool) → new ≡ with_mention old key → there ≡ is_told_there (told_at new key) → AreMentioned old new (key ∷ []) there
+one_mentioned old new key there is answer = record { told = is; all_there = λ h. (sym answer ∙ h, tt) }
 
 -- All references of what is told.
 
-fore : (P : Key → Type 0) (xs ys : List Key) → AllByRecursion P (xs ++ ys) → AllByRecursion P xs
+pub fore : (P : Key → Type 0) (xs ys : List Key) → AllByRecursion P (xs ++ ys) → AllByRecursion P xs
 fore P [] ys all = tt
 fore P (x ∷ xs) ys all = (all.0, fore P xs ys all.1)
 
-aft : (P : Key → Type 0) (xs ys : List Key) → AllByRecursion P (xs ++ ys) → AllByRecursion P ys
+pub aft : (P : Key → Type 0) (xs ys : List Key) → AllByRecursion P (xs ++ ys) → AllByRecursion P ys
 aft P [] ys all = all
 aft P (x ∷ xs) ys all = aft P xs ys all.1
 
@@ -86,9 +100,9 @@ closed_told os are key version content meta has =
     are
 
 -- What is told is closed where all references of its objects, which were mentioned last, are there.
-pub closed_there : (os : List OplObject) (refs : List Key) (begun told new : ToldValue) (all : Bool) → refs ≡ references os → begun ≡ nothing → told ≡ all_told begun os → new ≡ fold with_mention told refs
-    → (all ≡ true → AreThereIn new refs) → all ≡ true → IsClosed new.told
-closed_there os refs begun told new all is_refs is_begun is_told is_new there h =
-    let same : new ≡ told_of os = is_new ∙ (λ i. fold with_mention ((is_told ∙ ap (λ (m : ToldValue). all_told m os) is_begun) i) (is_refs i)) in
-    let are : AreThereIn new (references os) = subst (AreThereIn new) is_refs (there h) in
+pub closed_there : (os : List OplObject) (refs : List Key) (begun told new : ToldValue) (all : Bool) → refs ≡ references os → begun ≡ nothing → told ≡ all_told begun os → AreMentioned told new refs all
+    → all ≡ true → IsClosed new.told
+closed_there os refs begun told new all is_refs is_begun is_told mentioned h =
+    let same : new ≡ told_of os = mentioned.told ∙ (λ i. fold with_mention ((is_told ∙ ap (λ (m : ToldValue). all_told m os) is_begun) i) (is_refs i)) in
+    let are : AreThereIn new (references os) = subst (AreThereIn new) is_refs (mentioned.all_there h) in
     subst (λ (m : ToldValue). IsClosed m.told) (sym same) (closed_told os (subst (λ (m : ToldValue). AreThereIn m (references os)) same are))

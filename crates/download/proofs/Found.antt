@@ -1,6 +1,6 @@
 -- What a told map tells of a key after many were told of.
 use Rattle.std.proofs.Common.{◌≡◌, ◌||◌, ℕ, Bool, true, false, cond, is_some, List, [], ◌∷◌, Option, Some, None, refl, ap, ◌∙◌}
-use Rattle.std.specs.List.{list_any, fold, AllByRecursion}
+use Rattle.std.specs.List.{list_any, fold}
 use Rattle.std.specs.Option.{option_or}
 use Rattle.std.specs.FinMap as fin
 use Rattle.std.proofs.lemmas.List.Folds.{list_any-append}
@@ -18,17 +18,15 @@ use Rattle.osm_table.specs.declared.told.Told.TheVariants.{Mentioned}
 use Rattle.osm_table.specs.Told.{ToldValue, told_at, with_told, with_mention, IsTold}
 use Rattle.opl_line.specs.declared.object.OplObject.{OplObject}
 use Rattle.download.specs.Tell.{refs_of_side, references, told_side, told_of_object, nothing, all_told, told_of, telling, is_mentioned, told_by, AreTellable}
+use Rattle.download.specs.TellCode.{ArePositive}
 
 -- What may be told refers to positive ids.
-
-abbrev ArePositive : List Key → Type 0
-ArePositive keys = AllByRecursion (λ (key : Key). IsPositive key.id) keys
 
 positive_side : (key : Key) (version : ℕ) (side : Option Content) (meta : Meta) → IsTold key (told_side version side meta) → ArePositive (refs_of_side side)
 positive_side key version None meta may = tt
 positive_side key version (Some content) meta may = may.2.1
 
-pub positive_references : (os : List OplObject) → AreTellable os → AllByRecursion (λ (key : Key). IsPositive key.id) (references os)
+pub positive_references : (os : List OplObject) → AreTellable os → ArePositive (references os)
 positive_references [] may = tt
 positive_references (o ∷ os) may = all_joined (λ (key : Key). IsPositive key.id) (refs_of_side o.side) (references os) (positive_side o.key o.version o.side o.meta may.0) (positive_references os may.1)
 

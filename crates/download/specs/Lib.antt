@@ -1,3 +1,4 @@
 pub mod Filter
 pub mod FilterCode
 pub mod Tell
+pub mod TellCode

@@ -1,17 +1,24 @@
 //! The told map of a file.
-ghost use Rattle.std.specs.Prelude.{◌≡◌, ◌++◌, true, OnOk, IfOk};
-ghost use Rattle.std.specs.List.{AllByRecursion, fold};
-ghost use Rattle.osm_base.specs.declared.key.Key.{Key};
+ghost use Rattle.std.specs.Prelude.{◌≡◌, ◌++◌, map, OnOk, IfOk};
+ghost use Rattle.osm_base.specs.Content.{node};
+ghost use Rattle.osm_base.specs.declared.members.Member.{Member};
 ghost use Rattle.opl_file.specs.Objects.{objects_in};
-ghost use Rattle.osm_table.specs.Table.{IsPositive};
-ghost use Rattle.osm_table.specs.Told.{told_at, with_told, with_mention, is_told_there};
+ghost use Rattle.osm_table.specs.Told.{with_told};
 ghost use Rattle.download.specs.Tell.{refs_of_side, references, told_of_object, all_told, told_of, IsTellable, AreTellable};
+ghost use Rattle.download.specs.TellCode.{keys_of_list, keys_in, ArePositive, AreMentioned};
 
 use opl_file::Objects;
 use opl_line::OplObject;
-use osm_base::{Content, Key, push_references};
+use osm_base::{Content, Member, Members, Refs, node_key};
 use osm_table::{Told, ToldMap};
 use std::alloc::{AllocError, Global};
+
+/// What a way or a relation refers to, in the list that it has itself.
+#[derive(Debug, Drop)]
+pub(crate) enum ReferenceList {
+    Way(Refs),
+    Relation(Members),
+}
 
 /// What the objects of a file tell. It costs a look-up for each object and each reference. Each batch of the objects is
 /// given back as soon as it was told.
@@ -27,6 +34,9 @@ pub fn tell(alloc: Global, objects: Objects) -> Result<ToldMap, AllocError>
 
 /// What the objects tell. It costs a look-up for each object and each reference. Where each reference is told of as there
 /// the told map knows that it is closed.
+///
+/// What is mentioned comes behind all that is told, when the batches are gone. So one item is kept for each way and each
+/// relation, and nothing for each reference.
 ///
 /// # Errors
 /// No memory was left.
@@ -44,32 +54,38 @@ pub fn tell_batches(alloc: Global, batches: Vec<Vec<OplObject>>) -> Result<ToldM
     Ok(told)
 }
 
-fn references(alloc: Global, batches: &[Vec<OplObject>]) -> Result<Vec<Key>, AllocError>
-    ensures { IfOk result (λ keys. keys.items ≡ references (objects_in batches.now)) }
+// What the objects refer to, in a list for each way and each relation. Each list is shared with its object, so no reference is
+// copied.
+fn references(alloc: Global, batches: &[Vec<OplObject>]) -> Result<Vec<ReferenceList>, AllocError>
+    ensures { IfOk result (λ lists. keys_in lists.items ≡ references (objects_in batches.now)) }
 {
-    let mut keys = Vec::new(alloc);
+    let mut lists = Vec::new(alloc);
     for batch in batches {
-        push_sides(batch, &mut keys)?;
+        push_sides(batch, &mut lists)?;
     }
-    Ok(keys)
+    Ok(lists)
 }
 
-fn push_sides(objects: &[OplObject], keys: &mut Vec<Key>) -> Result<(), AllocError>
-    ensures { OnOk result (keys.new.items ≡ keys.old.items ++ references objects.now) }
+fn push_sides(objects: &[OplObject], lists: &mut Vec<ReferenceList>) -> Result<(), AllocError>
+    ensures { OnOk result (keys_in lists.new.items ≡ keys_in lists.old.items ++ references objects.now) }
 {
     for object in objects {
-        push_side(&object.side, keys)?;
+        push_side(&object.side, lists)?;
     }
     Ok(())
 }
 
-fn push_side(side: &Option<Content>, keys: &mut Vec<Key>) -> Result<(), AllocError>
-    ensures { OnOk result (keys.new.items ≡ keys.old.items ++ refs_of_side side.now) }
+fn push_side(side: &Option<Content>, lists: &mut Vec<ReferenceList>) -> Result<(), AllocError>
+    ensures { OnOk result (keys_in lists.new.items ≡ keys_in lists.old.items ++ refs_of_side side.now) }
 {
     match side {
-        None => Ok(()),
-        Some(content) => push_references(content, keys),
+        Some(Content::Way { refs, .. }) => lists.push(ReferenceList::Way(refs.copy()?))?,
+        Some(Content::Relation { members, .. }) => {
+            lists.push(ReferenceList::Relation(members.copy()?))?
+        }
+        _ => {}
     }
+    Ok(())
 }
 
 // How many objects there are, as the room that they ask for.
@@ -122,15 +138,46 @@ fn tell_object(told: &mut ToldMap, object: OplObject) -> Result<(), AllocError>
     }
 }
 
-/// Mentions the keys, and answers whether all of them are told of as there.
-fn mention_all(told: &mut ToldMap, keys: &[Key]) -> Result<bool, AllocError>
-    requires { AllByRecursion (λ (key : Key). IsPositive key.id) keys.now }
-    ensures told { OnOk result (told.new ≡ fold with_mention told.old keys.now) }
-    ensures there { IfOk result (λ there. there ≡ true → AllByRecursion (λ r. is_told_there (told_at told.new r) ≡ true) keys.now) }
+// Mentions what the lists name, and answers whether all of that is told of as there.
+fn mention_all(told: &mut ToldMap, lists: &[ReferenceList]) -> Result<bool, AllocError>
+    requires { ArePositive (keys_in lists.now) }
+    ensures { IfOk result (λ there. AreMentioned told.old told.new (keys_in lists.now) there) }
 {
     let mut there = true;
-    for key in keys {
-        there &= told.mention(*key)?;
+    for list in lists {
+        there &= mention_list(told, list)?;
+    }
+    Ok(there)
+}
+
+fn mention_list(told: &mut ToldMap, list: &ReferenceList) -> Result<bool, AllocError>
+    requires { ArePositive (keys_of_list list.now) }
+    ensures { IfOk result (λ there. AreMentioned told.old told.new (keys_of_list list.now) there) }
+{
+    match list {
+        ReferenceList::Way(refs) => mention_nodes(told, refs.as_slice()),
+        ReferenceList::Relation(members) => mention_members(told, members.as_slice()),
+    }
+}
+
+fn mention_nodes(told: &mut ToldMap, ids: &[i64]) -> Result<bool, AllocError>
+    requires { ArePositive (map node ids.now) }
+    ensures { IfOk result (λ there. AreMentioned told.old told.new (map node ids.now) there) }
+{
+    let mut there = true;
+    for id in ids {
+        there &= told.mention(node_key(*id))?;
+    }
+    Ok(there)
+}
+
+fn mention_members(told: &mut ToldMap, members: &[Member]) -> Result<bool, AllocError>
+    requires { ArePositive (map (λ (member : Member). member.key) members.now) }
+    ensures { IfOk result (λ there. AreMentioned told.old told.new (map (λ (member : Member). member.key) members.now) there) }
+{
+    let mut there = true;
+    for member in members {
+        there &= told.mention(member.key)?;
     }
     Ok(there)
 }

@@ -25,6 +25,7 @@ use edit_history::{Group, History};
 use opl_file::Objects;
 use opl_line::OplObject;
 use osm_base::{Area, Key, Tags};
+use osm_table::Shared;
 use server_world::{World, WorldEntry};
 use std::alloc::{AllocError, Global};
 use tool_api::{Job, Tool};
@@ -193,7 +194,7 @@ impl Meeting {
         match objects_before(alloc, &self.world, self.log.as_slice(), back)? {
             None => self.editors[editor].refuse_state(self.log.len() as u64),
             Some(objects) => {
-                let told = filter(alloc, objects, area, wanted)?;
+                let told = Shared::new(alloc, filter(alloc, objects, area, wanted)?)?;
                 self.editors[editor].run(&Job::Merge { told }, limit)
             }
         }

@@ -7,7 +7,7 @@ ghost use Rattle.tool_api.specs.Merged.{merge};
 ghost use Rattle.tool_api.specs.Planned.{Plans};
 
 use dataset::DataSet;
-use osm_table::ToldMap;
+use osm_table::{Shared, ToldMap};
 use std::alloc::AllocError;
 use tool_api::{Plan, Refusal};
 
@@ -16,15 +16,19 @@ use tool_api::{Plan, Refusal};
 ///
 /// # Errors
 /// No memory was left.
-pub fn arrival_plan(ds: &DataSet, told: &ToldMap, limit: u64) -> Result<Plan, AllocError>
+pub fn arrival_plan(ds: &DataSet, told: &Shared<ToldMap>, limit: u64) -> Result<Plan, AllocError>
     requires sound { IsSound ds.now }
     requires empty { map.len ds.now.entries ≡ 0 }
     requires closed { IsClosed told.now.told }
     ensures { IfOk result (Plans ds.now (merge ds.now limit told.now)) }
 {
-    told.sound();
-    if limit < told.len() as u64 {
+    let map = told.value();
+    map.sound();
+    if limit < map.len() as u64 {
         return Ok(Plan::Refused(Refusal::TableFull));
     }
-    Ok(Plan::Ready(ds.patch_of_told(told)?))
+    Ok(Plan::Ready {
+        patch: ds.patch_of_told(map)?,
+        told: told.copy()?,
+    })
 }

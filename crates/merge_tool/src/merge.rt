@@ -14,7 +14,7 @@ use crate::writing::write;
 use closure::set_of;
 use dataset::{DataSet, Draft};
 use osm_base::{Key, Keys};
-use osm_table::ToldMap;
+use osm_table::{Shared, ToldMap};
 use std::alloc::AllocError;
 use tool_api::{Command, Job, Plan, Undoable, Verb, room_test};
 
@@ -68,14 +68,14 @@ fn cases_plan(ds: &DataSet, told: &ToldMap, limit: u64) -> Result<Plan, AllocErr
     })
 }
 
-fn merge_plan(ds: &DataSet, told: &ToldMap, limit: u64) -> Result<Plan, AllocError>
+fn merge_plan(ds: &DataSet, told: &Shared<ToldMap>, limit: u64) -> Result<Plan, AllocError>
     requires sound { IsSound ds.now }
     ensures { IfOk result (Plans ds.now (merge ds.now limit told.now)) }
 {
-    if ds.len() == 0 && told.is_closed() {
+    if ds.len() == 0 && told.value().is_closed() {
         arrival_plan(ds, told, limit)
     } else {
-        cases_plan(ds, told, limit)
+        cases_plan(ds, told.value(), limit)
     }
 }
 

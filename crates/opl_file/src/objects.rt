@@ -8,7 +8,7 @@ use opl_line::OplObject;
 use std::alloc::{AllocError, Global};
 use std::marker::Model;
 
-/// How many objects a batch has at most. An object takes 104 bytes, so that a full batch stays below the 128 KiB from which
+/// How many objects a batch has at most. An object takes 88 bytes, so that a full batch stays below the 128 KiB from which
 /// on glibc maps a block by itself: what a batch gives back serves the next blocks that are asked for.
 const BATCH_LENGTH: usize = 1024;
 

@@ -19,6 +19,7 @@ use opl_text::Pool;
 use osm_base::{
     Content, Coord, Key, Kind, Members, Meta, Moment, Refs, Tags, Text, coord_of, kind_of,
 };
+use std::alloc::AllocError;
 
 #[tactic(auto, unfolding(crate::specs::Line::id_at))]
 fn id_at(mode: Mode, text: &[u8]) -> Result<(i64, Option<&[u8]>), LineAnswer>
@@ -126,21 +127,21 @@ fn tags_or_none(pool: &Pool, tags: Option<Tags>) -> Tags
     }
 }
 
-fn refs_or_none(pool: &Pool, refs: Option<Refs>) -> Refs
-    ensures { result ≡ unwrap_or refs [] }
+fn refs_or_none(pool: &Pool, refs: Option<Refs>) -> Result<Refs, AllocError>
+    ensures { IfOk result (λ list. list ≡ unwrap_or refs []) }
 {
     match refs {
         None => Refs::new(pool.allocator()),
-        Some(refs) => refs,
+        Some(refs) => Ok(refs),
     }
 }
 
-fn members_or_none(pool: &Pool, members: Option<Members>) -> Members
-    ensures { result ≡ unwrap_or members [] }
+fn members_or_none(pool: &Pool, members: Option<Members>) -> Result<Members, AllocError>
+    ensures { IfOk result (λ list. list ≡ unwrap_or members []) }
 {
     match members {
         None => Members::new(pool.allocator()),
-        Some(members) => members,
+        Some(members) => Ok(members),
     }
 }
 
@@ -173,11 +174,11 @@ fn content_of(pool: &Pool, kind: Kind, fields: Fields) -> Result<Content, LineAn
         }
         Kind::Way => Ok(Content::Way {
             tags,
-            refs: refs_or_none(pool, refs),
+            refs: refs_or_none(pool, refs)?,
         }),
         Kind::Relation => Ok(Content::Relation {
             tags,
-            members: members_or_none(pool, members),
+            members: members_or_none(pool, members)?,
         }),
     }
 }
@@ -273,7 +274,8 @@ fn kind_of_line(pool: &mut Pool, mode: Mode, line: &[u8]) -> Result<LineKind, Li
 
 /// What a line (without its LF) is: skipped, an object, or its first fault from the left.
 ///
-/// Texts come from the pool, so that one that comes again is shared. The line is walked once.
+/// Texts come from the pool, so that one that comes again is shared. The line is walked once, and of
+/// a field that is a list the commas are counted first.
 ///
 /// # Errors
 /// `Bad` with the line's fault; `Memory` where memory ran out.

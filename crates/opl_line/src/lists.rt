@@ -1,7 +1,8 @@
 //! Texts, tags, references and members of a line.
 //!
 //! A list is read item by item, each to its end before the next, so that the first broken thing
-//! decides. A reference ends where its digits do; other items are cut at their commas.
+//! decides. A reference ends where its digits do; other items are cut at their commas. The commas are
+//! counted before that, so that a list has just the room that it takes.
 
 ghost use Rattle.std.specs.Prelude.{◌≡◌, [], is_some, IfOk, IfSome, Some};
 ghost use Rattle.std.specs.List.{list_all};
@@ -16,7 +17,7 @@ use crate::fault::{LineAnswer, LineFault};
 use crate::front::id_front;
 use crate::mode::{Mode, is_allowed};
 use crate::number::read_place;
-use crate::pieces::cut;
+use crate::pieces::{count_pieces, cut};
 use opl_text::{Pool, read_escaped};
 use osm_base::{Key, Member, Members, Refs, Tags, Text, TextFault, kind_of};
 
@@ -56,11 +57,19 @@ fn tag_into(pool: &mut Pool, tags: &mut Tags, item: &[u8]) -> Result<(), LineAns
     Ok(())
 }
 
+/// The most room that is asked for before a list is read: no list of the API is longer (32,000 members). A longer one grows.
+const MOST_ROOM: usize = 32_000;
+
+/// How many items the commas of a list set apart, as the room that it asks for.
+fn room(text: &[u8]) -> usize {
+    count_pieces(text, b',').min(MOST_ROOM)
+}
+
 /// The tags between commas.
 fn all_tags(pool: &mut Pool, text: &[u8]) -> Result<Tags, LineAnswer>
     ensures { Gives (λ tags. tags) result (folded tag_into [] (split (is_one_of 44 44) text.now)) }
 {
-    let mut tags = Tags::new(pool.allocator());
+    let mut tags = Tags::with_capacity(pool.allocator(), room(text))?;
     let mut rest = text;
     loop {
         let (item, after) = cut(rest, b',', b',');
@@ -72,7 +81,8 @@ fn all_tags(pool: &mut Pool, text: &[u8]) -> Result<Tags, LineAnswer>
     }
 }
 
-/// The tags that the text behind a field's `T` spells. It is walked once.
+/// The tags that the text behind a field's `T` spells. Its commas are counted, and then it is
+/// walked once.
 ///
 /// # Errors
 /// `Bad` with the first fault from the left; `Memory` where memory ran out.
@@ -172,7 +182,7 @@ fn ref_into<'t>(refs: &mut Refs, bytes: &'t [u8]) -> Result<Option<&'t [u8]>, Li
 fn all_refs(pool: &mut Pool, text: &[u8]) -> Result<Refs, LineAnswer>
     ensures { Gives (λ refs. refs) result (folded ref_into [] (split (is_one_of 44 44) text.now)) }
 {
-    let mut refs = Refs::new(pool.allocator());
+    let mut refs = Refs::with_capacity(pool.allocator(), room(text))?;
     let mut rest = text;
     loop {
         match ref_into(&mut refs, rest)? {
@@ -182,7 +192,8 @@ fn all_refs(pool: &mut Pool, text: &[u8]) -> Result<Refs, LineAnswer>
     }
 }
 
-/// The references that the text behind a field's `N` spells. It is walked once.
+/// The references that the text behind a field's `N` spells. Its commas are counted, and then it is
+/// walked once.
 ///
 /// # Errors
 /// `Bad` with the first fault from the left; `Memory` where memory ran out.
@@ -191,7 +202,7 @@ pub fn read_refs(pool: &mut Pool, text: &[u8]) -> Result<Refs, LineAnswer>
     ensures { Gives (λ refs. refs) result (refs_text text.now) }
 {
     if text.is_empty() {
-        return Ok(Refs::new(pool.allocator()));
+        return Ok(Refs::new(pool.allocator())?);
     }
     all_refs(pool, text)
 }
@@ -240,7 +251,7 @@ fn member_into(pool: &mut Pool, members: &mut Members, item: &[u8]) -> Result<()
 fn all_members(pool: &mut Pool, text: &[u8]) -> Result<Members, LineAnswer>
     ensures { Gives (λ members. members) result (folded member_into [] (split (is_one_of 44 44) text.now)) }
 {
-    let mut members = Members::new(pool.allocator());
+    let mut members = Members::with_capacity(pool.allocator(), room(text))?;
     let mut rest = text;
     loop {
         let (item, after) = cut(rest, b',', b',');
@@ -252,7 +263,8 @@ fn all_members(pool: &mut Pool, text: &[u8]) -> Result<Members, LineAnswer>
     }
 }
 
-/// The members that the text behind a field's `M` spells. It is walked once.
+/// The members that the text behind a field's `M` spells. Its commas are counted, and then it is
+/// walked once.
 ///
 /// # Errors
 /// `Bad` with the first fault from the left; `Memory` where memory ran out.
@@ -261,7 +273,7 @@ pub fn read_members(pool: &mut Pool, text: &[u8]) -> Result<Members, LineAnswer>
     ensures { Gives (λ members. members) result (members_text text.now) }
 {
     if text.is_empty() {
-        return Ok(Members::new(pool.allocator()));
+        return Ok(Members::new(pool.allocator())?);
     }
     all_members(pool, text)
 }

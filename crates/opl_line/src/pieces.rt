@@ -1,6 +1,6 @@
 //! Bytes cut at separators.
 
-ghost use Rattle.std.specs.Prelude.{◌≡◌, ◌<◌, ◌∷◌, [], length, MatchOption};
+ghost use Rattle.std.specs.Prelude.{◌≡◌, ◌<◌, ◌∷◌, [], length, count_by, MatchOption};
 ghost use Rattle.std.specs.Option.{option_map};
 ghost use Rattle.opl_line.specs.Cut.{is_one_of, split, before, after};
 ghost use Rattle.opl_line.specs.Line.{is_blank};
@@ -36,4 +36,20 @@ pub fn cut(bytes: &[u8], a: u8, b: u8) -> (&[u8], Option<&[u8]>)
         }
     }
     (bytes, None)
+}
+
+/// How many pieces the separator cuts the bytes into. The bytes are walked.
+pub fn count_pieces(bytes: &[u8], mark: u8) -> usize
+    ensures { result ≡ length (split (is_one_of mark mark) bytes.now) }
+{
+    count_marks(bytes, mark) + 1
+}
+
+fn count_marks(bytes: &[u8], mark: u8) -> usize
+    ensures { result ≡ count_by (is_one_of mark mark) bytes.now }
+{
+    bytes
+        .iter()
+        .filter(|byte| is_mark(mark, mark, **byte))
+        .count()
 }

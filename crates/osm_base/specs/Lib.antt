@@ -1,4 +1,4 @@
-pub mod Shared
+pub mod Boxed
 pub mod RankLaws
 pub mod Content
 pub mod Tags

@@ -60,7 +60,7 @@ impl Content {
         }
     }
 
-    /// An equal content. It makes one block for the tags, and shares all else.
+    /// An equal content. It makes a list of its own for the tags, if there are any, and shares all else.
     ///
     /// # Errors
     /// No memory was left.

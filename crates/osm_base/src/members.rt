@@ -1,7 +1,6 @@
 //! The members of a relation.
 ghost use Rattle.std.specs.Prelude.{◌≡◌, ◌++◌, ◌∷◌, [], OnOk, OnErr, IfOk, IsTrue, ◌↔◌};
 ghost use Rattle.osm_base.specs.Same.{same_member, same_members};
-ghost use Rattle.osm_base.specs.Shared.{items_of};
 
 use crate::key::Key;
 use crate::text::Text;
@@ -21,21 +20,21 @@ pub struct Member {
 
 /// The members of a relation, in order.
 ///
-/// Copies share one list until one of them is changed. An empty list has no block.
+/// Copies share one list until one of them is changed. An empty list has a block too, so that there
+/// is no option here and a list takes 8 bytes where it is kept.
 #[derive(Debug, Drop)]
 pub struct Members {
     alloc: Global,
-    shared: Option<Rc<Vec<Member>>>,
+    shared: Rc<Vec<Member>>,
 }
 
 impl Model for Members {
     ghost use Rattle.std.specs.Prelude.{List};
     ghost use Rattle.osm_base.specs.declared.members.Member.{Member};
-    ghost use Rattle.osm_base.specs.Shared.{items_of};
 
     ghost Value = { List Member };
 
-    ghost view = { λ m. items_of m.shared };
+    ghost view = { λ m. m.shared.value.items };
 }
 
 impl Member {
@@ -62,14 +61,24 @@ impl Member {
 }
 
 impl Members {
-    /// The list without members. It takes no memory.
-    pub fn new(alloc: Global) -> Self
-        ensures { result ≡ [] }
+    /// The list without members. It takes a block.
+    ///
+    /// # Errors
+    /// No memory was left.
+    pub fn new(alloc: Global) -> Result<Self, AllocError>
+        ensures { IfOk result (λ members. members ≡ []) }
     {
-        Members {
-            alloc,
-            shared: None,
-        }
+        Members::from_vec(Vec::new(alloc))
+    }
+
+    /// The list without members, with room for so many.
+    ///
+    /// # Errors
+    /// No memory was left.
+    pub fn with_capacity(alloc: Global, capacity: usize) -> Result<Self, AllocError>
+        ensures { IfOk result (λ members. members ≡ []) }
+    {
+        Members::from_vec(Vec::with_capacity(alloc, capacity)?)
     }
 
     /// These members. The vector is kept as it is, so nothing is copied.
@@ -82,7 +91,7 @@ impl Members {
         let alloc = *items.allocator();
         Ok(Members {
             alloc,
-            shared: Some(Rc::new(alloc, items)?),
+            shared: Rc::new(alloc, items)?,
         })
     }
 
@@ -101,7 +110,7 @@ impl Members {
     pub fn as_slice(&self) -> &[Member]
         ensures { result.now ≡ self.now }
     {
-        members_of(&self.shared)
+        self.shared.as_slice()
     }
 
     /// An equal list. It shares the members, so no block is made.
@@ -122,37 +131,26 @@ impl Members {
         ensures value { result ≡ same_members self.now other.now }
         ensures decides { IsTrue result ↔ (self.now ≡ other.now) }
     {
-        same_items(members_of(&self.shared), members_of(&other.shared))
-    }
-}
-
-fn members_of(shared: &Option<Rc<Vec<Member>>>) -> &[Member]
-    ensures { result.now ≡ items_of shared.now }
-{
-    match shared {
-        Some(items) => items.as_slice(),
-        None => &[],
+        same_items(self.as_slice(), other.as_slice())
     }
 }
 
 // Writes in place where nobody else has the list, and else to a copy.
 fn push_shared(
     alloc: Global,
-    shared: &mut Option<Rc<Vec<Member>>>,
+    shared: &mut Rc<Vec<Member>>,
     member: Member,
 ) -> Result<(), AllocError>
-    ensures ok { OnOk result (items_of shared.new ≡ items_of shared.old ++ member ∷ []) }
-    ensures err { OnErr result (items_of shared.new ≡ items_of shared.old) }
+    ensures ok { OnOk result (shared.new.value.items ≡ shared.old.value.items ++ member ∷ []) }
+    ensures err { OnErr result (shared.new.value.items ≡ shared.old.value.items) }
 {
-    if let Some(rc) = shared {
-        if let Some(items) = Rc::get_mut(rc) {
-            items.push(member)?;
-            return Ok(());
-        }
+    if let Some(items) = Rc::get_mut(shared) {
+        items.push(member)?;
+        return Ok(());
     }
-    let mut items = copies(alloc, members_of(shared))?;
+    let mut items = copies(alloc, shared.as_slice())?;
     items.push(member)?;
-    *shared = Some(Rc::new(alloc, items)?);
+    *shared = Rc::new(alloc, items)?;
     Ok(())
 }
 

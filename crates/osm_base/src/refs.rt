@@ -1,7 +1,6 @@
 //! The nodes of a way.
 ghost use Rattle.std.specs.Prelude.{◌≡◌, ◌++◌, ◌∷◌, [], OnOk, OnErr, IfOk, IsTrue, ◌↔◌};
 ghost use Rattle.osm_base.specs.Same.{same_refs};
-ghost use Rattle.osm_base.specs.Shared.{items_of};
 
 use std::alloc::{AllocError, Global};
 use std::marker::Model;
@@ -9,31 +8,41 @@ use std::rc::Rc;
 
 /// The ids of a way's nodes, in order.
 ///
-/// Copies share one list until one of them is changed. An empty list has no block.
+/// Copies share one list until one of them is changed. An empty list has a block too, so that there
+/// is no option here and a list takes 8 bytes where it is kept.
 #[derive(Debug, Drop)]
 pub struct Refs {
     alloc: Global,
-    shared: Option<Rc<Vec<i64>>>,
+    shared: Rc<Vec<i64>>,
 }
 
 impl Model for Refs {
     ghost use Rattle.std.specs.Prelude.{List, ℤ};
-    ghost use Rattle.osm_base.specs.Shared.{items_of};
 
     ghost Value = { List ℤ };
 
-    ghost view = { λ r. items_of r.shared };
+    ghost view = { λ r. r.shared.value.items };
 }
 
 impl Refs {
-    /// The list without nodes. It takes no memory.
-    pub fn new(alloc: Global) -> Self
-        ensures { result ≡ [] }
+    /// The list without nodes. It takes a block.
+    ///
+    /// # Errors
+    /// No memory was left.
+    pub fn new(alloc: Global) -> Result<Self, AllocError>
+        ensures { IfOk result (λ refs. refs ≡ []) }
     {
-        Refs {
-            alloc,
-            shared: None,
-        }
+        Refs::from_vec(Vec::new(alloc))
+    }
+
+    /// The list without nodes, with room for so many.
+    ///
+    /// # Errors
+    /// No memory was left.
+    pub fn with_capacity(alloc: Global, capacity: usize) -> Result<Self, AllocError>
+        ensures { IfOk result (λ refs. refs ≡ []) }
+    {
+        Refs::from_vec(Vec::with_capacity(alloc, capacity)?)
     }
 
     /// The nodes with these ids. The vector is kept as it is, so nothing is copied.
@@ -46,7 +55,7 @@ impl Refs {
         let alloc = *ids.allocator();
         Ok(Refs {
             alloc,
-            shared: Some(Rc::new(alloc, ids)?),
+            shared: Rc::new(alloc, ids)?,
         })
     }
 
@@ -65,7 +74,7 @@ impl Refs {
     pub fn as_slice(&self) -> &[i64]
         ensures { result.now ≡ self.now }
     {
-        ids_of(&self.shared)
+        self.shared.as_slice()
     }
 
     /// An equal list. It shares the ids, so no block is made.
@@ -86,32 +95,21 @@ impl Refs {
         ensures value { result ≡ same_refs self.now other.now }
         ensures decides { IsTrue result ↔ (self.now ≡ other.now) }
     {
-        ids_of(&self.shared) == ids_of(&other.shared)
-    }
-}
-
-fn ids_of(shared: &Option<Rc<Vec<i64>>>) -> &[i64]
-    ensures { result.now ≡ items_of shared.now }
-{
-    match shared {
-        Some(ids) => ids.as_slice(),
-        None => &[],
+        self.as_slice() == other.as_slice()
     }
 }
 
 // Writes in place where nobody else has the list, and else to a copy.
-fn push_shared(alloc: Global, shared: &mut Option<Rc<Vec<i64>>>, id: i64) -> Result<(), AllocError>
-    ensures ok { OnOk result (items_of shared.new ≡ items_of shared.old ++ id ∷ []) }
-    ensures err { OnErr result (items_of shared.new ≡ items_of shared.old) }
+fn push_shared(alloc: Global, shared: &mut Rc<Vec<i64>>, id: i64) -> Result<(), AllocError>
+    ensures ok { OnOk result (shared.new.value.items ≡ shared.old.value.items ++ id ∷ []) }
+    ensures err { OnErr result (shared.new.value.items ≡ shared.old.value.items) }
 {
-    if let Some(rc) = shared {
-        if let Some(ids) = Rc::get_mut(rc) {
-            ids.push(id)?;
-            return Ok(());
-        }
+    if let Some(ids) = Rc::get_mut(shared) {
+        ids.push(id)?;
+        return Ok(());
     }
-    let mut ids = Vec::from_slice(alloc, ids_of(shared))?;
+    let mut ids = Vec::from_slice(alloc, shared.as_slice())?;
     ids.push(id)?;
-    *shared = Some(Rc::new(alloc, ids)?);
+    *shared = Rc::new(alloc, ids)?;
     Ok(())
 }

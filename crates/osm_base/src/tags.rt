@@ -1,8 +1,9 @@
 //! Tags: pairs of a key and a value, in the order of the keys' bytes.
-ghost use Rattle.std.specs.Prelude.{◌≡◌, ◌<◌, ◌==◌, ◌&&◌, ◌↔◌, [], length, Some, IfOk, OnOk, OnErr, IsTrue, T, nat_lt, slice_index_or};
+ghost use Rattle.std.specs.Prelude.{◌≡◌, ◌<◌, ◌==◌, ◌&&◌, ◌∷◌, ◌↔◌, [], length, Some, IfOk, OnOk, OnErr, IsTrue, T, nat_lt, slice_index_or};
 ghost use Rattle.std.specs.List.{slice_get};
 ghost use Rattle.std.specs.Ordering.{is_lt, eq_by_cmp};
 ghost use Rattle.std.specs.Option.{option_copied, option_map};
+ghost use Rattle.osm_base.specs.Boxed.{items_of};
 ghost use Rattle.osm_base.specs.Same.{same_tags};
 ghost use Rattle.osm_base.specs.Tags.{bytes_cmp, are_tags, value_of, with_tag, without_tag, has_tag, place_of};
 
@@ -13,21 +14,27 @@ use std::marker::Model;
 /// The tags of an object: pairs of a key and a value, in the order of the keys' bytes.
 ///
 /// No key is empty, and none stands twice. The texts are shared with those of other tags, the list
-/// is not. Tags without a pair have no block. Each call finds its place by a binary search.
+/// is not. It stands behind a box, so that tags take 16 bytes where they are kept; where no tag is
+/// left there is neither box nor list. Each call finds its place by a binary search.
 #[derive(Debug, Drop)]
 pub struct Tags {
-    items: Vec<(Text, Text)>,
+    alloc: Global,
+    items: Pairs,
 }
+
+/// Pairs behind a box, or none without one.
+type Pairs = Option<Box<Vec<(Text, Text)>>>;
 
 impl Model for Tags {
     ghost use Rattle.std.specs.Prelude.{List, T};
+    ghost use Rattle.osm_base.specs.Boxed.{items_of};
     ghost use Rattle.osm_base.specs.Tags.{Pair, are_tags};
 
     ghost Value = { List Pair };
 
-    ghost view = { λ t. t.items.items };
+    ghost view = { λ t. items_of t.items };
 
-    ghost invariant = { λ t. T (are_tags t.items.items) };
+    ghost invariant = { λ t. T (are_tags (items_of t.items)) };
 }
 
 impl Tags {
@@ -35,9 +42,23 @@ impl Tags {
     pub fn new(alloc: Global) -> Self
         ensures { result ≡ [] }
     {
-        Tags {
-            items: Vec::new(alloc),
+        Tags { alloc, items: None }
+    }
+
+    /// No tags, with room for so many. Where that is none it takes no memory.
+    ///
+    /// # Errors
+    /// No memory was left.
+    pub fn with_capacity(alloc: Global, capacity: usize) -> Result<Self, AllocError>
+        ensures { IfOk result (λ tags. tags ≡ []) }
+    {
+        if capacity == 0 {
+            return Ok(Tags::new(alloc));
         }
+        Ok(Tags {
+            alloc,
+            items: boxed(alloc, Vec::with_capacity(alloc, capacity)?)?,
+        })
     }
 
     /// How many tags there are.
@@ -45,14 +66,14 @@ impl Tags {
         ensures len { result ≡ length self.now }
         ensures tags { T (are_tags self.now) }
     {
-        self.items.len()
+        items_of(&self.items).len()
     }
 
     /// Whether there are no tags.
     pub fn is_empty(&self) -> bool
         ensures { result ≡ (length self.now == 0) }
     {
-        self.items.is_empty()
+        items_of(&self.items).is_empty()
     }
 
     /// The key of the tag at a place.
@@ -60,7 +81,7 @@ impl Tags {
         requires { i < length self.now }
         ensures { option_map (λ t. t.0) (slice_get self.now i) ≡ Some result.now }
     {
-        self.items[i].0.as_bytes()
+        items_of(&self.items)[i].0.as_bytes()
     }
 
     /// The value of the tag at a place.
@@ -68,7 +89,7 @@ impl Tags {
         requires { i < length self.now }
         ensures { option_map (λ t. t.1) (slice_get self.now i) ≡ Some result.now }
     {
-        self.items[i].1.as_bytes()
+        items_of(&self.items)[i].1.as_bytes()
     }
 
     /// The tags, in order.
@@ -76,21 +97,21 @@ impl Tags {
         ensures value { result.now ≡ self.now }
         ensures tags { T (are_tags self.now) }
     {
-        self.items.as_slice()
+        items_of(&self.items)
     }
 
     /// The value of a key, None exactly where the key is not there.
     pub fn get(&self, key: &[u8]) -> Option<&[u8]>
         ensures { option_copied result ≡ value_of self.now key.now }
     {
-        value_in(&self.items, key)
+        value_in(items_of(&self.items), key)
     }
 
     /// Whether the key is there.
     pub fn has(&self, key: &[u8]) -> bool
         ensures { result ≡ has_tag self.now key.now }
     {
-        is_in(&self.items, key)
+        is_in(items_of(&self.items), key)
     }
 
     /// Gives the key this value, in place of the one that it had, if any. The key must not be empty.
@@ -102,7 +123,7 @@ impl Tags {
         ensures ok { OnOk result (self.new ≡ with_tag self.old key value) }
         ensures err { OnErr result (self.new ≡ self.old) }
     {
-        put_item(&mut self.items, key, value)?;
+        put_boxed(self.alloc, &mut self.items, key, value)?;
         Ok(())
     }
 
@@ -111,10 +132,10 @@ impl Tags {
         ensures value { result ≡ has_tag self.old key.now }
         ensures tags { self.new ≡ without_tag self.old key.now }
     {
-        take_item(&mut self.items, key)
+        take_boxed(&mut self.items, key)
     }
 
-    /// Equal tags. It makes one block for the list, and shares the texts.
+    /// Equal tags. It makes a list of its own, and shares the texts.
     ///
     /// # Errors
     /// No memory was left.
@@ -122,7 +143,8 @@ impl Tags {
         ensures { IfOk result (λ tags. tags ≡ self.now) }
     {
         Ok(Tags {
-            items: copies(*self.items.allocator(), &self.items)?,
+            alloc: self.alloc,
+            items: copied(self.alloc, &self.items)?,
         })
     }
 
@@ -131,7 +153,74 @@ impl Tags {
         ensures value { result ≡ same_tags self.now other.now }
         ensures decides { IsTrue result ↔ (self.now ≡ other.now) }
     {
-        same_items(&self.items, &other.items)
+        same_items(items_of(&self.items), items_of(&other.items))
+    }
+}
+
+fn items_of(items: &Pairs) -> &[(Text, Text)]
+    ensures { result.now ≡ items_of items.now }
+{
+    match items {
+        None => &[],
+        Some(list) => list.as_slice(),
+    }
+}
+
+fn boxed(alloc: Global, list: Vec<(Text, Text)>) -> Result<Pairs, AllocError>
+    ensures { IfOk result (λ items. items_of items ≡ list.items) }
+{
+    Ok(Some(Box::new(alloc, list)?))
+}
+
+fn copied(alloc: Global, items: &Pairs) -> Result<Pairs, AllocError>
+    ensures { IfOk result (λ copy. items_of copy ≡ items_of items.now) }
+{
+    match items {
+        None => Ok(None),
+        Some(list) => Ok(boxed(alloc, copies(alloc, list.as_slice())?)?),
+    }
+}
+
+// The first tag has room for itself alone, since most objects that are tagged have few.
+fn put_boxed(alloc: Global, items: &mut Pairs, key: Text, value: Text) -> Result<(), AllocError>
+    requires { T (are_tags (items_of items.old)) }
+    ensures ok { OnOk result (items_of items.new ≡ with_tag (items_of items.old) key value) }
+    ensures err { OnErr result (items_of items.new ≡ items_of items.old) }
+{
+    match items {
+        None => *items = boxed(alloc, one_tag(alloc, key, value)?)?,
+        Some(list) => put_item(list.as_mut(), key, value)?,
+    }
+    Ok(())
+}
+
+fn one_tag(alloc: Global, key: Text, value: Text) -> Result<Vec<(Text, Text)>, AllocError>
+    ensures { IfOk result (λ list. list.items ≡ (key, value) ∷ []) }
+{
+    let mut list = Vec::with_capacity(alloc, 1)?;
+    list.push((key, value))?;
+    Ok(list)
+}
+
+fn take_boxed(items: &mut Pairs, key: &[u8]) -> bool
+    requires { T (are_tags (items_of items.old)) }
+    ensures value { result ≡ has_tag (items_of items.old) key.now }
+    ensures tags { items_of items.new ≡ without_tag (items_of items.old) key.now }
+{
+    let Some(list) = items else {
+        return false;
+    };
+    let was_there = take_item(list.as_mut(), key);
+    free_if_empty(items);
+    was_there
+}
+
+// Gives the blocks back where no tag is left.
+fn free_if_empty(items: &mut Pairs)
+    ensures { items_of items.new ≡ items_of items.old }
+{
+    if items_of(items).is_empty() {
+        *items = None;
     }
 }
 

@@ -3,5 +3,6 @@ pub mod Parts
 pub mod Same
 pub mod Table
 pub mod TableCode
+pub mod TableKept
 pub mod Told
 pub mod ToldCode

@@ -1,5 +1,5 @@
 -- What a download tells of the objects.
-use Rattle.std.specs.Prelude.{◌≡◌, ◌≤◌, ◌++◌, ℕ, Bool, true, false, if◌then◌else◌, is_some, List, [], ◌∷◌, Option, Some, None}
+use Rattle.std.specs.Prelude.{◌≡◌, ◌≤◌, ◌++◌, ℕ, Bool, true, false, if◌then◌else◌, is_some, List, [], ◌∷◌, map, Option, Some, None}
 use Rattle.std.specs.List.{AllByRecursion}
 use Rattle.std.specs.FinMap as fin
 use Rattle.osm_base.specs.Rank.{rank_cmp}
@@ -7,7 +7,7 @@ use Rattle.osm_base.specs.Content.{refs_of, kind_of_content}
 use Rattle.osm_base.specs.declared.key.Key.{Key}
 use Rattle.osm_base.specs.declared.content.Content.{Content}
 use Rattle.osm_base.specs.declared.meta.Meta.{Meta}
-use Rattle.osm_table.specs.Table.{IsPositive}
+use Rattle.osm_table.specs.Table.{TableValue, IsPositive}
 use Rattle.osm_table.specs.declared.entry.Base.TheVariants as base
 use Rattle.osm_table.specs.declared.entry.Entry.{Entry}
 use Rattle.osm_table.specs.declared.entry.Entry.TheVariants.{Incomplete, Known}
@@ -34,6 +34,10 @@ told_of Incomplete = Mentioned
 told_of (Known base.New mine conflict) = Mentioned
 told_of (Known (base.Live version content meta) mine conflict) = Live version content meta
 told_of (Known (base.Gone version meta) mine conflict) = Gone version meta
+
+-- the table of which no more is known than what is told
+abbrev pub table_told : ToldEntries → ℕ → TableValue
+table_told told next = record { entries = fin.from_entries (map (λ e. (e.0, entry_told e.1)) (fin.entries told)); next = next }
 
 -- what is told of a key, none where it isn't there
 abbrev pub told_at : ToldValue → Key → Option Told

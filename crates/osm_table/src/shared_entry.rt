@@ -64,6 +64,14 @@ impl Model for SharedEntry {
     ghost view = { λ e. entry_kept e.shared.value };
 }
 
+impl Clone for SharedEntry {
+    ghost is_clone = { λ entry copy. copy ≡ entry };
+
+    fn clone(&self) -> Result<SharedEntry, AllocError> {
+        self.copy()
+    }
+}
+
 impl SharedEntry {
     /// An entry to share. It takes one block, and a second one where the object is changed or in conflict.
     ///

@@ -1,33 +1,46 @@
 //! The entries of all objects.
-ghost use Rattle.std.specs.Prelude.{◌≡◌, OnOk, OnErr, None, IfOk, IsSome, IsOk};
+ghost use Rattle.std.specs.Prelude.{◌≡◌, OnErr, IfOk, IfErr};
 ghost use Rattle.std.specs.Option.{option_copied, option_map};
 ghost use Rattle.std.specs.FinMap as map;
-ghost use Rattle.osm_table.specs.Table.{entry_of, with_entry, without_entry, keys_by_rank};
+ghost use Rattle.osm_table.specs.Table.{entry_of, keys_by_rank};
+ghost use Rattle.osm_table.specs.TableKept.{table_of};
+ghost use Rattle.osm_table.specs.Told.{table_told};
 
-use crate::key_map::{get_near, ordered};
+use crate::own_table::OwnTable;
+use crate::shared::Shared;
 use crate::shared_entry::SharedEntry;
-use indexmap::IndexMap;
+use crate::told_map::ToldMap;
 use osm_base::{Key, Keys};
 use std::alloc::{AllocError, Global};
 use std::marker::Model;
+use std::mem::replace;
 
 /// The entries of all objects, and the number of the next new one: its id is minus that number.
+///
+/// Where no more is known than what a download tells it shares the told map with the job that brought it. Who changes a
+/// table takes it as its own.
 #[derive(Drop)]
 pub struct Table {
-    entries: IndexMap<Key, SharedEntry>,
-    next: u64,
+    entries: Entries,
+}
+
+/// Where the entries are.
+#[derive(Drop)]
+enum Entries {
+    Own(OwnTable),
+    Told { told: Shared<ToldMap>, next: u64 },
 }
 
 impl Model for Table {
-    ghost use Rattle.std.specs.FinMap as map;
     ghost use Rattle.osm_table.specs.Table.{TableValue};
     ghost use Rattle.osm_table.specs.TableCode.{table_code};
+    ghost use Rattle.osm_table.specs.TableKept.{table_of};
 
     ghost Value = { TableValue };
 
     ghost coded = { table_code };
 
-    ghost view = { λ t. record { entries = map.from_entries t.entries.entries; next = t.next } };
+    ghost view = { λ t. table_of t.entries };
 }
 
 impl Table {
@@ -35,9 +48,43 @@ impl Table {
     pub fn new(alloc: Global) -> Self
         ensures { result ≡ record { entries = map.empty; next = 1 } }
     {
+        Table::own(OwnTable::new(alloc))
+    }
+
+    /// The same table.
+    pub fn own(table: OwnTable) -> Self
+        ensures { result ≡ table }
+    {
         Table {
-            entries: IndexMap::new(alloc),
-            next: 1,
+            entries: Entries::Own(table),
+        }
+    }
+
+    /// The table of which no more is known than what is told. It shares the told map, so it costs nothing.
+    pub fn told(told: Shared<ToldMap>, next: u64) -> Self
+        ensures { result ≡ table_told told.told next }
+    {
+        Table {
+            entries: Entries::Told { told, next },
+        }
+    }
+
+    /// Takes the table as one that shares its entries with nobody, and leaves one without entries. It costs nothing where no
+    /// one else has the told map any more, and else a copy of that map.
+    ///
+    /// # Errors
+    /// Answers want of memory, and then nothing has changed.
+    pub fn take(&mut self) -> Result<OwnTable, AllocError>
+        ensures ok { IfOk result (λ table. table ≡ self.old) }
+        ensures err { OnErr result (self.new ≡ self.old) }
+    {
+        let nothing = Entries::Own(OwnTable::new(self.alloc()));
+        match owned(replace(&mut self.entries, nothing)) {
+            Ok(table) => Ok(table),
+            Err(entries) => {
+                self.entries = entries;
+                Err(AllocError)
+            }
         }
     }
 
@@ -45,26 +92,28 @@ impl Table {
     pub fn next(&self) -> u64
         ensures { result ≡ self.now.next }
     {
-        self.next
-    }
-
-    /// Sets the number of the next new object.
-    pub fn set_next(&mut self, next: u64)
-        ensures { self.new ≡ record self.old { next = next } }
-    {
-        self.next = next;
+        match &self.entries {
+            Entries::Own(table) => table.next(),
+            Entries::Told { next, .. } => *next,
+        }
     }
 
     /// The allocator that it takes its memory from.
     pub fn alloc(&self) -> Global {
-        *self.entries.allocator()
+        match &self.entries {
+            Entries::Own(table) => table.alloc(),
+            Entries::Told { told, .. } => told.value().alloc(),
+        }
     }
 
     /// The entry of a key.
     pub fn get(&self, key: Key) -> Option<&SharedEntry>
         ensures { option_copied result ≡ entry_of self.now key }
     {
-        self.entries.get(&key)
+        match &self.entries {
+            Entries::Own(table) => table.get(key),
+            Entries::Told { told, .. } => told.value().get(key),
+        }
     }
 
     /// As `get`, with a place to look at first, and with the place behind the one where the key
@@ -73,46 +122,20 @@ impl Table {
     pub fn get_near(&self, near: usize, key: Key) -> Option<(usize, &SharedEntry)>
         ensures { option_map (λ found. found.1.now) result ≡ entry_of self.now key }
     {
-        get_near(&self.entries, near, key)
-    }
-
-    /// Makes room for so many keys that aren't there yet. Where there is none it makes room for as
-    /// many as there are at least, as `set` does, so that many calls cost no more than the keys.
-    ///
-    /// # Errors
-    /// Answers want of memory.
-    pub fn reserve(&mut self, keys: usize) -> Result<(), AllocError>
-        ensures { self.new ≡ self.old }
-    {
-        self.entries.reserve(keys)
-    }
-
-    /// Sets the entry of a key, and drops the one that it had.
-    ///
-    /// # Errors
-    /// Answers want of memory, and then nothing has changed. It takes none where the key is there.
-    pub fn set(&mut self, key: Key, entry: SharedEntry) -> Result<(), AllocError>
-        ensures ok { OnOk result (self.new ≡ with_entry self.old key entry) }
-        ensures err { OnErr result (self.new ≡ self.old) }
-        ensures present { IsSome (entry_of self.old key) → IsOk result }
-    {
-        self.entries.insert(key, entry)?;
-        Ok(())
-    }
-
-    /// Takes out the entry of a key.
-    pub fn remove(&mut self, key: Key) -> Option<SharedEntry>
-        ensures value { result ≡ entry_of self.old key }
-        ensures removed { self.new ≡ without_entry self.old key }
-    {
-        self.entries.swap_remove(&key)
+        match &self.entries {
+            Entries::Own(table) => table.get_near(near, key),
+            Entries::Told { told, .. } => told.value().get_near(near, key),
+        }
     }
 
     /// The number of entries.
     pub fn len(&self) -> usize
         ensures { result ≡ map.len self.now.entries }
     {
-        self.entries.len()
+        match &self.entries {
+            Entries::Own(table) => table.len(),
+            Entries::Told { told, .. } => told.value().len(),
+        }
     }
 
     /// Its keys by rank. It sorts them once, so n keys cost n log n steps, and n where they were set by
@@ -123,6 +146,29 @@ impl Table {
     pub fn ordered(&self) -> Result<Keys, AllocError>
         ensures { IfOk result (λ keys. keys ≡ keys_by_rank self.now) }
     {
-        ordered(&self.entries)
+        match &self.entries {
+            Entries::Own(table) => table.ordered(),
+            Entries::Told { told, .. } => told.value().ordered(),
+        }
+    }
+}
+
+/// The entries as a table that shares them with nobody.
+///
+/// # Errors
+/// No memory was left for a copy of a told map that others have too.
+fn owned(entries: Entries) -> Result<OwnTable, Entries>
+    ensures ok { IfOk result (λ table. table ≡ table_of entries) }
+    ensures err { IfErr result (λ same. table_of same ≡ table_of entries) }
+{
+    match entries {
+        Entries::Own(table) => Ok(table),
+        Entries::Told { told, next } => match told.into_value() {
+            Ok(told) => Ok(told.into_table(next)),
+            Err(told) => match told.value().to_table(next) {
+                Ok(table) => Ok(table),
+                Err(_) => Err(Entries::Told { told, next }),
+            },
+        },
     }
 }

@@ -6,10 +6,11 @@ ghost use Rattle.std.specs.FinMap as map;
 ghost use Rattle.osm_base.specs.KeyEq.{eq};
 ghost use Rattle.osm_base.specs.Rank.{is_key};
 ghost use Rattle.osm_table.specs.Table.{IsPositive};
-ghost use Rattle.osm_table.specs.Told.{entry_told, told_of, told_at, with_told, with_mention, is_told_there, IsClosed, IsTold, IsToldMap};
+ghost use Rattle.osm_table.specs.Told.{entry_told, told_of, told_at, with_told, with_mention, is_told_there, table_told, IsClosed, IsTold, IsToldMap};
 
 use crate::entry::Base;
 use crate::key_map::{get_near, ordered};
+use crate::own_table::OwnTable;
 use crate::shared_entry::{EntryParts, SharedEntry};
 use crate::told::Told;
 use indexmap::IndexMap;
@@ -30,6 +31,8 @@ pub struct ToldMap {
     all_there: bool,
     /// Each reference of an object that is told of as living is known to be told of as there.
     closed: bool,
+    /// The place behind the key that was mentioned last.
+    near: usize,
 }
 
 impl Model for ToldMap {
@@ -63,6 +66,7 @@ impl ToldMap {
             mentioned: SharedEntry::told(alloc, Told::Mentioned)?,
             all_there: true,
             closed: false,
+            near: 0,
         })
     }
 
@@ -80,7 +84,8 @@ impl ToldMap {
     }
 
     /// Mentions a key, where nothing is told of it yet, and answers whether it is told of as there.
-    /// One look-up, and one more for a new key.
+    /// One look-up, and one more for a new key; none for a key that stands behind the one that was
+    /// mentioned before, as a way's next node often does.
     ///
     /// # Errors
     /// Answers want of memory, and then nothing has changed.
@@ -90,8 +95,12 @@ impl ToldMap {
         ensures there { IfOk result (λ there. there ≡ is_told_there (told_at self.new key)) }
         ensures err { OnErr result (self.new ≡ self.old) }
     {
-        match self.get(key) {
-            Some(entry) => Ok(self.all_there || is_there(entry)),
+        match self.get_near(self.near, key) {
+            Some((behind, entry)) => {
+                let there = self.all_there || is_there(entry);
+                self.near = behind;
+                Ok(there)
+            }
             None => {
                 let entry = self.mentioned.copy()?;
                 self.set(key, entry)?;
@@ -186,6 +195,28 @@ impl ToldMap {
         ensures { IfOk result (λ keys. keys ≡ map.keys self.now.told) }
     {
         ordered(&self.entries)
+    }
+
+    /// The table of which no more is known than what is told. Its entries are the map's own, so it costs nothing.
+    pub fn into_table(self, next: u64) -> OwnTable
+        ensures { result ≡ table_told self.told next }
+    {
+        OwnTable::with_entries(self.entries, next)
+    }
+
+    /// As `into_table`, where the map stays. It copies the keys and the places of their entries.
+    ///
+    /// # Errors
+    /// Answers want of memory.
+    pub fn to_table(&self, next: u64) -> Result<OwnTable, AllocError>
+        ensures { IfOk result (λ table. table ≡ table_told self.now.told next) }
+    {
+        Ok(OwnTable::with_entries(self.entries.clone()?, next))
+    }
+
+    /// The allocator that it takes its memory from.
+    pub fn alloc(&self) -> Global {
+        *self.entries.allocator()
     }
 
     /// What every told map keeps. Costs nothing.

@@ -113,7 +113,7 @@ fn sent_content(draft: &Draft, ds: &DataSet, key: Key) -> Result<Content, AllocE
         Some(content) => Ok(content),
         None => Ok(Content::Relation {
             tags: Tags::new(alloc),
-            members: Members::new(alloc),
+            members: Members::new(alloc)?,
         }),
     }
 }

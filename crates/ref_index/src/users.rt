@@ -2,8 +2,9 @@
 //!
 //! A place is found by halving, so a list of u keys costs about log u comparisons for each key put
 //! in or taken out, and one move of the keys behind it. Most keys have one user, who takes no block,
-//! and most others have two, so a list begins with room for these.
-ghost use Rattle.std.specs.Prelude.{◌≡◌, ◌≤◌, ◌<◌, ◌&&◌, [], length, not, IfOk, OnOk, OnErr, T, nat_lt, slice_index_or};
+//! and most others have two, who share one. Three or more stand in a list, which takes two blocks and
+//! begins with room for four.
+ghost use Rattle.std.specs.Prelude.{◌≡◌, ◌≤◌, ◌<◌, ◌&&◌, [], ◌∷◌, length, not, IfOk, OnOk, OnErr, T, nat_lt, slice_index_or};
 ghost use Rattle.std.specs.List.{insert, remove};
 ghost use Rattle.std.specs.Ordering.{is_lt};
 ghost use Rattle.osm_base.specs.Rank.{rank_cmp, is_key};
@@ -22,11 +23,13 @@ pub struct Users {
     items: Items,
 }
 
-/// No key or one, without a block, or a list. The list's block keeps this at 24 bytes.
+/// No key or one, without a block, or two in a block, or a list. That these are behind a pointer
+/// keeps this at 24 bytes. A list that loses keys stays one, since to take a key needs no memory.
 #[derive(Drop)]
 enum Items {
     Nobody,
     One(Key),
+    Two(Box<[Key; 2]>),
     List(Box<Vec<Key>>),
 }
 
@@ -90,6 +93,7 @@ fn listed(items: &Items) -> &[Key]
     match items {
         Items::Nobody => &[],
         Items::One(key) => slice::from_ref(key),
+        Items::Two(keys) => keys.as_slice(),
         Items::List(keys) => keys.as_slice(),
     }
 }
@@ -124,14 +128,26 @@ fn insert_at(alloc: Global, items: &mut Items, at: usize, key: Key) -> Result<()
     match items {
         Items::Nobody => *items = Items::One(key),
         Items::One(first) => {
-            let mut keys = Vec::with_capacity(alloc, 2)?;
-            keys.push(*first)?;
+            let keys = two_keys(*first, at, key);
+            *items = Items::Two(Box::new(alloc, keys)?);
+        }
+        Items::Two(two) => {
+            let mut keys = Vec::with_capacity(alloc, 4)?;
+            keys.extend_from_slice(two.as_slice())?;
             keys.insert(at, key)?;
             *items = Items::List(Box::new(alloc, keys)?);
         }
         Items::List(keys) => keys.insert(at, key)?,
     }
     Ok(())
+}
+
+/// A key with another at its place.
+fn two_keys(first: Key, at: usize, key: Key) -> [Key; 2]
+    requires { at ≤ 1 }
+    ensures { result ≡ insert (first ∷ []) at key }
+{
+    if at == 0 { [key, first] } else { [first, key] }
 }
 
 fn take_item(items: &mut Items, key: Key)
@@ -151,10 +167,19 @@ fn remove_at(items: &mut Items, at: usize)
     match items {
         Items::Nobody => {}
         Items::One(_) => *items = Items::Nobody,
+        Items::Two(keys) => *items = Items::One(other_key(keys, at)),
         Items::List(keys) => {
             keys.remove(at);
         }
     }
+}
+
+/// Which of two keys stays where the one at the index goes.
+fn other_key(keys: &[Key; 2], at: usize) -> Key
+    requires { at < length keys.now }
+    ensures { remove keys.now at ≡ result ∷ [] }
+{
+    if at == 0 { keys[1] } else { keys[0] }
 }
 
 /// Where the key stands in keys that rise, or would stand.

@@ -320,6 +320,6 @@ pub fn replace_member(
         Content::Relation { tags, members } => {
             Members::from_vec(replaced_members(ds, way, pieces, tags, members.as_slice())?)
         }
-        _ => Ok(Members::new(ds.alloc())),
+        _ => Members::new(ds.alloc()),
     }
 }

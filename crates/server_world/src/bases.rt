@@ -180,7 +180,7 @@ fn put_mention(
     if !is_open(ds, key) || objects.get(key).is_some() {
         return Ok(());
     }
-    objects.put(key, empty_object(alloc, key.kind))
+    objects.put(key, empty_object(alloc, key.kind)?)
 }
 
 /// Whether a positive key isn't known.
@@ -199,26 +199,27 @@ fn is_known(entry: Option<&SharedEntry>) -> bool
     }
 }
 
-fn empty_object(alloc: Global, kind: Kind) -> WorldEntry
-    ensures { result ≡ empty_object kind }
+fn empty_object(alloc: Global, kind: Kind) -> Result<WorldEntry, AllocError>
+    ensures { IfOk result (λ entry. entry ≡ empty_object kind) }
 {
-    WorldEntry::new(1, Some(empty_content(alloc, kind)))
+    let content = empty_content(alloc, kind)?;
+    Ok(WorldEntry::new(1, Some(content)))
 }
 
-fn empty_content(alloc: Global, kind: Kind) -> Content
-    ensures { result ≡ empty_content kind }
+fn empty_content(alloc: Global, kind: Kind) -> Result<Content, AllocError>
+    ensures { IfOk result (λ content. content ≡ empty_content kind) }
 {
     let tags = Tags::new(alloc);
     match kind {
-        Kind::Node => Content::Node { tags, at: origin() },
-        Kind::Way => Content::Way {
+        Kind::Node => Ok(Content::Node { tags, at: origin() }),
+        Kind::Way => Ok(Content::Way {
             tags,
-            refs: Refs::new(alloc),
-        },
-        Kind::Relation => Content::Relation {
+            refs: Refs::new(alloc)?,
+        }),
+        Kind::Relation => Ok(Content::Relation {
             tags,
-            members: Members::new(alloc),
-        },
+            members: Members::new(alloc)?,
+        }),
     }
 }
 

@@ -2,7 +2,7 @@
 --
 -- For example with n1 and n3 at one place, n2 at another and w5 Nn1,n2,n2,n3: n3 is doubled, of n1; w5 is repeated, since
 -- n2 stands twice side by side; and w5 is an open ring, since it ends where it begins, at another node.
-use Rattle.std.specs.Prelude.{ℤ, ◌&&◌, ◌||◌, Bool, false, not, nat_le, is_some, List, [], ◌∷◌, length, Option, Some, None}
+use Rattle.std.specs.Prelude.{ℤ, ◌&&◌, ◌||◌, Bool, false, not, nat_le, List, [], ◌∷◌, length, Option, Some, None}
 use Rattle.std.specs.List.{find}
 use Rattle.std.specs.Ordering.{int_eq, is_lt}
 use Rattle.osm_base.specs.Content.{node}
@@ -38,10 +38,6 @@ are_together t j k = same_place (place_at t j) (place_at t k)
 -- the least living node of lower rank at the place of a living node
 abbrev pub doubled_of : TableValue → Key → Option Key
 doubled_of t k = find (λ j. is_lt (rank_cmp j k) && are_together t j k) (keys_by_rank t)
-
--- A living node is doubled where there is one.
-abbrev pub is_doubled : TableValue → Key → Bool
-is_doubled t k = is_some (doubled_of t k)
 
 -- whether two equal references stand side by side
 abbrev pub has_repeat : List ℤ → Bool

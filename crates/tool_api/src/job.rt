@@ -5,7 +5,7 @@ ghost use Rattle.tool_api.specs.Plain.{verb_of};
 use crate::new_objects::NewObjects;
 use crate::verb::Verb;
 use osm_base::{Coord, Key, Keys, Members, Refs, Tags};
-use osm_table::ToldMap;
+use osm_table::{Shared, ToldMap};
 use resolution::Choice;
 
 /// One command with its arguments. What it does is `plain` in specs/.
@@ -39,8 +39,8 @@ pub enum Job {
     Combine { ways: Keys },
     /// A way's nodes are turned round.
     Reverse { way: Key },
-    /// What a download tells is taken in.
-    Merge { told: ToldMap },
+    /// What a download tells is taken in. The told map is shared, since a first one becomes the table.
+    Merge { told: Shared<ToldMap> },
     /// Objects that no server knows yet, with a file's own ids, are added together.
     Import { objects: NewObjects },
     /// An object in conflict is settled by a choice.

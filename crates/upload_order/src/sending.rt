@@ -69,13 +69,13 @@ fn later(version: u32, cleared: bool) -> u32
     if cleared { version + 1 } else { version }
 }
 
-fn empty_relation(alloc: Global) -> Content
-    ensures { result ≡ empty_relation }
+fn empty_relation(alloc: Global) -> Result<Content, AllocError>
+    ensures { IfOk result (λ content. content ≡ empty_relation) }
 {
-    Content::Relation {
+    Ok(Content::Relation {
         tags: Tags::new(alloc),
-        members: Members::new(alloc),
-    }
+        members: Members::new(alloc)?,
+    })
 }
 
 fn version_of(ds: &DataSet, key: Key) -> u32
@@ -86,19 +86,19 @@ fn version_of(ds: &DataSet, key: Key) -> u32
     version_at(ds.entry(key))
 }
 
-fn down_of(alloc: Global, ds: &DataSet, down: Down) -> Change
-    ensures { result ≡ down_of ds.now down }
+fn down_of(alloc: Global, ds: &DataSet, down: Down) -> Result<Change, AllocError>
+    ensures { IfOk result (λ change. change ≡ down_of ds.now down) }
 {
     match down {
-        Down::Clear(key) => Change::Modify {
+        Down::Clear(key) => Ok(Change::Modify {
             key,
             version: version_of(ds, key),
-            content: empty_relation(alloc),
-        },
-        Down::Remove(key, cleared) => Change::Delete {
+            content: empty_relation(alloc)?,
+        }),
+        Down::Remove(key, cleared) => Ok(Change::Delete {
             key,
             version: later(version_of(ds, key), cleared),
-        },
+        }),
     }
 }
 
@@ -120,7 +120,7 @@ fn push_downs(
     ensures { OnOk result (changes.new ≡ changes.old ++ map (down_of ds.now) downs.now) }
 {
     for down in downs {
-        changes.push(down_of(alloc, ds, *down))?;
+        changes.push(down_of(alloc, ds, *down)?)?;
     }
     Ok(())
 }
@@ -134,7 +134,7 @@ fn push_removes(
     ensures { OnOk result (changes.new ≡ changes.old ++ map (λ k. down_of ds.now (Remove k false)) keys.now) }
 {
     for key in keys {
-        changes.push(down_of(alloc, ds, Down::Remove(*key, false)))?;
+        changes.push(down_of(alloc, ds, Down::Remove(*key, false))?)?;
     }
     Ok(())
 }

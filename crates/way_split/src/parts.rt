@@ -58,7 +58,7 @@ pub fn new_keys(alloc: Global, way: Key, parts: &[(Key, Refs)]) -> Result<Keys, 
 /// The references that stay in the way.
 ///
 /// # Errors
-/// The count of those who share the references is full.
+/// No memory was left.
 pub fn kept_refs(alloc: Global, way: Key, parts: &[(Key, Refs)]) -> Result<Refs, AllocError>
     ensures { IfOk result (λ refs. refs ≡ kept_refs way parts.now) }
 {
@@ -67,7 +67,7 @@ pub fn kept_refs(alloc: Global, way: Key, parts: &[(Key, Refs)]) -> Result<Refs,
             return part.1.copy();
         }
     }
-    Ok(Refs::new(alloc))
+    Refs::new(alloc)
 }
 
 fn or_zero(id: Option<&i64>) -> i64

@@ -28,7 +28,7 @@ fn ref_at(refs: &[i64], i: usize) -> i64
 fn one_ref(alloc: Global, id: i64) -> Result<Refs, AllocError>
     ensures { IfOk result (λ refs. refs ≡ id ∷ []) }
 {
-    let mut refs = Refs::new(alloc);
+    let mut refs = Refs::new(alloc)?;
     refs.push(id)?;
     Ok(refs)
 }

@@ -2,11 +2,12 @@ use Rattle.std.proofs.Common.{◌∙◌, ap, List}
 use Rattle.opl_file.specs.Objects.{objects_in}
 use Rattle.opl_file.proofs.Batches.{Batch}
 use Rattle.download.specs.Tell.{references}
+use Rattle.download.specs.TellCode.{keys_in}
 use Rattle.download.proofs.Closed.{closed_there}
 use Rattle.download.proofs.telling.tell_batches.Goals as goal
 
 pub close-requires : goal.close-requires
 close-requires c =
-    closed_there (objects_in c.args.batches.items) c.deref-3.result.now c.in_ok-told.told c.tell_all.new.told c.mention_all.new.told c.in_ok-mention_all.field-0
-    (c.deref-3.ensures.value ∙ c.in_ok-references.ensures ∙ ap (λ (bs : List Batch). references (objects_in bs)) c.deref.ensures.value)
-    c.in_ok-told.ensures c.in_ok-tell_all.ensures c.in_ok-mention_all.ensures.told c.in_ok-mention_all.ensures.there c.if-branch.true
+    closed_there (objects_in c.args.batches.items) (keys_in c.deref-3.result.now) c.in_ok-told.told c.tell_all.new.told c.mention_all.new.told c.in_ok-mention_all.field-0
+    (ap keys_in c.deref-3.ensures.value ∙ c.in_ok-references.ensures ∙ ap (λ (bs : List Batch). references (objects_in bs)) c.deref.ensures.value)
+    c.in_ok-told.ensures c.in_ok-tell_all.ensures c.in_ok-mention_all.ensures c.if-branch.true

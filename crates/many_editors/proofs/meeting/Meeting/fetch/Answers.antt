@@ -29,4 +29,4 @@ pub returns-in_ok-told-in-Some : goal.returns-in_ok-told-in-Some
 returns-in_ok-told-in-Some g c =
     fetch_comes _ _ _ c.args.self.now c.args.editor c.index_mut-in-Some.result.now (there_at _ _ c.args.self.now c.args.editor c.index_mut-in-Some.result.now c.requires.asked.there c.index_mut-in-Some.ensures.value)
     _ c.run.result c.run.new.self c.args.limit c.args.back c.args.area (option_copied c.args.wanted) c.in-Some.objects c.in_ok-told-in-Some.told refl refl refl c.requires.valid.histories
-    (sym c.in-Some.is ∙ told_back c.args.self.now.world.entries c.args.self.now.log.items c.as_slice.result.now c.args.back c.in_ok-objects_before.field-0 c.as_slice.ensures.value c.in_ok-objects_before.ensures) c.in_ok-told-in-Some.ensures c.run.ensures
+    (sym c.in-Some.is ∙ told_back c.args.self.now.world.entries c.args.self.now.log.items c.as_slice.result.now c.args.back c.in_ok-objects_before.field-0 c.as_slice.ensures.value c.in_ok-objects_before.ensures) (c.in_ok-told-in-Some.ensures ∙ c.in_ok-filter-in-Some.ensures) c.run.ensures

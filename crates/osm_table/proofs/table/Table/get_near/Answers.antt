@@ -1,8 +1,14 @@
-use Rattle.std.proofs.Common.{ap, ◌∙◌}
+use Rattle.std.proofs.Common.{ap, sym, ◌∙◌}
+use Rattle.std.specs.Option.{option_map}
 use Rattle.osm_table.specs.Table.{TableValue, entry_of}
-use Rattle.osm_base.proofs.MapViews.{get_view}
-use Rattle.osm_base.specs.RankLaws.{rank_total, rank_exact, rank_ties}
+use Rattle.osm_table.specs.TableKept.{table_of}
+use Rattle.osm_table.specs.Told.{ToldValue, told_at, entry_told}
+use Rattle.osm_table.proofs.TableTold.{table_told_at}
 use Rattle.osm_table.proofs.table.Table.get_near.Goals as goal
 
-pub returns : goal.returns
-returns c = c.get_near.ensures ∙ get_view rank_total rank_exact rank_ties c.self.inside.entries.entries c.args.key ∙ ap (λ (t : TableValue). entry_of t c.args.key) c.self.view_is
+pub returns-in-Told : goal.returns-in-Told
+returns-in-Told c =
+    c.get_near-in-Told.ensures
+    ∙ ap (λ (m : ToldValue). option_map entry_told (told_at m c.args.key)) c.value.ensures
+    ∙ sym (table_told_at c.in-Told.told.told c.in-Told.next c.args.key)
+    ∙ ap (λ (t : TableValue). entry_of t c.args.key) (ap table_of (sym c.in-Told.is) ∙ c.self.view_is)

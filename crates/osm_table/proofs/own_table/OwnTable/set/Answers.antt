@@ -2,7 +2,7 @@ use Rattle.std.proofs.Common.{sym, ap, ◌∙◌, ◌≡◌, subst, IsSome, None
 use Rattle.osm_table.specs.Table.{TableValue, entry_of, with_entry}
 use Rattle.osm_base.proofs.MapViews.{get_view, inserted}
 use Rattle.osm_base.specs.RankLaws.{rank_total, rank_exact, rank_ties}
-use Rattle.osm_table.proofs.table.Table.set.Goals as goal
+use Rattle.osm_table.proofs.own_table.OwnTable.set.Goals as goal
 
 pub returns-clause-ok : goal.returns-clause-ok
 returns-clause-ok c =

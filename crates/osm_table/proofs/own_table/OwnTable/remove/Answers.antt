@@ -2,7 +2,7 @@ use Rattle.std.proofs.Common.{ap, ◌∙◌}
 use Rattle.osm_table.specs.Table.{TableValue, entry_of, without_entry}
 use Rattle.osm_base.proofs.MapViews.{get_view, removed}
 use Rattle.osm_base.specs.RankLaws.{rank_total, rank_exact, rank_ties}
-use Rattle.osm_table.proofs.table.Table.remove.Goals as goal
+use Rattle.osm_table.proofs.own_table.OwnTable.remove.Goals as goal
 
 pub returns-clause-value : goal.returns-clause-value
 returns-clause-value c = c.swap_remove.ensures.value ∙ get_view rank_total rank_exact rank_ties c.self.inside.entries.entries c.args.key ∙ ap (λ (t : TableValue). entry_of t c.args.key) c.self.view_is

@@ -1,7 +1,7 @@
 use Rattle.std.proofs.Common.{◌∙◌, sym}
 use Rattle.dataset.proofs.SideLaws.{writes_there, led_whole, keys_undone}
 use Rattle.dataset.proofs.LeadLaws.{lead_gone, lead_exact, exact_as_it_was}
-use Rattle.dataset.proofs.dataset.lead.Goals as goal
+use Rattle.dataset.proofs.dataset.lead_own.Goals as goal
 
 pub take_pairs-requires : goal.take_pairs-requires
 take_pairs-requires c = lead_gone c.args.table.now c.args.index.now c.add_pairs.new.index c.args.forth c.args.edits.now c.requires.order c.requires.stands c.requires.exact c.in_default.ensures.ok
