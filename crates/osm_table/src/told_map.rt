@@ -223,6 +223,7 @@ impl ToldMap {
     pub fn sound(&self)
         ensures told_map { IsToldMap self.now.told }
         ensures each { (key : Key) → list_any (is_key key) self.now.order ≡ is_some (told_at self.now key) }
+        ensures once { IsDistinct eq self.now.order }
     {
         let _ = &self.entries;
     }
