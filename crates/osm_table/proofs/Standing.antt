@@ -6,23 +6,14 @@ use Rattle.std.specs.List.{list_any}
 use Rattle.std.specs.Map.{keys_of}
 use Rattle.std.specs.Ordering.{is_lt}
 use Rattle.std.specs.FinMap as fin
-use Rattle.std.specs.FinMap.Entries.{below_all, is_some-find}
+use Rattle.std.specs.FinMap.Entries.{is_some-find}
 use Rattle.std.proofs.lemmas.List.{take_more, take_all}
 use Rattle.osm_base.specs.Rank.{rank_cmp, is_key}
 use Rattle.osm_base.specs.RankLaws.{rank_total}
-use Rattle.osm_base.specs.RisingKeys.{marked, rises}
+use Rattle.osm_base.specs.RisingKeys.{rises}
 use Rattle.osm_base.specs.declared.key.Key.{Key}
-use Rattle.osm_base.proofs.ByRank.{rises_keys}
+use Rattle.osm_base.proofs.ByRank.{rises_keys, rises_on}
 use Rattle.osm_base.proofs.RisingKeys.{same_keys}
-use Rattle.osm_base.proofs.Tests.{both_T, first_T, second_T, less_from_T}
-
-below_on : (i j k : Key) (ks : List Key) → T (below_all rank_cmp i (marked (ks ++ j ∷ []))) → T (is_lt (rank_cmp j k)) → T (below_all rank_cmp i (marked ((ks ++ j ∷ []) ++ k ∷ [])))
-below_on i j k [] h l = both_T _ _ (first_T _ _ h) (both_T _ _ (passes _ (ap is_lt (rank_total.trans i j k (less_from_T _ (first_T _ _ h)) (less_from_T _ l)))) tt)
-below_on i j k (x ∷ ks) h l = both_T _ _ (first_T _ _ h) (below_on i j k ks (second_T _ _ h) l)
-
-rises_on : (ks : List Key) (j k : Key) → T (rises (ks ++ j ∷ [])) → T (is_lt (rank_cmp j k)) → T (rises ((ks ++ j ∷ []) ++ k ∷ []))
-rises_on [] j k h l = both_T _ _ (both_T _ _ l tt) tt
-rises_on (i ∷ ks) j k h l = both_T _ _ (below_on i j k ks (first_T _ _ h) l) (rises_on ks j k (second_T _ _ h) l)
 
 -- one key rises
 pub one_rises : (ks : List Key) → T (rises (take 1 ks))
