@@ -20,8 +20,8 @@ use crate::edit::Edit;
 use crate::pairs::{add_pairs, index_of, take_pairs};
 use crate::patch::{Edits, Patch};
 use crate::writes::{drop_keys, put_keys, write_all, writes_of};
-use osm_base::{Key, Keys};
-use osm_table::{OwnTable, Shared, SharedEntry, Table, ToldMap};
+use osm_base::Key;
+use osm_table::{Ordered, OwnTable, Shared, SharedEntry, Table, ToldMap};
 use ref_index::RefIndex;
 use std::alloc::{AllocError, Global};
 use std::marker::Model;
@@ -112,12 +112,12 @@ impl DataSet {
         self.table.len()
     }
 
-    /// All keys by rank. Sorts them once.
+    /// All keys by rank: lent where they stand so, after one pass, and else sorted once.
     ///
     /// # Errors
     ///
     /// Where no memory is found.
-    pub fn ordered(&self) -> Result<Keys, AllocError>
+    pub fn ordered(&self) -> Result<Ordered<'_>, AllocError>
         ensures { IfOk result (λ keys. keys ≡ keys_by_rank self.now) }
     {
         self.table.ordered()
