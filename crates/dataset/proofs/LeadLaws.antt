@@ -6,7 +6,7 @@ use Rattle.osm_table.specs.Table.{TableValue}
 use Rattle.ref_index.specs.declared.pair.Pair.{Pair}
 use Rattle.ref_index.specs.Bag.{Bag, count, times}
 use Rattle.dataset.specs.Edit.{Edit}
-use Rattle.dataset.specs.Patch.{PatchValue, IsPatch, StandsBefore, in_order, after_of, before_of}
+use Rattle.dataset.specs.Patch.{PatchValue, in_order, after_of, before_of}
 use Rattle.dataset.specs.Exact.{IsExact, pairs_by}
 use Rattle.dataset.specs.Sides.{side, led}
 use Rattle.dataset.proofs.Exactness.{gone_there, stays_exact, kept_refs}
@@ -33,22 +33,8 @@ pub exact_as_it_was : (t u : TableValue) (old new : Bag) → u ≡ t → ((p : P
 exact_as_it_was t u old new et same h of user = same (record { of = of; user = user }) ∙ subst (λ (v : TableValue). IsExact v old) (sym et) h of user
 
 -- the table of the exit, by the code's equations
-pub applied : (p : PatchValue) (es : List Edit) (after : ℕ) (t t₀ new : TableValue) → es ≡ p.edits → after ≡ p.next_after → t ≡ t₀ → new ≡ record { entries = (led (side true) es t).entries; next = after } → new ≡ after_of p t₀
-applied p es after t t₀ new ep ea et en = en ∙ (λ i. record { entries = (led (side true) (ep i) (et i)).entries; next = ea i })
+pub applied : (p : PatchValue) (after : ℕ) (t t₀ new : TableValue) → after ≡ p.next_after → t ≡ t₀ → new ≡ record { entries = (led (side true) p.edits t).entries; next = after } → new ≡ after_of p t₀
+applied p after t t₀ new ea et en = en ∙ (λ i. record { entries = (led (side true) p.edits (et i)).entries; next = ea i })
 
-pub reverted : (p : PatchValue) (es : List Edit) (before : ℕ) (t t₀ new : TableValue) → es ≡ p.edits → before ≡ p.next_before → t ≡ t₀ → new ≡ record { entries = (led (side false) es t).entries; next = before } → new ≡ before_of p t₀
-reverted p es before t t₀ new ep eb et en = en ∙ (λ i. record { entries = (led (side false) (ep i) (et i)).entries; next = eb i })
-
--- the other way about: the table that a patch leads to is the one that its edits lead to
-pub adopted : (p : PatchValue) (es : List Edit) (after : ℕ) (t t₀ new : TableValue) → es ≡ p.edits → after ≡ p.next_after → t ≡ t₀ → new ≡ after_of p t₀ → new ≡ record { entries = (led (side true) es t).entries; next = after }
-adopted p es after t t₀ new ep ea et is = is ∙ sym (λ i. record { entries = (led (side true) (ep i) (et i)).entries; next = ea i })
-
--- what is true of a patch is true of the edits that it lends
-pub rank_here : (p : PatchValue) (es : List Edit) → es ≡ p.edits → IsPatch p → T (in_order es)
-rank_here p es ep h = subst (λ (xs : List Edit). T (in_order xs)) (sym ep) h.by_rank
-
-pub stands_here : (p : PatchValue) (es : List Edit) (t t₀ : TableValue) → es ≡ p.edits → t ≡ t₀ → StandsBefore p t₀ → Stands (side false) es t
-stands_here p es t t₀ ep et h = subst (λ (x : TableValue). Stands (side false) es x) (sym et) (subst (λ (xs : List Edit). Stands (side false) xs t₀) (sym ep) h.entries)
-
-pub exact_still : (u new : TableValue) (n : ℕ) (bag : Bag) → new ≡ record { entries = u.entries; next = n } → IsExact u bag → IsExact new bag
-exact_still u new n bag e h = subst (λ (t : TableValue). IsExact t bag) (sym e) h
+pub reverted : (p : PatchValue) (before : ℕ) (t t₀ new : TableValue) → before ≡ p.next_before → t ≡ t₀ → new ≡ record { entries = (led (side false) p.edits t).entries; next = before } → new ≡ before_of p t₀
+reverted p before t t₀ new eb et en = en ∙ (λ i. record { entries = (led (side false) p.edits (et i)).entries; next = eb i })

@@ -8,6 +8,9 @@ pub mod LeadLaws
 pub mod Drafted
 pub mod Arrivals
 pub mod Differs
+mod Whole
+mod ToldIndex
+pub mod ToldPatch
 pub mod Kept
 pub mod Changes
 mod Examples

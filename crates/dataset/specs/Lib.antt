@@ -6,3 +6,4 @@ pub mod Draft
 pub mod Arrivals
 pub mod Sound
 pub mod Diff
+pub mod PatchKept

@@ -5,23 +5,23 @@ ghost use Rattle.std.specs.Option.{option_copied, option_map};
 ghost use Rattle.std.specs.FinMap as fin;
 ghost use Rattle.osm_base.specs.RisingKeys.{is_in};
 ghost use Rattle.osm_table.specs.Table.{entry_of, keys_by_rank, users};
-ghost use Rattle.osm_table.specs.Told.{table_told};
 ghost use Rattle.dataset.specs.Sound.{IsSound};
 ghost use Rattle.dataset.specs.Patch.{IsDiff, in_order, StandsBefore, StandsAfter, after_of, before_of};
 ghost use Rattle.dataset.specs.Diff.{diff};
 ghost use Rattle.dataset.specs.Draft.{drafted};
 ghost use Rattle.dataset.specs.Arrivals.{arrivals};
 ghost use Rattle.dataset.specs.Exact.{IsExact};
+ghost use Rattle.dataset.specs.PatchKept.{edits_told};
 ghost use Rattle.dataset.specs.Sides.{side, led};
 
-use crate::difference::{edits_of_told, edits_over};
+use crate::difference::{edits_of_told, edits_over, told_edits};
 use crate::draft::Draft;
 use crate::edit::Edit;
-use crate::pairs::{add_pairs, take_pairs};
-use crate::patch::Patch;
+use crate::pairs::{add_pairs, index_of, take_pairs};
+use crate::patch::{Edits, Patch};
 use crate::writes::{drop_keys, put_keys, write_all, writes_of};
-use osm_base::{Key, Keys};
-use osm_table::{OwnTable, Shared, SharedEntry, Table, ToldMap};
+use osm_base::Key;
+use osm_table::{Ordered, OwnTable, Shared, SharedEntry, Table, ToldMap};
 use ref_index::RefIndex;
 use std::alloc::{AllocError, Global};
 use std::marker::Model;
@@ -112,12 +112,12 @@ impl DataSet {
         self.table.len()
     }
 
-    /// All keys by rank. Sorts them once.
+    /// All keys by rank: lent where they stand so, after one pass, and else sorted once.
     ///
     /// # Errors
     ///
     /// Where no memory is found.
-    pub fn ordered(&self) -> Result<Keys, AllocError>
+    pub fn ordered(&self) -> Result<Ordered<'_>, AllocError>
         ensures { IfOk result (λ keys. keys ≡ keys_by_rank self.now) }
     {
         self.table.ordered()
@@ -148,31 +148,37 @@ impl DataSet {
     {
         let keys = draft.ordered()?;
         let edits = edits_over(*keys.allocator(), &self.table, draft, &keys)?;
-        Ok(Patch::new(edits, self.table.next(), draft.next()))
+        Ok(Patch::listed(edits, self.table.next(), draft.next()))
     }
 
     /// The difference between the table and the one where all that is told has come. Keys whose
-    /// entries stay are left out. Costs what is told and one sort of its keys, which is one pass where
-    /// they were told by rank; no look-up in what is told then, nor in the table where its keys came
-    /// by rank too. The entries are shared, none is copied.
+    /// entries stay are left out. Where the table has no objects it shares what is told and costs
+    /// nothing; else it costs what is told and one sort of its keys, which is one pass where they were
+    /// told by rank; no look-up in what is told then, nor in the table where its keys came by rank too.
+    /// The entries are shared, none is copied.
     ///
     /// # Errors
     ///
     /// Where no memory is found.
-    pub fn patch_of_told(&self, told: &ToldMap) -> Result<Patch, AllocError>
+    pub fn patch_of_told(&self, told: &Shared<ToldMap>) -> Result<Patch, AllocError>
         ensures value { IfOk result (λ patch. patch ≡ diff self.now (drafted (arrivals told.now.told self.now.next) self.now)) }
         ensures differs { IfOk result (λ patch. IsDiff self.now (drafted (arrivals told.now.told self.now.next) self.now) patch) }
     {
+        let number = self.table.next();
+        if self.table.len() == 0 {
+            return Ok(Patch::told(told.copy()?, number));
+        }
+        let told = told.value();
         let keys = told.ordered()?;
         let edits = edits_of_told(self.alloc(), &self.table, told, keys.as_slice())?;
-        let number = self.table.next();
-        Ok(Patch::new(edits, number, number))
+        Ok(Patch::listed(edits, number, number))
     }
 
     /// Leads the table on, from what the patch has before to what it has after. Costs the edited
     /// entries and their references; an edit that keeps the references, as one of tags alone, costs
-    /// the index nothing. The first that follows an `adopt` costs a copy of the told map, where
-    /// others have that still.
+    /// the index nothing. Where all that is told comes into a table without objects, the told map
+    /// becomes the table, so only references are walked. The patch that follows such a one costs a copy
+    /// of the told map's keys.
     ///
     /// # Errors
     ///
@@ -184,10 +190,9 @@ impl DataSet {
         ensures err { OnErr result (self.new ≡ self.old) }
     {
         lead(
-            patch.alloc(),
             &mut self.table,
             &mut self.index,
-            patch.edits(),
+            patch,
             true,
             patch.next_after(),
         )?;
@@ -195,7 +200,7 @@ impl DataSet {
     }
 
     /// Leads the table back, from what the patch has after to what it has before. Costs what
-    /// `apply` does.
+    /// `apply` does; where the table has all that is told and nothing else, it only gives them back.
     ///
     /// # Errors
     ///
@@ -207,41 +212,72 @@ impl DataSet {
         ensures err { OnErr result (self.new ≡ self.old) }
     {
         lead(
-            patch.alloc(),
             &mut self.table,
             &mut self.index,
-            patch.edits(),
+            patch,
             false,
             patch.next_before(),
         )?;
         Ok(())
     }
+}
 
-    /// As `apply`, where the patch leads to a table of which no more is known than what is told.
-    /// The told map becomes the table, so no entry is looked up or put. Costs the patch's references.
-    ///
-    /// # Errors
-    ///
-    /// Where no memory is found; then nothing changes.
-    pub fn adopt(&mut self, patch: &Patch, told: Shared<ToldMap>) -> Result<(), AllocError>
-        requires stands { StandsBefore patch.now self.old }
-        requires sound { IsSound (after_of patch.now self.old) }
-        requires told { after_of patch.now self.old ≡ table_told told.told patch.now.next_after }
-        ensures ok { OnOk result (self.new ≡ after_of patch.now self.old) }
-        ensures err { OnErr result (self.new ≡ self.old) }
-    {
-        let edits = patch.edits();
-        add_pairs(&mut self.index, edits, true)?;
-        take_pairs(&mut self.index, edits, false);
-        self.table = Table::told(told, patch.next_after());
-        Ok(())
+/// Leads the table by one side of a patch to the number of its next new object, or leaves all as it was. Costs what its edits
+/// cost.
+fn lead(
+    table: &mut Table,
+    index: &mut RefIndex,
+    patch: &Patch,
+    forth: bool,
+    next: u64,
+) -> Result<(), AllocError>
+    requires stands { AllByRecursion (λ e. entry_of table.old e.key ≡ side (not forth) e) patch.now.edits }
+    requires exact { IsExact table.old index.old }
+    ensures ok { OnOk result (table.new ≡ record { entries = (led (side forth) patch.now.edits table.old).entries; next = next }) }
+    ensures exact { IsExact table.new index.new }
+    ensures err { OnErr result (table.new ≡ table.old) }
+{
+    match patch.kept() {
+        Edits::Listed(edits) => lead_listed(table, index, edits.as_slice(), forth, next),
+        Edits::Told { told } => lead_told(table, index, told, forth, next),
     }
+}
+
+/// As `lead`, by the edits by which a table without objects gets all that is told. The told map becomes the table where that
+/// has no objects, and the table is emptied where it has no others.
+fn lead_told(
+    table: &mut Table,
+    index: &mut RefIndex,
+    told: &Shared<ToldMap>,
+    forth: bool,
+    next: u64,
+) -> Result<(), AllocError>
+    requires stands { AllByRecursion (λ e. entry_of table.old e.key ≡ side (not forth) e) (edits_told told.now.told) }
+    requires exact { IsExact table.old index.old }
+    ensures ok { OnOk result (table.new ≡ record { entries = (led (side forth) (edits_told told.now.told) table.old).entries; next = next }) }
+    ensures exact { IsExact table.new index.new }
+    ensures err { OnErr result (table.new ≡ table.old) }
+{
+    if forth && table.len() == 0 {
+        let pairs = index_of(told.value())?;
+        *table = Table::told(told.copy()?, next);
+        *index = pairs;
+        return Ok(());
+    }
+    if !forth && table.len() == told.value().len() {
+        let mut nothing = OwnTable::new(table.alloc());
+        nothing.set_next(next);
+        *index = RefIndex::new(table.alloc());
+        *table = Table::own(nothing);
+        return Ok(());
+    }
+    let edits = told_edits(told.value())?;
+    lead_listed(table, index, edits.as_slice(), forth, next)
 }
 
 /// Leads the table by one side of edits to the number of its next new object, or leaves all as it was. Costs one look-up an
 /// edit, and what it costs to take the table as its own.
-fn lead(
-    alloc: Global,
+fn lead_listed(
     table: &mut Table,
     index: &mut RefIndex,
     edits: &[Edit],
@@ -256,7 +292,7 @@ fn lead(
     ensures err { OnErr result (table.new ≡ table.old) }
 {
     let mut own = table.take()?;
-    match lead_own(alloc, &mut own, index, edits, forth) {
+    match lead_own(&mut own, index, edits, forth) {
         Ok(()) => {
             own.set_next(next);
             *table = Table::own(own);
@@ -275,7 +311,6 @@ fn lead(
 /// that come. Where the index finds none the new keys are taken out again. Only then do the other
 /// pairs go, so each of them is there.
 fn lead_own(
-    alloc: Global,
     table: &mut OwnTable,
     index: &mut RefIndex,
     edits: &[Edit],
@@ -288,7 +323,7 @@ fn lead_own(
     ensures exact { IsExact table.new index.new }
     ensures err { OnErr result (table.new ≡ table.old) }
 {
-    let writes = writes_of(alloc, edits, forth)?;
+    let writes = writes_of(table.alloc(), edits, forth)?;
     put_keys(table, edits, forth)?;
     if let Err(e) = add_pairs(index, edits, forth) {
         drop_keys(table, edits, !forth);

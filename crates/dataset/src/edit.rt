@@ -51,7 +51,43 @@ impl Model for Edit {
     ghost view = { λ e. edit_kept e.kept };
 }
 
+impl Clone for Edit {
+    ghost is_clone = { λ edit copy. copy ≡ edit };
+
+    fn clone(&self) -> Result<Edit, AllocError> {
+        self.copy()
+    }
+}
+
 impl Edit {
+    /// The same edit. It shares the entries, so no block is made.
+    ///
+    /// # Errors
+    ///
+    /// The count of those who share an entry is full.
+    pub fn copy(&self) -> Result<Edit, AllocError>
+        ensures { IfOk result (λ copy. copy ≡ self.now) }
+    {
+        let kept = match &self.kept {
+            Kept::Comes { kind, id, after } => Kept::Comes {
+                kind: *kind,
+                id: *id,
+                after: after.copy()?,
+            },
+            Kept::Goes { kind, id, before } => Kept::Goes {
+                kind: *kind,
+                id: *id,
+                before: before.copy()?,
+            },
+            Kept::Changes { kind, id, entries } => Kept::Changes {
+                kind: *kind,
+                id: *id,
+                entries: entries.copy()?,
+            },
+        };
+        Ok(Edit { kept })
+    }
+
     /// A key comes.
     pub(crate) fn comes(key: Key, after: SharedEntry) -> Edit
         ensures { result ≡ record { key = key; before = None; after = Some after } }

@@ -1,16 +1,17 @@
 //! The pairs that come and go with edits, and those of one content. They enter the index one by one,
 //! so no list of them takes memory.
-ghost use Rattle.std.specs.Prelude.{◌≡◌, ◌+◌, ◌<◌, ◌≤◌, if◌then◌else◌, None, length, take, slice_index_or, OnOk, OnErr};
+ghost use Rattle.std.specs.Prelude.{◌≡◌, ◌+◌, ◌<◌, ◌≤◌, if◌then◌else◌, None, Some, length, take, slice_index_or, ℕ, OnOk, OnErr, IfOk};
 ghost use Rattle.std.specs.Option.{option_copied};
 ghost use Rattle.osm_base.specs.Content.{refs_of};
 ghost use Rattle.ref_index.specs.declared.pair.Pair.{Pair};
 ghost use Rattle.ref_index.specs.Bag.{count, times};
-ghost use Rattle.dataset.specs.Exact.{keeps_refs, mine_at, moved_pairs, pairs_by, pairs_with, same_lists};
+ghost use Rattle.osm_table.specs.Told.{table_told};
+ghost use Rattle.dataset.specs.Exact.{IsExact, keeps_refs, mine_at, moved_pairs, pairs_by, pairs_of, pairs_with, same_lists};
 ghost use Rattle.dataset.specs.Sides.{side};
 
 use crate::edit::Edit;
 use osm_base::{Content, Key, node_key};
-use osm_table::SharedEntry;
+use osm_table::{SharedEntry, ToldMap};
 use ref_index::{Pair, RefIndex};
 use std::alloc::AllocError;
 
@@ -41,6 +42,34 @@ pub fn take_pairs(index: &mut RefIndex, edits: &[Edit], forth: bool)
 {
     for edit in edits {
         take_moved(index, edit, forth);
+    }
+}
+
+/// An index of what the objects that are told of as living refer to. It costs one look-up a reference.
+///
+/// # Errors
+///
+/// Where no memory is found.
+pub fn index_of(told: &ToldMap) -> Result<RefIndex, AllocError>
+    ensures { IfOk result (λ index. (next : ℕ) → IsExact (table_told told.now.told next) index) }
+{
+    told.sound();
+    let mut index = RefIndex::new(told.alloc());
+    for i in 0..told.len() {
+        let (key, entry) = told.entry_at(i);
+        add_entry(&mut index, key, entry)?;
+    }
+    Ok(index)
+}
+
+/// Adds the pairs of an entry, or none of them.
+fn add_entry(index: &mut RefIndex, key: Key, entry: &SharedEntry) -> Result<(), AllocError>
+    ensures ok { OnOk result ((p : Pair) → count index.new p ≡ times p (pairs_of key (Some entry.now)) + count index.old p) }
+    ensures err { OnErr result ((p : Pair) → count index.new p ≡ count index.old p) }
+{
+    match entry.mine() {
+        Some(content) => add_content(index, key, content),
+        None => Ok(()),
     }
 }
 

@@ -15,9 +15,7 @@ use Rattle.osm_table.specs.declared.entry.Entry.{Entry}
 use Rattle.osm_table.specs.declared.told.Told.{Told}
 use Rattle.osm_table.specs.declared.told.Told.TheVariants as told
 use Rattle.osm_table.specs.Table.{TableValue, entry_of, IsThere}
-use Rattle.osm_table.specs.Told.{ToldEntries, ToldValue, IsToldMap, IsClosed, entry_told, is_told_there, table_told}
-use Rattle.osm_table.proofs.Each.{same_table}
-use Rattle.osm_table.proofs.TableTold.{table_told_at}
+use Rattle.osm_table.specs.Told.{ToldEntries, ToldValue, IsToldMap, IsClosed, entry_told, is_told_there}
 use Rattle.dataset.specs.Arrivals.{arrivals}
 use Rattle.dataset.specs.Diff.{diff}
 use Rattle.dataset.specs.Draft.{drafted}
@@ -164,16 +162,9 @@ too_many t m limit len none closed is more =
     no_room t m limit (merged t m.told) TableFull (none_clashes t m.told empty closed) refl
     (sym (ap (λ b. when b TableFull) (ap (λ n. full limit n (merged t m.told).next) (as_many t m.told empty closed ∙ sym is) ∙ is_full_by limit len (merged t m.told).next more)))
 
--- where there was nothing, the table has what is told and no more
-told_alone : (t : TableValue) (told : ToldEntries) → ((k : Key) → entry_of t k ≡ None) → drafted (arrivals told t.next) t ≡ table_told told t.next
-told_alone t told empty =
-    same_table (drafted (arrivals told t.next) t) (table_told told t.next)
-    (λ k. arrived_at told t k ∙ ap (option_or (option_map entry_told (fin.get told k))) (empty k) ∙ or_none (option_map entry_told (fin.get told k)) ∙ sym (table_told_at told t.next k))
-    refl
-
 -- all that is told has come, by a patch that is the difference
 pub all_come : (t : TableValue) (m : ToldValue) (limit len : ℕ) (p : PatchValue) → IsSound t → IsToldMap m.told → fin.len t.entries ≡ 0 → IsClosed m.told → len ≡ fin.len m.told → len ≤ limit
-    → p ≡ diff t (drafted (arrivals m.told t.next) t) → IsDiff t (drafted (arrivals m.told t.next) t) p → IsReady t p m.told × (merge t limit m ≡ Ok (done (after_of p t)))
+    → p ≡ diff t (drafted (arrivals m.told t.next) t) → IsDiff t (drafted (arrivals m.told t.next) t) p → IsReady t p × (merge t limit m ≡ Ok (done (after_of p t)))
 all_come t m limit len p sound is_told none closed is few whole differs =
     let empty = none_there t none in
     let come = drafted_is t m (arrivals m.told t.next) (λ k. arrived_at m.told t k ∙ ap (option_or (option_map entry_told (fin.get m.told k))) (empty k) ∙ or_none (option_map entry_told (fin.get m.told k)) ∙ sym (ends_as_told t m.told empty closed k)) refl in
@@ -184,7 +175,6 @@ all_come t m limit len p sound is_told none closed is few whole differs =
         stands = differs.before;
         sound = drafted_sound t m (after_of p t) sound is_told (sym to ∙ come);
         whole = whole ∙ ap (diff t) to;
-        told_alone = sym to ∙ told_alone t m.told empty ∙ ap (λ (n : ℕ). table_told m.told n) (sym (ap (λ (q : PatchValue). q.next_after) whole));
       },
       taken_in t m limit (after_of p t) [] (none_clashes t m.told empty closed) (sym to ∙ come) (sym (ap (room_test limit) (sym to ∙ come) ∙ room)) refl,
     )

@@ -12,7 +12,8 @@ use std::alloc::AllocError;
 use tool_api::{Plan, Refusal};
 
 /// The plan of a download into an empty table, where all to which the told objects refer is told of as there: nothing
-/// clashes, comes back, goes or is missing, so the table is to have just what is told. It costs what the difference costs.
+/// clashes, comes back, goes or is missing, so the table is to have just what is told. It costs nothing, since the difference
+/// shares what is told.
 ///
 /// # Errors
 /// No memory was left.
@@ -28,7 +29,6 @@ pub fn arrival_plan(ds: &DataSet, told: &Shared<ToldMap>, limit: u64) -> Result<
         return Ok(Plan::Refused(Refusal::TableFull));
     }
     Ok(Plan::Ready {
-        patch: ds.patch_of_told(map)?,
-        told: told.copy()?,
+        patch: ds.patch_of_told(told)?,
     })
 }

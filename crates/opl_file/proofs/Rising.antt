@@ -14,6 +14,7 @@ use Rattle.osm_base.specs.Rank.{rank_cmp}
 use Rattle.osm_base.specs.RankLaws.{rank_total, rank_ties}
 use Rattle.osm_base.specs.RisingKeys.{marked, rises}
 use Rattle.osm_base.specs.declared.key.Key.{Key}
+use Rattle.osm_base.proofs.ByRank.{rises_on}
 use Rattle.osm_base.proofs.Tests.{both_T, first_T, second_T, true_from_T, less_from_T}
 use Rattle.opl_line.specs.declared.object.OplObject.{OplObject}
 use Rattle.opl_file.specs.Objects.{keys_of}
@@ -43,14 +44,6 @@ last_new [] k h = refl
 last_new (j ∷ ks) k h =
     let other : eq k j ≡ false = apart j k (below_last j k ks (first_T _ _ h)) in
     ap (λ b. b || list_any (eq k) ks) other ∙ last_new ks k (second_T _ _ h)
-
-below_on : (i j k : Key) (ks : List Key) → IsBelow i (ks ++ j ∷ []) → T (is_lt (rank_cmp j k)) → IsBelow i ((ks ++ j ∷ []) ++ k ∷ [])
-below_on i j k [] h l = both_T _ _ (first_T _ _ h) (both_T _ _ (passes _ (ap is_lt (rank_total.trans i j k (less_from_T _ (first_T _ _ h)) (less_from_T _ l)))) tt)
-below_on i j k (x ∷ ks) h l = both_T _ _ (first_T _ _ h) (below_on i j k ks (second_T _ _ h) l)
-
-rises_on : (ks : List Key) (j k : Key) → T (rises (ks ++ j ∷ [])) → T (is_lt (rank_cmp j k)) → T (rises ((ks ++ j ∷ []) ++ k ∷ []))
-rises_on [] j k h l = both_T _ _ (both_T _ _ l tt) tt
-rises_on (i ∷ ks) j k h l = both_T _ _ (below_on i j k ks (first_T _ _ h) l) (rises_on ks j k (second_T _ _ h) l)
 
 last_two : (ks : List Key) (j k : Key) → T (rises ((ks ++ j ∷ []) ++ k ∷ [])) → T (is_lt (rank_cmp j k))
 last_two [] j k h = first_T _ _ (first_T _ _ h)

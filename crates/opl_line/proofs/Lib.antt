@@ -1,4 +1,5 @@
 pub mod Cutting
+mod Marks
 pub mod Fronts
 pub mod Coordinates
 pub mod Digits

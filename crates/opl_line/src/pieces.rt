@@ -1,9 +1,11 @@
 //! Bytes cut at separators.
 
-ghost use Rattle.std.specs.Prelude.{◌≡◌, ◌<◌, ◌∷◌, [], length, count_by, MatchOption};
+ghost use Rattle.std.specs.Prelude.{◌≡◌, ◌<◌, ◌∷◌, [], length, MatchOption};
 ghost use Rattle.std.specs.Option.{option_map};
 ghost use Rattle.opl_line.specs.Cut.{is_one_of, split, before, after};
 ghost use Rattle.opl_line.specs.Line.{is_blank};
+
+use memchr::memchr_iter;
 
 /// Whether the byte is one of two.
 pub fn is_mark(a: u8, b: u8, byte: u8) -> bool
@@ -42,14 +44,5 @@ pub fn cut(bytes: &[u8], a: u8, b: u8) -> (&[u8], Option<&[u8]>)
 pub fn count_pieces(bytes: &[u8], mark: u8) -> usize
     ensures { result ≡ length (split (is_one_of mark mark) bytes.now) }
 {
-    count_marks(bytes, mark) + 1
-}
-
-fn count_marks(bytes: &[u8], mark: u8) -> usize
-    ensures { result ≡ count_by (is_one_of mark mark) bytes.now }
-{
-    bytes
-        .iter()
-        .filter(|byte| is_mark(mark, mark, **byte))
-        .count()
+    memchr_iter(mark, bytes).count() + 1
 }

@@ -1,6 +1,7 @@
 -- The keys of a finite map by rank: what lists are they, and what is the least of them that passes a test.
-use Rattle.std.proofs.Common.{◌≡◌, is_some, ◌&&◌, Bool, true, false, cond, List, [], ◌∷◌, Option, Some, None, refl, sym, ◌∙◌, ap, subst, Ordering}
+use Rattle.std.proofs.Common.{◌≡◌, is_some, ◌&&◌, Bool, true, false, cond, List, [], ◌∷◌, ◌++◌, Option, Some, None, refl, sym, ◌∙◌, ap, subst, Ordering}
 use Rattle.std.specs.declared.cmp.Ordering.TheVariants.{Less}
+use Rattle.std.specs.Bool.{passes}
 use Rattle.std.specs.Ordering.{is_lt}
 use Rattle.std.specs.Cmp.{eq_by_cmp_equiv}
 use Rattle.std.specs.List.{IsDistinct, AllByRecursion, filter, find, dedup, dedup_from}
@@ -18,7 +19,7 @@ use Rattle.osm_base.specs.RankLaws.{rank_total, rank_ties}
 use Rattle.osm_base.specs.KeyEq.{eq}
 use Rattle.osm_base.specs.RisingKeys.{marked, rises, is_in}
 use Rattle.osm_base.proofs.RisingKeys.{same_keys, rises_filter, in_filter}
-use Rattle.osm_base.proofs.Tests.{both_T, first_T, second_T}
+use Rattle.osm_base.proofs.Tests.{both_T, first_T, second_T, less_from_T}
 
 eq_turned : (x y : Key) → eq x y ≡ eq y x
 eq_turned x y = rank_ties x y ∙ (eq_by_cmp_equiv rank_total).symm x y ∙ sym (rank_ties y x)
@@ -42,6 +43,15 @@ below k (x ∷ xs) h = both_T _ _ (subst (λ (o : Ordering). T (is_lt o)) (sym h
 pub rises_strictly : (ks : List Key) → IsStrictlySortedBy rank_cmp ks → T (rises ks)
 rises_strictly [] h = tt
 rises_strictly (k ∷ ks) h = both_T _ _ (below k ks (sorted_head rank_cmp k ks h)) (rises_strictly ks (sorted_tail rank_cmp k ks h))
+
+below_on : (i j k : Key) (ks : List Key) → T (below_all rank_cmp i (marked (ks ++ j ∷ []))) → T (is_lt (rank_cmp j k)) → T (below_all rank_cmp i (marked ((ks ++ j ∷ []) ++ k ∷ [])))
+below_on i j k [] h l = both_T _ _ (first_T _ _ h) (both_T _ _ (passes _ (ap is_lt (rank_total.trans i j k (less_from_T _ (first_T _ _ h)) (less_from_T _ l)))) tt)
+below_on i j k (x ∷ ks) h l = both_T _ _ (first_T _ _ h) (below_on i j k ks (second_T _ _ h) l)
+
+-- keys rise on where the next comes behind the last
+pub rises_on : (ks : List Key) (j k : Key) → T (rises (ks ++ j ∷ [])) → T (is_lt (rank_cmp j k)) → T (rises ((ks ++ j ∷ []) ++ k ∷ []))
+rises_on [] j k h l = both_T _ _ (both_T _ _ l tt) tt
+rises_on (i ∷ ks) j k h l = both_T _ _ (below_on i j k ks (first_T _ _ h) l) (rises_on ks j k (second_T _ _ h) l)
 
 below_marked : {V : Type 0} (k : Key) (es : List (Key × V)) → T (below_all rank_cmp k es) → T (below_all rank_cmp k (marked (keys_of es)))
 below_marked k [] h = tt

@@ -1,4 +1,5 @@
 pub mod Each
+mod Standing
 pub mod SameLaws
 pub mod ToldLaws
 pub mod TableTold

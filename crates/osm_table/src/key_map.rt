@@ -1,5 +1,5 @@
 //! Hashed maps of entries by key, as tables and told maps keep them.
-ghost use Rattle.std.specs.Prelude.{◌≡◌, IfOk};
+ghost use Rattle.std.specs.Prelude.{◌≡◌, T, true, IfOk};
 ghost use Rattle.std.specs.FinMap as map;
 ghost use Rattle.std.specs.List.{IsDistinct};
 ghost use Rattle.std.specs.Map.{keys_of};
@@ -7,10 +7,12 @@ ghost use Rattle.std.specs.Option.{option_map};
 ghost use Rattle.indexmap.specs.IndexMap.{get};
 ghost use Rattle.osm_base.specs.KeyEq.{eq};
 ghost use Rattle.osm_base.specs.Rank.{rank_cmp};
+ghost use Rattle.osm_base.specs.RisingKeys.{rises};
 
+use crate::ordered::Ordered;
 use crate::shared_entry::SharedEntry;
 use indexmap::IndexMap;
-use osm_base::{Key, Keys};
+use osm_base::{Key, Keys, rank};
 use std::alloc::AllocError;
 
 /// The entry of a key, and the place behind it. The place `near` is looked at first, which hashes nothing.
@@ -32,16 +34,32 @@ pub fn get_near(
     }
 }
 
-/// The keys by rank.
+/// The keys by rank. They are lent where they stand so, and else listed and sorted.
 ///
 /// # Errors
 /// No memory was left.
-pub fn ordered(entries: &IndexMap<Key, SharedEntry>) -> Result<Keys, AllocError>
+pub fn ordered(entries: &IndexMap<Key, SharedEntry>) -> Result<Ordered<'_>, AllocError>
     ensures { IfOk result (λ ks. ks ≡ map.keys (map.from_entries {R = rank_cmp} entries.now.entries)) }
 {
+    let standing = entries.keys().as_slice();
+    if rise(standing) {
+        return Ok(Ordered::standing(standing));
+    }
     let mut keys = keys(entries)?;
     keys.sort()?;
-    Ok(Keys::from_vec(keys))
+    Ok(Ordered::sorted(Keys::from_vec(keys)))
+}
+
+/// Whether each key comes behind the one before it.
+fn rise(keys: &[Key]) -> bool
+    ensures { result ≡ true → T (rises keys.now) }
+{
+    for i in 1..keys.len() {
+        if !rank(keys[i - 1], keys[i]).is_lt() {
+            return false;
+        }
+    }
+    true
 }
 
 fn keys(entries: &IndexMap<Key, SharedEntry>) -> Result<Vec<Key>, AllocError>

@@ -13,6 +13,7 @@
 
 mod entry;
 mod key_map;
+mod ordered;
 mod own_table;
 mod shared;
 mod shared_entry;
@@ -21,6 +22,7 @@ mod told;
 mod told_map;
 
 pub use entry::{Base, Conflict, Entry, Why};
+pub use ordered::Ordered;
 pub use own_table::OwnTable;
 pub use shared::Shared;
 pub use shared_entry::{EntryParts, SharedEntry};

@@ -5,9 +5,10 @@ ghost use Rattle.std.specs.FinMap as map;
 ghost use Rattle.osm_table.specs.Table.{entry_of, with_entry, without_entry, keys_by_rank};
 
 use crate::key_map::{get_near, ordered};
+use crate::ordered::Ordered;
 use crate::shared_entry::SharedEntry;
 use indexmap::IndexMap;
-use osm_base::{Key, Keys};
+use osm_base::Key;
 use std::alloc::{AllocError, Global};
 use std::marker::Model;
 
@@ -122,12 +123,12 @@ impl OwnTable {
         self.entries.len()
     }
 
-    /// Its keys by rank. It sorts them once, so n keys cost n log n steps, and n where they were set by
-    /// rank.
+    /// Its keys by rank. Where they stand so it lends them, after one pass over them; else it sorts them
+    /// once, so n keys cost n log n steps.
     ///
     /// # Errors
     /// Answers want of memory.
-    pub fn ordered(&self) -> Result<Keys, AllocError>
+    pub fn ordered(&self) -> Result<Ordered<'_>, AllocError>
         ensures { IfOk result (λ keys. keys ≡ keys_by_rank self.now) }
     {
         ordered(&self.entries)

@@ -6,11 +6,12 @@ ghost use Rattle.osm_table.specs.Table.{entry_of, keys_by_rank};
 ghost use Rattle.osm_table.specs.TableKept.{table_of};
 ghost use Rattle.osm_table.specs.Told.{table_told};
 
+use crate::ordered::Ordered;
 use crate::own_table::OwnTable;
 use crate::shared::Shared;
 use crate::shared_entry::SharedEntry;
 use crate::told_map::ToldMap;
-use osm_base::{Key, Keys};
+use osm_base::Key;
 use std::alloc::{AllocError, Global};
 use std::marker::Model;
 use std::mem::replace;
@@ -138,12 +139,12 @@ impl Table {
         }
     }
 
-    /// Its keys by rank. It sorts them once, so n keys cost n log n steps, and n where they were set by
-    /// rank.
+    /// Its keys by rank. Where they stand so it lends them, after one pass over them; else it sorts them
+    /// once, so n keys cost n log n steps.
     ///
     /// # Errors
     /// Answers want of memory.
-    pub fn ordered(&self) -> Result<Keys, AllocError>
+    pub fn ordered(&self) -> Result<Ordered<'_>, AllocError>
         ensures { IfOk result (λ keys. keys ≡ keys_by_rank self.now) }
     {
         match &self.entries {

@@ -10,11 +10,12 @@ ghost use Rattle.osm_table.specs.Told.{entry_told, told_of, told_at, with_told, 
 
 use crate::entry::Base;
 use crate::key_map::{get_near, ordered};
+use crate::ordered::Ordered;
 use crate::own_table::OwnTable;
 use crate::shared_entry::{EntryParts, SharedEntry};
 use crate::told::Told;
 use indexmap::IndexMap;
-use osm_base::{Key, Keys};
+use osm_base::Key;
 use std::alloc::{AllocError, Global};
 use std::marker::Model;
 
@@ -187,11 +188,12 @@ impl ToldMap {
         (*key, entry)
     }
 
-    /// Its keys by rank. Sorts them once, which is one pass where they were put by rank.
+    /// Its keys by rank. Where they were put so it lends them, after one pass over them; else it sorts
+    /// them once.
     ///
     /// # Errors
     /// Answers want of memory.
-    pub fn ordered(&self) -> Result<Keys, AllocError>
+    pub fn ordered(&self) -> Result<Ordered<'_>, AllocError>
         ensures { IfOk result (λ keys. keys ≡ map.keys self.now.told) }
     {
         ordered(&self.entries)
@@ -223,6 +225,7 @@ impl ToldMap {
     pub fn sound(&self)
         ensures told_map { IsToldMap self.now.told }
         ensures each { (key : Key) → list_any (is_key key) self.now.order ≡ is_some (told_at self.now key) }
+        ensures once { IsDistinct eq self.now.order }
     {
         let _ = &self.entries;
     }

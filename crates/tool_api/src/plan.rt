@@ -2,7 +2,6 @@
 use crate::refusal::Refusal;
 use dataset::{Draft, Patch};
 use osm_base::Keys;
-use osm_table::{Shared, ToldMap};
 
 /// What a job comes to, before anything has changed.
 #[derive(Drop)]
@@ -11,7 +10,6 @@ pub enum Plan {
     Refused(Refusal),
     /// What is to change, and the keys of what that makes.
     Change { draft: Draft, made: Keys },
-    /// What is to change, as its difference already, where the table is to have what is told and no more. It makes no new
-    /// object.
-    Ready { patch: Patch, told: Shared<ToldMap> },
+    /// What is to change, as its difference already. It makes no new object.
+    Ready { patch: Patch },
 }

@@ -1,7 +1,6 @@
 //! The patches that a tool keeps.
 ghost use Rattle.std.specs.Prelude.{◌≡◌, ◌+◌, ◌<◌, List, [], ◌∷◌, ◌++◌, length, OnOk, OnErr, vec_len, vec_capacity};
 ghost use Rattle.std.specs.Option.{option_copied};
-ghost use Rattle.osm_table.specs.Told.{table_told};
 ghost use Rattle.dataset.specs.Patch.{PatchValue, StandsBefore, StandsAfter, after_of, before_of};
 ghost use Rattle.dataset.specs.Diff.{diff};
 ghost use Rattle.dataset.specs.Draft.{drafted};
@@ -9,7 +8,6 @@ ghost use Rattle.dataset.specs.Sound.{IsSound};
 ghost use Rattle.tool_api.specs.Patches.{last_patch, newest_of, front, first_patch, rest, turned};
 
 use dataset::{DataSet, Draft, Patch};
-use osm_table::{Shared, ToldMap};
 use std::alloc::{AllocError, Global};
 use std::marker::Model;
 
@@ -100,34 +98,6 @@ impl Steps {
     {
         self.behind.reserve(1)?;
         ds.apply(&patch)?;
-        match self.behind.push(patch) {
-            Ok(()) => Ok(()),
-            Err(_) => unreachable!(),
-        }
-    }
-
-    /// As `lead_on`, where the table is to have what is told and no more. The told map becomes the table, so it costs the
-    /// references alone.
-    ///
-    /// # Errors
-    /// Want of memory, and then nothing is changed.
-    pub fn adopt(
-        &mut self,
-        ds: &mut DataSet,
-        patch: Patch,
-        told: Shared<ToldMap>,
-    ) -> Result<(), AllocError>
-        requires stands { StandsBefore patch ds.old }
-        requires sound { IsSound (after_of patch ds.old) }
-        requires told { after_of patch ds.old ≡ table_told told.told patch.next_after }
-        ensures table { OnOk result (ds.new ≡ after_of patch ds.old) }
-        ensures done { OnOk result (self.new.0 ≡ self.old.0 ++ patch ∷ []) }
-        ensures undone { self.new.1 ≡ self.old.1 }
-        ensures err_table { OnErr result (ds.new ≡ ds.old) }
-        ensures err_done { OnErr result (self.new.0 ≡ self.old.0) }
-    {
-        self.behind.reserve(1)?;
-        ds.adopt(&patch, told)?;
         match self.behind.push(patch) {
             Ok(()) => Ok(()),
             Err(_) => unreachable!(),

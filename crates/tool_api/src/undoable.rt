@@ -52,8 +52,8 @@ impl<C: Command> Tool for Undoable<C> {
                 self.steps.commit(ds, draft)?;
                 Ok(Reply::Done(made))
             }
-            Plan::Ready { patch, told } => {
-                self.steps.adopt(ds, patch, told)?;
+            Plan::Ready { patch } => {
+                self.steps.lead_on(ds, patch)?;
                 Ok(Reply::Done(Keys::new(ds.alloc())))
             }
         }

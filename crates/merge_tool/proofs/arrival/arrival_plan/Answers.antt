@@ -1,11 +1,9 @@
-use Rattle.std.proofs.Common.{◌≡◌, ◌∙◌, ◌≤◌, sym, subst, arith}
-use Rattle.std.specs.Prelude.{Ok, Err}
-use Rattle.osm_table.specs.Told.{ToldValue, IsClosed}
-use Rattle.dataset.specs.Patch.{after_of}
+use Rattle.std.proofs.Common.{◌≡◌, ◌∙◌, ◌≤◌, ap, sym, subst, arith}
+use Rattle.std.specs.FinMap as fin
+use Rattle.std.specs.Prelude.{Err}
+use Rattle.osm_table.specs.Told.{ToldValue, IsClosed, IsToldMap}
 use Rattle.tool_api.specs.declared.refusal.Refusal.TheVariants.{TableFull}
-use Rattle.tool_api.specs.Changes.{done}
 use Rattle.tool_api.specs.Merged.{merge}
-use Rattle.tool_api.specs.Planned.{IsReady}
 use Rattle.merge_tool.proofs.Arrived.{too_many, all_come}
 use Rattle.merge_tool.proofs.arrival.arrival_plan.Goals as goal
 
@@ -18,9 +16,7 @@ pub returns : goal.returns
 returns c =
     let t = c.args.ds.now in
     let p = c.in_ok-patch_of_told.field-0 in
-    let come =
-    all_come t c.value-map.result.now c.args.limit c.len.result p c.requires.sound c.sound.ensures.told_map c.requires.empty (subst (λ (m : ToldValue). IsClosed m.told) (sym c.value-map.ensures) c.requires.closed) c.len.ensures.value
-    (let few : c.len.result ≤ c.args.limit = omega (arith, c.if-limit-len.false) in few) c.in_ok-patch_of_told.ensures.value c.in_ok-patch_of_told.ensures.differs in (
-      subst (λ (m : ToldValue). IsReady t p m.told) (c.value-map.ensures ∙ sym c.in_ok-copy.ensures) come.0,
-      subst (λ (m : ToldValue). merge t c.args.limit m ≡ Ok (done (after_of p t))) c.value-map.ensures come.1,
-    )
+    let few : c.len.result ≤ c.args.limit = omega (arith, c.if-limit-len.false) in
+    let is : c.value-map.result.now ≡ c.args.told.now = c.value-map.ensures in
+    all_come t c.args.told.now c.args.limit c.len.result p c.requires.sound (subst (λ (m : ToldValue). IsToldMap m.told) is c.sound.ensures.told_map) c.requires.empty c.requires.closed (c.len.ensures.value ∙ ap (λ (m : ToldValue). fin.len m.told) is)
+    few c.in_ok-patch_of_told.ensures.value c.in_ok-patch_of_told.ensures.differs

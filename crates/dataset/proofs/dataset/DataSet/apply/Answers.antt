@@ -5,6 +5,6 @@ use Rattle.dataset.proofs.dataset.DataSet.apply.Goals as goal
 
 pub invariant_of-self-2 : goal.invariant_of-self-2
 invariant_of-self-2 c = (
-  subst IsSound (sym (applied c.args.patch.now c.edits.result.now c.next_after.result c.self.inside.table c.args.self.now c.lead.new.table c.edits.ensures.value c.next_after.ensures c.self.view_is c.in_ok-lead.ensures.ok)) c.requires.sound,
+  subst IsSound (sym (applied c.args.patch.now c.next_after.result c.self.inside.table c.args.self.now c.lead.new.table c.next_after.ensures c.self.view_is c.in_ok-lead.ensures.ok)) c.requires.sound,
   c.lead.ensures.exact,
 )

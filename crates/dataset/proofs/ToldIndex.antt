@@ -1,0 +1,82 @@
+-- The index of what the objects refer to that are told of as living, object by object.
+use Rattle.std.proofs.Common.{◌≡◌, ℕ, ◌+◌, ◌<◌, ◌≤◌, zero, suc, ◌||◌, Bool, true, false, cond, is_some, Option, Some, None, List, [], ◌∷◌, ◌++◌, length, take, get_or, refl, sym, ◌∙◌, ap, arith}
+use Rattle.std.specs.Option.{option_map, unwrap_or}
+use Rattle.std.specs.List.{AllByRecursion, list_any, IsDistinct}
+use Rattle.std.specs.FinMap as fin
+use Rattle.std.proofs.lemmas.List.{take_more, take_all}
+use Rattle.std.proofs.lemmas.List.Folds.{list_any-append}
+use Rattle.std.proofs.lemmas.Map.Keys.{IsDistinct-head, IsDistinct-tail}
+use Rattle.osm_base.specs.KeyEq.{eq}
+use Rattle.osm_base.specs.Rank.{is_key}
+use Rattle.osm_base.specs.RankLaws.{rank_ties}
+use Rattle.osm_base.specs.RisingKeys.{is_in}
+use Rattle.osm_base.specs.declared.key.Key.{Key}
+use Rattle.osm_base.proofs.RisingKeys.{one_key, key_turned}
+use Rattle.osm_table.specs.declared.entry.Entry.{Entry}
+use Rattle.osm_table.specs.declared.told.Told.{Told}
+use Rattle.osm_table.specs.Told.{ToldEntries, ToldValue, entry_told, told_at, told_of, table_told}
+use Rattle.osm_table.proofs.TableTold.{table_told_at}
+use Rattle.ref_index.specs.declared.pair.Pair.{Pair}
+use Rattle.ref_index.specs.Bag.{Bag, count, times, pair_cmp}
+use Rattle.dataset.specs.Exact.{IsExact, refs_at, times_key, pairs_of}
+use Rattle.dataset.proofs.Exactness.{listed_pairs}
+
+-- the entry of an object of which no more is known than what is told
+abbrev entry_at : ToldEntries → Key → Option Entry
+entry_at told k = option_map entry_told (fin.get told k)
+
+-- the pairs of the objects among some keys are there, each as often as it stands
+abbrev pub AreIndexed : ToldEntries → List Key → Bag → Type 0
+AreIndexed told ks bag = (of user : Key) → count bag (record { of = of; user = user }) ≡ cond (is_in user ks) (times_key of (refs_at (entry_at told user))) 0
+
+pub none_indexed : (told : ToldEntries) (bag : Bag) → bag ≡ fin.empty → AreIndexed told [] bag
+none_indexed told bag none of user = ap (λ (b : Bag). count b (record { of = of; user = user })) none ∙ ap (λ (o : Option ℕ). unwrap_or o 0) (fin.get-empty pair_cmp (record { of = of; user = user }))
+
+turned : (x y : Key) → eq x y ≡ false → is_key y x ≡ false
+turned x y e = key_turned y x ∙ sym (rank_ties x y) ∙ e
+
+-- a key stands once among distinct ones
+apart : (x : Key) (ks : List Key) (i : ℕ) → AllByRecursion (λ y. eq x y ≡ false) ks → (d : Key) → i < length ks → is_key (get_or ks i d) x ≡ false
+apart x [] i h d less = absurd (let f : i < 0 = less in omega (arith, f))
+apart x (k ∷ ks) zero h d less = turned x k h.0
+apart x (k ∷ ks) (suc i) h d less = apart x ks i h.1 d (omega (arith, less))
+
+once : (ks : List Key) (i : ℕ) (d : Key) → IsDistinct eq ks → i < length ks → is_in (get_or ks i d) (take i ks) ≡ false
+once [] i d h less = absurd (let f : i < 0 = less in omega (arith, f))
+once (k ∷ ks) zero d h less = refl
+once (k ∷ ks) (suc i) d h less = or_false _ _ (apart k ks i (IsDistinct-head eq k ks h) d (omega (arith, less))) (once ks i d (IsDistinct-tail eq k ks h) (omega (arith, less)))
+  where
+    or_false : (a b : Bool) → a ≡ false → b ≡ false → (a || b) ≡ false
+    or_false true b e f = e
+    or_false false b e f = f
+
+more_case : (b c : Bool) (refs here old new n : ℕ) → (c ≡ true → b ≡ false) → (c ≡ true → refs ≡ here) → n ≡ cond c refs 0 → old ≡ cond b here 0 → new ≡ n + old → new ≡ cond (b || (c || false)) here 0
+more_case true true refs here old new n once same en eo e = let f : true ≡ false = once refl in cc
+more_case true false refs here old new n once same en eo e = omega (arith, en, eo, e)
+more_case false true refs here old new n once same en eo e = let s : refs ≡ here = same refl in omega (arith, s, en, eo, e)
+more_case false false refs here old new n once same en eo e = omega (arith, en, eo, e)
+
+-- one object more
+pub more_indexed : (m : ToldValue) (i : ℕ) (k : Key) (e : Entry) (old new : Bag) → IsDistinct eq m.order → i < length m.order → k ≡ get_or m.order i k → told_at m k ≡ Some (told_of e) → entry_told (told_of e) ≡ e
+    → ((p : Pair) → count new p ≡ times p (pairs_of k (Some e)) + count old p) → AreIndexed m.told (take i m.order) old → AreIndexed m.told (take (i + 1) m.order) new
+more_indexed m i k e old new distinct within at told is added indexed of user =
+    more_case (is_in user (take i m.order)) (is_key user k) (times_key of (refs_at (Some e))) (times_key of (refs_at (entry_at m.told user))) (count old (record { of = of; user = user })) (count new (record { of = of; user = user })) (times (record { of = of; user = user }) (pairs_of k (Some e)))
+    (λ t. ap (λ (j : Key). is_in j (take i m.order)) (one_key user k t ∙ at) ∙ once m.order i k distinct within)
+    (λ t. ap (λ (o : Option Entry). times_key of (refs_at o)) (sym (ap (λ (j : Key). entry_at m.told j) (one_key user k t) ∙ ap (option_map entry_told) told ∙ ap Some is)))
+    (listed_pairs of user k (refs_at (Some e)))
+    (indexed of user)
+    (added (record { of = of; user = user }))
+    ∙ ap (λ b. cond b (times_key of (refs_at (entry_at m.told user))) 0) (sym (ap (λ (ks : List Key). is_in user ks) (take_more m.order i k within ∙ ap (λ (j : Key). take i m.order ++ j ∷ []) (sym at)) ∙ list_any-append (is_key user) (take i m.order) (k ∷ [])))
+
+there_case : (of : Key) (o : Option Told) (b : Bool) → b ≡ is_some o → cond b (times_key of (refs_at (option_map entry_told o))) 0 ≡ times_key of (refs_at (option_map entry_told o))
+there_case of None true e = cc
+there_case of None false e = refl
+there_case of (Some told) true e = refl
+there_case of (Some told) false e = cc
+
+-- all objects
+pub all_indexed : (m : ToldValue) (i : ℕ) (bag : Bag) → length m.order ≤ i → ((k : Key) → list_any (is_key k) m.order ≡ is_some (told_at m k)) → AreIndexed m.told (take i m.order) bag → (next : ℕ) → IsExact (table_told m.told next) bag
+all_indexed m i bag all each indexed next of user =
+    indexed of user
+    ∙ there_case of (fin.get m.told user) (is_in user (take i m.order)) (ap (λ (ks : List Key). is_in user ks) (take_all i m.order all) ∙ each user)
+    ∙ ap (λ (o : Option Entry). times_key of (refs_at o)) (sym (table_told_at m.told next user))
