@@ -13,8 +13,10 @@
 
 mod entry;
 mod key_map;
+mod keyed_entries;
 mod ordered;
 mod own_table;
+mod rising;
 mod shared;
 mod shared_entry;
 mod table;

@@ -70,8 +70,8 @@ impl Table {
         }
     }
 
-    /// Takes the table as one that shares its entries with nobody, and leaves one without entries. It costs nothing where no
-    /// one else has the told map any more, and else a copy of that map.
+    /// Takes the table as one that shares its entries with nobody, and leaves one without entries. Where it
+    /// shares a told map that costs `ToldMap::to_table`, and else nothing.
     ///
     /// # Errors
     /// Answers want of memory, and then nothing has changed.
@@ -157,19 +157,16 @@ impl Table {
 /// The entries as a table that shares them with nobody.
 ///
 /// # Errors
-/// No memory was left for a copy of a told map that others have too.
+/// No memory was left for the entries of a told map.
 fn owned(entries: Entries) -> Result<OwnTable, Entries>
     ensures ok { IfOk result (λ table. table ≡ table_of entries) }
     ensures err { IfErr result (λ same. table_of same ≡ table_of entries) }
 {
     match entries {
         Entries::Own(table) => Ok(table),
-        Entries::Told { told, next } => match told.into_value() {
-            Ok(told) => Ok(told.into_table(next)),
-            Err(told) => match told.value().to_table(next) {
-                Ok(table) => Ok(table),
-                Err(_) => Err(Entries::Told { told, next }),
-            },
+        Entries::Told { told, next } => match told.value().to_table(next) {
+            Ok(table) => Ok(table),
+            Err(_) => Err(Entries::Told { told, next }),
         },
     }
 }
