@@ -1,5 +1,5 @@
 -- Where a key stands among keys that rise, found by halving the part in which it can be.
-use Rattle.std.proofs.Common.{◌≡◌, ℕ, zero, suc, ◌+◌, ◌-◌, ◌<◌, ◌≤◌, ◌&&◌, Bool, true, false, cond, List, [], ◌∷◌, ◌++◌, take, length, get_or, Some, refl, sym, ◌∙◌, ap, arith, subst, Ordering}
+use Rattle.std.proofs.Common.{◌≡◌, ℕ, zero, suc, ◌+◌, ◌-◌, ◌<◌, ◌≤◌, ◌&&◌, Bool, true, false, cond, List, [], ◌∷◌, length, get_or, Some, refl, sym, ◌∙◌, ap, arith, subst, Ordering}
 use Rattle.std.specs.declared.cmp.Ordering.TheVariants.{Less, Equal, Greater}
 use Rattle.std.specs.Ordering.{is_lt, is_eq}
 use Rattle.std.specs.Cmp.{both_ways}
@@ -8,9 +8,8 @@ use Rattle.std.specs.List.Sorted.{IsPartitionedBy, IsPartitionPoint}
 use Rattle.std.specs.Prelude.{nat_lt, slice_get, T}
 use Rattle.std.specs.FinMap.Entries.{below_all}
 use Rattle.std.proofs.lemmas.Bool.{ltb-true, ltb-false, lt-ltb, and_parts}
-use Rattle.std.proofs.lemmas.List.{take_all, take-append-le, get_or-append_right}
 use Rattle.std.proofs.lemmas.List.Edits.{length-between, get_or-between}
-use Rattle.std.proofs.lemmas.Option.{slice_get-get_or, same_Some}
+use Rattle.std.proofs.lemmas.Option.{slice_get-get_or}
 use Rattle.osm_base.specs.declared.key.Key.{Key}
 use Rattle.osm_base.specs.Rank.{rank_cmp, is_key}
 use Rattle.osm_base.specs.RankLaws.{rank_total}
@@ -78,8 +77,8 @@ behind_point : (k : Key) (ks : List Key) (s e at : ℕ) → T (rises ks) → pla
 behind_point k ks s e at h upto within order room point =
     by_bool (nat_lt at (e - s))
     (λ less. let l : at < e - s = ltb-true at (e - s) less in
-        let long : at < length (slice_range ks s e) = omega (arith, l, length-between ks s e within) in
-        ltb-false (s + at) (place_in k ks) (sym (part_before k ks s e at k h within (omega (arith, l, order))) ∙ point.1 at k (omega arith) long))
+    let long : at < length (slice_range ks s e) = omega (arith, l, length-between ks s e within) in
+    ltb-false (s + at) (place_in k ks) (sym (part_before k ks s e at k h within (omega (arith, l, order))) ∙ point.1 at k (omega arith) long))
     (λ more. omega (arith, ltb-false at (e - s) more, upto, order))
 
 -- the place that halving a part finds

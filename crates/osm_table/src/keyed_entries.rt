@@ -10,10 +10,9 @@ ghost use Rattle.osm_base.specs.Rank.{rank_cmp};
 ghost use Rattle.osm_base.specs.RisingKeys.{rises};
 ghost use Rattle.osm_table.specs.InOrder.{entries_kept, IsInPlace};
 
-use crate::key_map;
 use crate::ordered::Ordered;
-use crate::rising;
 use crate::shared_entry::SharedEntry;
+use crate::{key_map, rising};
 use indexmap::IndexMap;
 use osm_base::Key;
 use std::alloc::{AllocError, Global};
@@ -169,7 +168,7 @@ impl KeyedEntries {
         ensures { IfOk result (λ map. map.entries ≡ self.now) }
     {
         match &self.form {
-            Form::Rising { keys, entries } => hashed(*keys.allocator(), keys, entries),
+            Form::Rising { keys, entries } => hashed(*keys.allocator(), keys.len(), keys, entries),
             Form::Hashed(map) => copied(map),
         }
     }
@@ -197,7 +196,7 @@ fn insert_in(form: &mut Form, key: Key, entry: SharedEntry) -> Result<(), AllocE
             } else if let Some(place) = rising::place_of(keys, key) {
                 entries[place] = entry;
             } else {
-                let mut map = hashed(*keys.allocator(), keys, entries)?;
+                let mut map = hashed(*keys.allocator(), keys.capacity(), keys, entries)?;
                 map.insert(key, entry)?;
                 *form = Form::Hashed(map);
             }
@@ -209,6 +208,7 @@ fn insert_in(form: &mut Form, key: Key, entry: SharedEntry) -> Result<(), AllocE
     Ok(())
 }
 
+/// Adds a key and its entry behind the others, both or none.
 fn push(
     keys: &mut Vec<Key>,
     entries: &mut Vec<SharedEntry>,
@@ -226,6 +226,7 @@ fn push(
     Ok(())
 }
 
+/// The entry of a key among keys that rise.
 fn rising_entry<'a>(
     keys: &'a [Key],
     entries: &'a [SharedEntry],
@@ -239,6 +240,7 @@ fn rising_entry<'a>(
     Some(&entries[place])
 }
 
+/// As `rising_entry`, with a place to look at first, and with the place behind the one where the key stands.
 fn rising_entry_near<'a>(
     keys: &'a [Key],
     entries: &'a [SharedEntry],
@@ -253,8 +255,10 @@ fn rising_entry_near<'a>(
     Some((place.saturating_add(1), &entries[place]))
 }
 
+/// The entries of keys that rise in a hashed map with room for so many, which shares them.
 fn hashed(
     alloc: Global,
+    room: usize,
     keys: &[Key],
     entries: &[SharedEntry],
 ) -> Result<IndexMap<Key, SharedEntry>, AllocError>
@@ -262,7 +266,7 @@ fn hashed(
     requires len { length keys.now ≡ length entries.now }
     ensures { IfOk result (λ map. map.entries ≡ zip keys.now entries.now) }
 {
-    let mut map = IndexMap::with_capacity(alloc, keys.len())?;
+    let mut map = IndexMap::with_capacity(alloc, room)?;
     for i in 0..keys.len() {
         map.insert(keys[i], entries[i].copy()?)?;
     }

@@ -71,7 +71,7 @@ impl Table {
     }
 
     /// Takes the table as one that shares its entries with nobody, and leaves one without entries. Where it
-    /// shares a told map that costs `ToldMap::to_table`, and else nothing.
+    /// has a told map its keys are hashed, by `ToldMap::to_table`; else it costs nothing.
     ///
     /// # Errors
     /// Answers want of memory, and then nothing has changed.
@@ -107,7 +107,8 @@ impl Table {
         }
     }
 
-    /// The entry of a key.
+    /// The entry of a key: one look-up by hash, or in a told map whose keys came by rank about log n
+    /// comparisons.
     pub fn get(&self, key: Key) -> Option<&SharedEntry>
         ensures { option_copied result ≡ entry_of self.now key }
     {
@@ -119,7 +120,7 @@ impl Table {
 
     /// As `get`, with a place to look at first, and with the place behind the one where the key
     /// stands. Who goes over keys in the order in which they were set, each time from the place that
-    /// the last gave, pays no look-up; a key that isn't at the place costs one.
+    /// the last gave, pays no search; a key that isn't at the place costs one, as `get` does.
     pub fn get_near(&self, near: usize, key: Key) -> Option<(usize, &SharedEntry)>
         ensures { option_map (λ found. found.1.now) result ≡ entry_of self.now key }
     {
@@ -139,8 +140,8 @@ impl Table {
         }
     }
 
-    /// Its keys by rank. Where they stand so it lends them, after one pass over them; else it sorts them
-    /// once, so n keys cost n log n steps.
+    /// Its keys by rank. Where they stand so it lends them, after one pass over them at most; else it sorts
+    /// them once, so n keys cost n log n steps.
     ///
     /// # Errors
     /// Answers want of memory.

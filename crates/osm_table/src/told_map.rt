@@ -21,6 +21,10 @@ use std::marker::Model;
 /// What a download tells of the objects: a map from keys of a server to what it tells of them. The
 /// keys keep the order in which they were first put.
 ///
+/// While keys come by rank, as in a file of osmium, a key is found by about log n comparisons and
+/// none is hashed; the first new one that doesn't come so has all of them hashed, once, and from
+/// then on a key is found by one look-up. That is what a search costs below.
+///
 /// What is told of an object is kept as the entry of which no more is known, in the block that the
 /// table and its patches share later. All that are mentioned share one.
 #[derive(Drop)]
@@ -70,7 +74,8 @@ impl ToldMap {
         })
     }
 
-    /// Sets what is told of a key.
+    /// Sets what is told of a key. Where keys come by rank, one behind all others costs one comparison;
+    /// another costs a search.
     ///
     /// # Errors
     /// Answers want of memory, and then nothing has changed.
@@ -84,7 +89,7 @@ impl ToldMap {
     }
 
     /// Mentions a key, where nothing is told of it yet, and answers whether it is told of as there.
-    /// One look-up, and one more for a new key; none for a key that stands behind the one that was
+    /// One search, and one more for a new key; none for a key that stands behind the one that was
     /// mentioned before, as a way's next node often does.
     ///
     /// # Errors
@@ -139,7 +144,8 @@ impl ToldMap {
         self.closed
     }
 
-    /// The entry of an object of which no more is known than what is told of this key.
+    /// The entry of an object of which no more is known than what is told of this key. It costs one
+    /// search.
     pub fn get(&self, key: Key) -> Option<&SharedEntry>
         ensures value { option_copied result ≡ option_map entry_told (told_at self.now key) }
         ensures told_map { IsToldMap self.now.told }
@@ -149,7 +155,8 @@ impl ToldMap {
 
     /// As `get`, with a place to look at first, and with the place behind the one where the key
     /// stands. Who goes over keys in the order in which they were put, each time from the place that
-    /// the last gave, pays no look-up; a key that isn't at the place costs one.
+    /// the last gave, pays no search; a key that isn't at the place costs one. Where keys came by rank
+    /// it is then sought on one side of that place alone.
     pub fn get_near(&self, near: usize, key: Key) -> Option<(usize, &SharedEntry)>
         ensures { option_map (λ found. found.1.now) result ≡ option_map entry_told (told_at self.now key) }
     {
@@ -157,7 +164,7 @@ impl ToldMap {
     }
 
     /// The place of a key among those that were put, counted from 0. The place `near` is looked at
-    /// first; else it costs one search, as `get` does.
+    /// first; else it costs one search.
     pub fn place_near(&self, near: usize, key: Key) -> Option<usize>
         ensures some { IfSome result (λ place. slice_get self.now.order place ≡ Some key) }
         ensures none { IfNone result (told_at self.now key ≡ None) }
@@ -184,7 +191,7 @@ impl ToldMap {
     }
 
     /// The `i`th key that was put, and the entry of which no more is known than what is told of it.
-    /// It costs no look-up.
+    /// It costs no search.
     pub fn entry_at(&self, i: usize) -> (Key, &SharedEntry)
         requires { i < length self.now.order }
         ensures key { slice_get self.now.order i ≡ Some result.0 }
@@ -194,8 +201,8 @@ impl ToldMap {
         self.entries.entry_at(i)
     }
 
-    /// Its keys by rank. Where they were put so it lends them, after one pass over them; else it sorts
-    /// them once.
+    /// Its keys by rank. Where they came so it lends them, which costs nothing. Hashed ones are compared
+    /// with their neighbours once, and sorted where they don't stand by rank.
     ///
     /// # Errors
     /// Answers want of memory.
@@ -205,8 +212,8 @@ impl ToldMap {
         self.entries.ordered()
     }
 
-    /// The table of which no more is known than what is told, which shares its entries. It hashes the keys
-    /// that came by rank, and else copies the hashed map.
+    /// The table of which no more is known than what is told, which shares its entries. It hashes each
+    /// key that came by rank, once; a map that is hashed already is copied.
     ///
     /// # Errors
     /// Answers want of memory.

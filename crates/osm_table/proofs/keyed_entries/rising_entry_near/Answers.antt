@@ -1,5 +1,5 @@
 use Rattle.std.proofs.Common.{◌∙◌, sym, ap, arith, refl, length}
-use Rattle.std.specs.Option.{option_copied, option_map}
+use Rattle.std.specs.Option.{option_map}
 use Rattle.std.proofs.lemmas.Option.{slice_get_read}
 use Rattle.osm_table.proofs.OrderLaws.{found_at, found_nowhere}
 use Rattle.osm_table.proofs.keyed_entries.rising_entry_near.Goals as goal

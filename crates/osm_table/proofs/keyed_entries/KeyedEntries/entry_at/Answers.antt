@@ -1,8 +1,7 @@
-use Rattle.std.proofs.Common.{◌≡◌, ◌<◌, ◌∙◌, List, Some, length, sym, ap, subst}
+use Rattle.std.proofs.Common.{◌≡◌, ◌<◌, ◌∙◌, List, Some, sym, ap, subst}
 use Rattle.std.specs.Map.{keys_of, lookup}
-use Rattle.std.specs.Prelude.{slice_get, IfSome, T}
+use Rattle.std.specs.Prelude.{slice_get}
 use Rattle.osm_base.specs.KeyEq.{eq}
-use Rattle.osm_base.specs.RisingKeys.{rises, is_in}
 use Rattle.osm_base.specs.declared.key.Key.{Key}
 use Rattle.osm_table.specs.InOrder.{entries_kept, IsInPlace}
 use Rattle.osm_table.specs.declared.entry.Entry.{Entry}
