@@ -141,7 +141,13 @@ below_last : (x k : Key) (ks : List Key) → IsBelow x (ks ++ k ∷ []) → rank
 below_last x k [] h = less_from_T _ (first_T _ _ h)
 below_last x k (y ∷ ks) h = below_last x k ks (second_T _ _ h)
 
--- the last of keys that rise is new
+-- the others come before the last of keys that rise
+pub before_last : (ks : List Key) (k : Key) (i : ℕ) (d : Key) → T (rises (ks ++ k ∷ [])) → i < length ks → rank_cmp (get_or ks i d) k ≡ Less
+before_last [] k i d h l = absurd (omega (arith, l))
+before_last (x ∷ ks) k zero d h l = below_last x k ks (first_T _ _ h)
+before_last (x ∷ ks) k (suc i) d h l = before_last ks k i d (second_T _ _ h) (omega (arith, l))
+
+-- and it is new
 pub last_new : (ks : List Key) (k : Key) → T (rises (ks ++ k ∷ [])) → is_in k ks ≡ false
 last_new [] k h = refl
 last_new (x ∷ ks) k h = rw (less_apart x k (below_last x k ks (first_T _ _ h))) (last_new ks k (second_T _ _ h))

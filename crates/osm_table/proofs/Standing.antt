@@ -2,6 +2,7 @@
 use Rattle.std.proofs.Common.{◌≡◌, ◌∙◌, ℕ, ◌+◌, ◌<◌, ◌≤◌, ◌-◌, true, is_some, List, [], ◌∷◌, ◌++◌, length, take, get_or, refl, sym, ap, subst, arith}
 use Rattle.std.specs.Prelude.{T}
 use Rattle.std.specs.Bool.{passes}
+use Rattle.std.specs.Cmp.{both_ways}
 use Rattle.std.specs.List.{list_any}
 use Rattle.std.specs.Map.{keys_of}
 use Rattle.std.specs.Ordering.{is_lt}
@@ -14,6 +15,8 @@ use Rattle.osm_base.specs.RisingKeys.{rises}
 use Rattle.osm_base.specs.declared.key.Key.{Key}
 use Rattle.osm_base.proofs.ByRank.{rises_keys, rises_on}
 use Rattle.osm_base.proofs.RisingKeys.{same_keys}
+use Rattle.osm_base.proofs.Tests.{true_from_T}
+use Rattle.osm_table.proofs.OrderLaws.{before_last}
 
 -- one key rises
 pub one_rises : (ks : List Key) → T (rises (take 1 ks))
@@ -30,7 +33,7 @@ more_rise ks i d e some within less h =
     subst (λ (xs : List Key). T (rises xs)) (sym next) (rises_on (take (i - 1) ks) (get_or ks (i - 1) d) (get_or ks i e) (subst (λ (xs : List Key). T (rises xs)) front h) (passes _ less))
 
 -- keys rise on with one behind the last
-pub behind_rise : (ks : List Key) (k d : Key) → T (rises ks) → (0 < length ks → is_lt (rank_cmp (get_or ks (length ks - 1) d) k) ≡ true) → T (rises (ks ++ k ∷ []))
+behind_rise : (ks : List Key) (k d : Key) → T (rises ks) → (0 < length ks → is_lt (rank_cmp (get_or ks (length ks - 1) d) k) ≡ true) → T (rises (ks ++ k ∷ []))
 behind_rise [] k d h less = tt
 behind_rise (x ∷ xs) k d h less =
     let ks : List Key = x ∷ xs in
@@ -44,6 +47,12 @@ behind_rise (x ∷ xs) k d h less =
     let front : take (length ks) all ≡ ks = take-append-le (length ks) ks (k ∷ []) (omega arith) ∙ take_all (length ks) ks (omega arith) in
     let more : T (rises (take (length ks + 1) all)) = more_rise all (length ks) d k (omega arith) (omega (arith, long)) next (subst (λ (js : List Key). T (rises js)) (sym front) h) in
     subst (λ (js : List Key). T (rises js)) (take_all (length ks + 1) all (omega (arith, long))) more
+
+-- just where it comes behind the last
+pub behind_is : (ks : List Key) (k d : Key) → T (rises ks) → 0 < length ks → is_lt (rank_cmp (get_or ks (length ks - 1) d) k) ≡ rises (ks ++ k ∷ [])
+behind_is ks k d h some =
+    both_ways _ _ (λ less. true_from_T _ (behind_rise ks k d h (λ _. less)))
+    (λ more. ap is_lt (before_last ks k (length ks - 1) d (passes _ more) (omega (arith, some))))
 
 pub all_rise : (ks : List Key) (i : ℕ) → length ks ≤ i → T (rises (take i ks)) → T (rises ks)
 all_rise ks i all h = subst (λ (xs : List Key). T (rises xs)) (take_all i ks all) h

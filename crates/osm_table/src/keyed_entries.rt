@@ -182,6 +182,7 @@ impl KeyedEntries {
     }
 }
 
+/// Sets the entry of a key, as `insert` says.
 fn insert_in(form: &mut Form, key: Key, entry: SharedEntry) -> Result<(), AllocError>
     requires { IsInPlace form.old }
     ensures ok { OnOk result (entries_kept form.new ≡ insert_entry eq (entries_kept form.old) key entry) }

@@ -1,5 +1,5 @@
 //! Places among keys that rise by rank.
-ghost use Rattle.std.specs.Prelude.{◌≡◌, ◌<◌, ◌≤◌, ◌++◌, ◌∷◌, ◌&&◌, [], T, true, false, Some, IfSome, IfNone, length, nat_lt, slice_get, slice_index_or};
+ghost use Rattle.std.specs.Prelude.{◌≡◌, ◌<◌, ◌≤◌, ◌++◌, ◌∷◌, ◌&&◌, [], T, false, Some, IfSome, IfNone, length, nat_lt, slice_get, slice_index_or};
 ghost use Rattle.std.specs.Ordering.{is_lt};
 ghost use Rattle.osm_base.specs.Rank.{rank_cmp, is_key};
 ghost use Rattle.osm_base.specs.RisingKeys.{rises, is_in, place_in};
@@ -35,10 +35,10 @@ pub fn place_of(keys: &[Key], key: Key) -> Option<usize>
     place_between(keys, 0, keys.len(), key)
 }
 
-/// Whether a key comes behind all keys of a list that rises.
+/// Whether keys that rise do so with another behind them.
 pub fn is_behind(keys: &[Key], key: Key) -> bool
     requires { T (rises keys.now) }
-    ensures { result ≡ true → T (rises (keys.now ++ key ∷ [])) }
+    ensures { result ≡ rises (keys.now ++ key ∷ []) }
 {
     keys.is_empty() || rank(keys[keys.len() - 1], key).is_lt()
 }

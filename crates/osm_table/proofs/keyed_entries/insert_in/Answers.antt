@@ -1,4 +1,5 @@
 use Rattle.std.proofs.Common.{◌≡◌, ◌∙◌, ◌++◌, ◌∷◌, [], List, length, sym, ap, arith, subst}
+use Rattle.std.specs.Bool.{passes}
 use Rattle.std.specs.List.{zip, IsDistinct}
 use Rattle.std.specs.Prelude.{slice_get, Some, T}
 use Rattle.std.proofs.lemmas.List.{length_push, length-set}
@@ -15,7 +16,7 @@ pub returns-in_ok-push-in-Rising-clause-ok : goal.returns-in_ok-push-in-Rising-c
 returns-in_ok-push-in-Rising-clause-ok c =
     let kept = subst IsInPlace c.in-Rising.is c.requires in
     let keys = c.in-Rising.keys.items in
-    let longer = subst (λ (ks : List Key). T (rises (ks ++ c.args.key ∷ []))) c.deref.ensures.value (c.is_behind.ensures c.if-is_behind.true) in
+    let longer = subst (λ (ks : List Key). T (rises (ks ++ c.args.key ∷ []))) c.deref.ensures.value (passes _ (sym c.is_behind.ensures ∙ c.if-is_behind.true)) in
     (λ j. zip (c.in_ok-push-in-Rising.ensures.keys_ok j) (c.in_ok-push-in-Rising.ensures.entries_ok j))
     ∙ put_last keys c.in-Rising.entries.items c.args.key c.args.entry kept.1 (last_new keys c.args.key longer)
     ∙ ap (λ (ps : List (Key × Entry)). insert_entry eq ps c.args.key c.args.entry) (ap entries_kept (sym c.in-Rising.is))
@@ -23,7 +24,7 @@ returns-in_ok-push-in-Rising-clause-ok c =
 pub returns-in_ok-push-in-Rising-clause-unique : goal.returns-in_ok-push-in-Rising-clause-unique
 returns-in_ok-push-in-Rising-clause-unique c =
     let kept = subst IsInPlace c.in-Rising.is c.requires in
-    let longer = subst (λ (ks : List Key). T (rises (ks ++ c.args.key ∷ []))) c.deref.ensures.value (c.is_behind.ensures c.if-is_behind.true) in
+    let longer = subst (λ (ks : List Key). T (rises (ks ++ c.args.key ∷ []))) c.deref.ensures.value (passes _ (sym c.is_behind.ensures ∙ c.if-is_behind.true)) in
     let rising = subst (λ (ks : List Key). T (rises ks)) (sym c.in_ok-push-in-Rising.ensures.keys_ok) longer in
     let keys_len = ap (λ (ks : List Key). length ks) c.in_ok-push-in-Rising.ensures.keys_ok ∙ length_push c.in-Rising.keys.items c.args.key in
     let entries_len = ap (λ (es : List Entry). length es) c.in_ok-push-in-Rising.ensures.entries_ok ∙ length_push c.in-Rising.entries.items c.args.entry in
