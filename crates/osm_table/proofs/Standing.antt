@@ -1,5 +1,5 @@
 -- Keys that stand by rank.
-use Rattle.std.proofs.Common.{◌≡◌, ◌∙◌, ℕ, ◌+◌, ◌<◌, ◌≤◌, ◌-◌, true, is_some, List, [], ◌∷◌, ◌++◌, length, take, get_or, refl, sym, ap, subst, arith}
+use Rattle.std.proofs.Common.{◌≡◌, ◌∙◌, ℕ, ◌+◌, ◌<◌, ◌≤◌, ◌-◌, true, is_some, List, [], ◌∷◌, ◌++◌, length, take, get_or, sym, ap, subst, arith}
 use Rattle.std.specs.Prelude.{T}
 use Rattle.std.specs.Bool.{passes}
 use Rattle.std.specs.Cmp.{both_ways}
@@ -8,7 +8,7 @@ use Rattle.std.specs.Map.{keys_of}
 use Rattle.std.specs.Ordering.{is_lt}
 use Rattle.std.specs.FinMap as fin
 use Rattle.std.specs.FinMap.Entries.{is_some-find}
-use Rattle.std.proofs.lemmas.List.{take_more, take_all, take-append-le, get_or_append_left, get_or-append_right, length_push}
+use Rattle.std.proofs.lemmas.List.{take_more, take_all}
 use Rattle.osm_base.specs.Rank.{rank_cmp, is_key}
 use Rattle.osm_base.specs.RankLaws.{rank_total}
 use Rattle.osm_base.specs.RisingKeys.{rises}
@@ -32,26 +32,17 @@ more_rise ks i d e some within less h =
     let next : take (i + 1) ks ≡ (take (i - 1) ks ++ get_or ks (i - 1) d ∷ []) ++ get_or ks i e ∷ [] = take_more ks i e within ∙ ap (λ (xs : List Key). xs ++ get_or ks i e ∷ []) front in
     subst (λ (xs : List Key). T (rises xs)) (sym next) (rises_on (take (i - 1) ks) (get_or ks (i - 1) d) (get_or ks i e) (subst (λ (xs : List Key). T (rises xs)) front h) (passes _ less))
 
--- keys rise on with one behind the last
-behind_rise : (ks : List Key) (k d : Key) → T (rises ks) → (0 < length ks → is_lt (rank_cmp (get_or ks (length ks - 1) d) k) ≡ true) → T (rises (ks ++ k ∷ []))
-behind_rise [] k d h less = tt
-behind_rise (x ∷ xs) k d h less =
-    let ks : List Key = x ∷ xs in
-    let all : List Key = ks ++ k ∷ [] in
-    let long : length all ≡ length ks + 1 = length_push ks k in
-    let last : get_or all (length ks - 1) d ≡ get_or ks (length ks - 1) d = get_or_append_left ks (k ∷ []) d (length ks - 1) (omega arith) in
-    let new : get_or all (length ks) k ≡ get_or (k ∷ []) (length ks - length ks) k = get_or-append_right ks (k ∷ []) (length ks) (length ks) k refl (omega arith) in
-    let none : length ks - length ks ≡ 0 = omega arith in
-    let this : get_or all (length ks) k ≡ k = new ∙ ap (λ n. get_or (k ∷ []) n k) none in
-    let next : is_lt (rank_cmp (get_or all (length ks - 1) d) (get_or all (length ks) k)) ≡ true = (λ i. is_lt (rank_cmp (last i) (this i))) ∙ less (omega arith) in
-    let front : take (length ks) all ≡ ks = take-append-le (length ks) ks (k ∷ []) (omega arith) ∙ take_all (length ks) ks (omega arith) in
-    let more : T (rises (take (length ks + 1) all)) = more_rise all (length ks) d k (omega arith) (omega (arith, long)) next (subst (λ (js : List Key). T (rises js)) (sym front) h) in
-    subst (λ (js : List Key). T (rises js)) (take_all (length ks + 1) all (omega (arith, long))) more
+behind_rise : (ks : List Key) (k d : Key) → T (rises ks) → 0 < length ks → is_lt (rank_cmp (get_or ks (length ks - 1) d) k) ≡ true → T (rises (ks ++ k ∷ []))
+behind_rise ks k d h some less =
+    let last : Key = get_or ks (length ks - 1) d in
+    let here : length ks - 1 + 1 ≡ length ks = omega (arith, some) in
+    let split : ks ≡ take (length ks - 1) ks ++ last ∷ [] = sym (take_all (length ks) ks (omega arith)) ∙ ap (λ n. take n ks) (sym here) ∙ take_more ks (length ks - 1) d (omega (arith, some)) in
+    subst (λ (xs : List Key). T (rises (xs ++ k ∷ []))) (sym split) (rises_on (take (length ks - 1) ks) last k (subst (λ (xs : List Key). T (rises xs)) split h) (passes _ less))
 
--- just where it comes behind the last
+-- keys rise on just where the next comes behind the last
 pub behind_is : (ks : List Key) (k d : Key) → T (rises ks) → 0 < length ks → is_lt (rank_cmp (get_or ks (length ks - 1) d) k) ≡ rises (ks ++ k ∷ [])
 behind_is ks k d h some =
-    both_ways _ _ (λ less. true_from_T _ (behind_rise ks k d h (λ _. less)))
+    both_ways _ _ (λ less. true_from_T _ (behind_rise ks k d h some less))
     (λ more. ap is_lt (before_last ks k (length ks - 1) d (passes _ more) (omega (arith, some))))
 
 pub all_rise : (ks : List Key) (i : ℕ) → length ks ≤ i → T (rises (take i ks)) → T (rises ks)
