@@ -1,4 +1,7 @@
 pub mod Each
+mod Halving
+mod InPlace
+mod OrderLaws
 mod Standing
 pub mod SameLaws
 pub mod ToldLaws
