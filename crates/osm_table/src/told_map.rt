@@ -1,5 +1,5 @@
 //! What a download tells of the objects.
-ghost use Rattle.std.specs.Prelude.{◌≡◌, ◌<◌, true, [], Some, IfOk, OnOk, OnErr, length, slice_get, is_some};
+ghost use Rattle.std.specs.Prelude.{◌≡◌, ◌<◌, true, [], Some, None, IfOk, IfSome, IfNone, OnOk, OnErr, length, slice_get, is_some};
 ghost use Rattle.std.specs.Option.{option_copied, option_map};
 ghost use Rattle.std.specs.List.{list_any, IsDistinct};
 ghost use Rattle.std.specs.FinMap as map;
@@ -9,7 +9,7 @@ ghost use Rattle.osm_table.specs.Table.{IsPositive};
 ghost use Rattle.osm_table.specs.Told.{entry_told, told_of, told_at, with_told, with_mention, is_told_there, table_told, IsClosed, IsTold, IsToldMap};
 
 use crate::entry::Base;
-use crate::key_map::{get_near, ordered};
+use crate::key_map::{get_near, ordered, place_near};
 use crate::ordered::Ordered;
 use crate::own_table::OwnTable;
 use crate::shared_entry::{EntryParts, SharedEntry};
@@ -155,6 +155,15 @@ impl ToldMap {
         ensures { option_map (λ found. found.1.now) result ≡ option_map entry_told (told_at self.now key) }
     {
         get_near(&self.entries, near, key)
+    }
+
+    /// The place of a key among those that were put, counted from 0. The place `near` is looked at
+    /// first; else it costs one search.
+    pub fn place_near(&self, near: usize, key: Key) -> Option<usize>
+        ensures some { IfSome result (λ place. slice_get self.now.order place ≡ Some key) }
+        ensures none { IfNone result (told_at self.now key ≡ None) }
+    {
+        place_near(&self.entries, near, key)
     }
 
     /// The number of its keys.
