@@ -22,8 +22,10 @@ mod dataset;
 mod difference;
 mod draft;
 mod edit;
+mod index;
 mod pairs;
 mod patch;
+mod told_index;
 mod writes;
 
 pub use dataset::DataSet;
