@@ -90,6 +90,7 @@ impl ToldIndex {
     }
 }
 
+/// The users of a key. No place is likelier than another, so none is looked at first.
 fn users_at<'a>(told: &ToldMap, lists: &'a Lists, of: Key) -> &'a [Key]
     requires { AreBeside told.now lists.now.users.items lists.now.others }
     ensures rises { T (rises result.now) }
@@ -151,6 +152,7 @@ fn put_entry(
     }
 }
 
+/// As `put_entry`, for a content.
 fn put_content(
     lists: &mut Lists,
     told: &ToldMap,
