@@ -16,7 +16,7 @@ use std::alloc::{AllocError, Global};
 use std::marker::Model;
 use std::slice;
 
-/// Keys that rise by rank, each once.
+/// The users of one key: keys that rise by rank, each once.
 #[derive(Drop)]
 pub struct Users {
     alloc: Global,
@@ -47,6 +47,7 @@ impl Model for Users {
 }
 
 impl Users {
+    /// No users. It takes no block.
     pub fn new(alloc: Global) -> Self
         ensures { result ≡ [] }
     {
@@ -56,7 +57,7 @@ impl Users {
         }
     }
 
-    /// The keys, by rank.
+    /// The keys, by rank. Costs nothing.
     pub fn as_slice(&self) -> &[Key]
         ensures value { result.now ≡ self.now }
         ensures rises { T (rises self.now) }
@@ -65,7 +66,8 @@ impl Users {
     }
 
     /// Puts the key into its place, and answers whether it is new. Where it stands already nothing
-    /// changes.
+    /// changes. With u keys it costs about log u comparisons, and one move of the keys behind a new
+    /// one.
     ///
     /// # Errors
     ///
@@ -79,7 +81,8 @@ impl Users {
         Ok(first)
     }
 
-    /// Takes the key out. Where it doesn't stand nothing changes.
+    /// Takes the key out. Where it doesn't stand nothing changes. It costs what `put` does, and takes
+    /// no memory.
     pub fn take(&mut self, key: Key)
         ensures { self.new ≡ without_key key self.old }
     {
