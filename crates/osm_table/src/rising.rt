@@ -1,38 +1,38 @@
 //! Places among keys that rise by rank.
-ghost use Rattle.std.specs.Prelude.{◌≡◌, ◌<◌, ◌≤◌, ◌++◌, ◌∷◌, ◌&&◌, [], T, false, Some, IfSome, IfNone, length, nat_lt, slice_get, slice_index_or};
+ghost use Rattle.std.specs.Prelude.{◌≡◌, ◌<◌, ◌++◌, ◌∷◌, ◌&&◌, [], T, false, Some, IfSome, IfNone, length, nat_lt, slice_get, slice_index_or};
 ghost use Rattle.std.specs.Ordering.{is_lt};
 ghost use Rattle.osm_base.specs.Rank.{rank_cmp, is_key};
 ghost use Rattle.osm_base.specs.RisingKeys.{rises, is_in, place_in};
 
 use osm_base::{Key, rank, same_key};
-use std::cmp::Ordering;
 
-/// The place of a key among keys that rise. The place `near` is looked at first: where another key
-/// stands there, the key can only be on one side of it, and that side is halved.
+/// The place of a key among keys that rise. The place `near` is looked at first.
 pub fn place_near(keys: &[Key], near: usize, key: Key) -> Option<usize>
     requires { T (rises keys.now) }
     ensures some { IfSome result (λ place. slice_get keys.now place ≡ Some key) }
     ensures within { IfSome result (λ place. place < length keys.now) }
     ensures none { IfNone result (is_in key keys.now ≡ false) }
 {
-    if near >= keys.len() {
-        return place_of(keys, key);
+    if stands_at(keys, near, key) {
+        return Some(near);
     }
-    match rank(keys[near], key) {
-        Ordering::Less => place_between(keys, near + 1, keys.len(), key),
-        Ordering::Equal => Some(near),
-        Ordering::Greater => place_between(keys, 0, near, key),
-    }
+    place_of(keys, key)
 }
 
-/// The place of a key among keys that rise, found by halving.
+/// The place of a key among keys that rise, found by halving. It halves all of them, since the places
+/// that are looked at first are then always the same, and stay in the cache.
 pub fn place_of(keys: &[Key], key: Key) -> Option<usize>
     requires { T (rises keys.now) }
     ensures some { IfSome result (λ place. slice_get keys.now place ≡ Some key) }
     ensures within { IfSome result (λ place. place < length keys.now) }
     ensures none { IfNone result (is_in key keys.now ≡ false) }
 {
-    place_between(keys, 0, keys.len(), key)
+    let place = halved(keys, key);
+    if stands_at(keys, place, key) {
+        Some(place)
+    } else {
+        None
+    }
 }
 
 /// Whether keys that rise do so with another behind them.
@@ -43,33 +43,12 @@ pub fn is_behind(keys: &[Key], key: Key) -> bool
     keys.is_empty() || rank(keys[keys.len() - 1], key).is_lt()
 }
 
-/// The place of a key that would go between two places.
-fn place_between(keys: &[Key], start: usize, end: usize, key: Key) -> Option<usize>
-    requires rises { T (rises keys.now) }
-    requires start { start ≤ place_in key keys.now }
-    requires end { place_in key keys.now ≤ end }
-    requires within { end ≤ length keys.now }
-    ensures some { IfSome result (λ place. slice_get keys.now place ≡ Some key) }
-    ensures within { IfSome result (λ place. place < length keys.now) }
-    ensures none { IfNone result (is_in key keys.now ≡ false) }
-{
-    let place = halved(keys, start, end, key);
-    if stands_at(keys, place, key) {
-        Some(place)
-    } else {
-        None
-    }
-}
-
-/// How many keys come before one that goes between two places.
-fn halved(keys: &[Key], start: usize, end: usize, key: Key) -> usize
-    requires rises { T (rises keys.now) }
-    requires start { start ≤ place_in key keys.now }
-    requires end { place_in key keys.now ≤ end }
-    requires within { end ≤ length keys.now }
+/// How many keys come before one.
+fn halved(keys: &[Key], key: Key) -> usize
+    requires { T (rises keys.now) }
     ensures { result ≡ place_in key keys.now }
 {
-    start + keys[start..end].partition_point(|other| is_before(other, key))
+    keys.partition_point(|other| is_before(other, key))
 }
 
 fn is_before(a: &Key, b: Key) -> bool

@@ -155,8 +155,7 @@ impl ToldMap {
 
     /// As `get`, with a place to look at first, and with the place behind the one where the key
     /// stands. Who goes over keys in the order in which they were put, each time from the place that
-    /// the last gave, pays no search; a key that isn't at the place costs one. Where keys came by rank
-    /// it is then sought on one side of that place alone.
+    /// the last gave, pays no search; a key that isn't at the place costs one.
     pub fn get_near(&self, near: usize, key: Key) -> Option<(usize, &SharedEntry)>
         ensures { option_map (λ found. found.1.now) result ≡ option_map entry_told (told_at self.now key) }
     {
