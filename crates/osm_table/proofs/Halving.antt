@@ -1,13 +1,14 @@
--- Where a key stands among keys that rise, found by halving.
-use Rattle.std.proofs.Common.{◌≡◌, ℕ, zero, suc, ◌+◌, ◌<◌, ◌≤◌, ◌&&◌, Bool, true, false, cond, List, [], ◌∷◌, length, get_or, Some, refl, sym, ◌∙◌, ap, arith, subst, Ordering}
+-- Where a key stands among keys that rise, found by halving the part in which it can be.
+use Rattle.std.proofs.Common.{◌≡◌, ℕ, zero, suc, ◌+◌, ◌-◌, ◌<◌, ◌≤◌, ◌&&◌, Bool, true, false, cond, List, [], ◌∷◌, length, get_or, Some, refl, sym, ◌∙◌, ap, arith, subst, Ordering}
 use Rattle.std.specs.declared.cmp.Ordering.TheVariants.{Less, Equal, Greater}
 use Rattle.std.specs.Ordering.{is_lt, is_eq}
 use Rattle.std.specs.Cmp.{both_ways}
+use Rattle.std.specs.List.{slice_range}
 use Rattle.std.specs.List.Sorted.{IsPartitionedBy, IsPartitionPoint}
 use Rattle.std.specs.Prelude.{nat_lt, slice_get, T}
 use Rattle.std.specs.FinMap.Entries.{below_all}
-use Rattle.std.proofs.lemmas.Bool.{ltb-true, lt-ltb, and_parts}
-use Rattle.std.proofs.lemmas.List.Sums.{prefix_len_is}
+use Rattle.std.proofs.lemmas.Bool.{ltb-true, ltb-false, lt-ltb, and_parts}
+use Rattle.std.proofs.lemmas.List.Edits.{length-between, get_or-between}
 use Rattle.std.proofs.lemmas.Option.{slice_get-get_or}
 use Rattle.osm_base.specs.declared.key.Key.{Key}
 use Rattle.osm_base.specs.Rank.{rank_cmp, is_key}
@@ -46,14 +47,47 @@ pub before_place : (k : Key) (ks : List Key) (i : ℕ) (d : Key) → T (rises ks
 before_place k [] i d h l = absurd (omega (arith, l))
 before_place k (x ∷ ks) i d h l = before_step k x ks i d (is_lt (rank_cmp x k)) refl (first_T _ _ h) l (λ j m. before_place k ks j d (second_T _ _ h) m)
 
-pub parted : (k : Key) (ks : List Key) → T (rises ks) → IsPartitionedBy (λ j. is_lt (rank_cmp j k)) ks
-parted k ks h i j d le l passed =
-    let far : j < place_in k ks = ltb-true j (place_in k ks) (sym (before_place k ks j d h l) ∙ passed) in
-    before_place k ks i d h (omega (arith, le, l)) ∙ lt-ltb i (place_in k ks) (omega (arith, far, le))
+-- a key goes behind a place whose key comes before it, and no further than one whose key doesn't
+pub goes_behind : (k : Key) (ks : List Key) (i : ℕ) (d : Key) → T (rises ks) → i < length ks → is_lt (rank_cmp (get_or ks i d) k) ≡ true → i ≤ place_in k ks
+goes_behind k ks i d h l e = omega (arith, ltb-true i (place_in k ks) (sym (before_place k ks i d h l) ∙ e))
 
--- the place that halving finds
-pub place_at : (k : Key) (ks : List Key) (at : ℕ) → at ≤ length ks → IsPartitionPoint (λ j. is_lt (rank_cmp j k) ≡ true) (λ j. is_lt (rank_cmp j k) ≡ false) ks at → at ≡ place_in k ks
-place_at k ks at bound point = sym (prefix_len_is (λ j. is_lt (rank_cmp j k)) ks at k bound (λ i l. point.0 i k (omega arith) l) (λ l. point.1 at k (omega arith) l))
+pub goes_no_further : (k : Key) (ks : List Key) (i : ℕ) (d : Key) → T (rises ks) → i < length ks → is_lt (rank_cmp (get_or ks i d) k) ≡ false → place_in k ks ≤ i
+goes_no_further k ks i d h l e = ltb-false i (place_in k ks) (sym (before_place k ks i d h l) ∙ e)
+
+-- The same of a part.
+
+part_before : (k : Key) (ks : List Key) (s e i : ℕ) (d : Key) → T (rises ks) → e ≤ length ks → s + i < e → is_lt (rank_cmp (get_or (slice_range ks s e) i d) k) ≡ nat_lt (s + i) (place_in k ks)
+part_before k ks s e i d h within l = ap (λ (j : Key). is_lt (rank_cmp j k)) (get_or-between ks s e i d l) ∙ before_place k ks (s + i) d h (omega (arith, within, l))
+
+pub part_parted : (k : Key) (ks : List Key) (s e : ℕ) → T (rises ks) → e ≤ length ks → IsPartitionedBy (λ j. is_lt (rank_cmp j k)) (slice_range ks s e)
+part_parted k ks s e h within i j d le l passed =
+    let m : j < e - s = omega (arith, l, length-between ks s e within) in
+    let far : s + j < place_in k ks = ltb-true (s + j) (place_in k ks) (sym (part_before k ks s e j d h within (omega (arith, m))) ∙ passed) in
+    part_before k ks s e i d h within (omega (arith, m, le)) ∙ lt-ltb (s + i) (place_in k ks) (omega (arith, far, le))
+
+before_point : (k : Key) (ks : List Key) (s e at : ℕ) → T (rises ks) → s ≤ place_in k ks → e ≤ length ks → s ≤ e → at ≤ e - s
+    → IsPartitionPoint (λ j. is_lt (rank_cmp j k) ≡ true) (λ j. is_lt (rank_cmp j k) ≡ false) (slice_range ks s e) at → s + at ≤ place_in k ks
+before_point k ks s e zero h from within order room point = omega (arith, from)
+before_point k ks s e (suc i) h from within order room point =
+    let last : s + i < place_in k ks = ltb-true (s + i) (place_in k ks) (sym (part_before k ks s e i k h within (omega (arith, order, room))) ∙ point.0 i k (omega arith) (omega arith)) in
+    omega (arith, last)
+
+behind_point : (k : Key) (ks : List Key) (s e at : ℕ) → T (rises ks) → place_in k ks ≤ e → e ≤ length ks → s ≤ e → at ≤ e - s
+    → IsPartitionPoint (λ j. is_lt (rank_cmp j k) ≡ true) (λ j. is_lt (rank_cmp j k) ≡ false) (slice_range ks s e) at → place_in k ks ≤ s + at
+behind_point k ks s e at h upto within order room point =
+    by_bool (nat_lt at (e - s))
+    (λ less. let l : at < e - s = ltb-true at (e - s) less in
+    let long : at < length (slice_range ks s e) = omega (arith, l, length-between ks s e within) in
+    ltb-false (s + at) (place_in k ks) (sym (part_before k ks s e at k h within (omega (arith, l, order))) ∙ point.1 at k (omega arith) long))
+    (λ more. omega (arith, ltb-false at (e - s) more, upto, order))
+
+-- the place that halving a part finds
+pub part_place : (k : Key) (ks : List Key) (s e at : ℕ) → T (rises ks) → s ≤ place_in k ks → place_in k ks ≤ e → e ≤ length ks → at ≤ length (slice_range ks s e)
+    → IsPartitionPoint (λ j. is_lt (rank_cmp j k) ≡ true) (λ j. is_lt (rank_cmp j k) ≡ false) (slice_range ks s e) at → s + at ≡ place_in k ks
+part_place k ks s e at h from upto within bound point =
+    let order : s ≤ e = omega (arith, from, upto) in
+    let room : at ≤ e - s = omega (arith, bound, length-between ks s e within) in
+    omega (arith, before_point k ks s e at h from within order room point, behind_point k ks s e at h upto within order room point)
 
 -- A key stands at its place, or nowhere.
 

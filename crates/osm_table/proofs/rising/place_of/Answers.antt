@@ -1,9 +1,5 @@
-use Rattle.std.proofs.Common.{◌∙◌, sym}
-use Rattle.osm_table.proofs.Halving.{stands_there, stands_nowhere}
+use Rattle.osm_base.proofs.RisingKeys.{place_le}
 use Rattle.osm_table.proofs.rising.place_of.Goals as goal
 
-pub returns-then-stands_at-clause-some : goal.returns-then-stands_at-clause-some
-returns-then-stands_at-clause-some c = stands_there c.args.key c.args.keys.now c.halved-place.result (sym c.stands_at.ensures ∙ c.if-stands_at.true)
-
-pub returns-else-stands_at-clause-none : goal.returns-else-stands_at-clause-none
-returns-else-stands_at-clause-none c = stands_nowhere c.args.key c.args.keys.now c.halved-place.result c.requires c.halved-place.ensures (sym c.stands_at.ensures ∙ c.if-stands_at.false)
+pub place_between-requires-clause-end : goal.place_between-requires-clause-end
+place_between-requires-clause-end c = place_le c.args.key c.args.keys.now
