@@ -21,7 +21,7 @@ use Rattle.osm_base.specs.RisingKeys.{marked, rises, is_in}
 use Rattle.osm_base.proofs.RisingKeys.{same_keys, rises_filter, in_filter}
 use Rattle.osm_base.proofs.Tests.{both_T, first_T, second_T, less_from_T}
 
-eq_turned : (x y : Key) → eq x y ≡ eq y x
+pub eq_turned : (x y : Key) → eq x y ≡ eq y x
 eq_turned x y = rank_ties x y ∙ (eq_by_cmp_equiv rank_total).symm x y ∙ sym (rank_ties y x)
 
 dedup_one : (k : Key) (ks : List Key) → IsDistinct eq (k ∷ ks) → dedup_from eq k ks ≡ k ∷ ks

@@ -7,6 +7,7 @@ pub mod PlaceLaws
 pub mod CoordLaw
 pub mod MapViews
 pub mod RisingKeys
+pub mod Halving
 pub mod ByRank
 pub mod RankedKeys
 pub mod ExtendLaws

@@ -24,6 +24,7 @@ mod order;
 mod place;
 mod references;
 mod refs;
+mod rising;
 mod tags;
 mod text;
 
@@ -42,5 +43,6 @@ pub use order::ranked;
 pub use place::{coord_of, shift};
 pub use references::{node_key, push_references};
 pub use refs::Refs;
+pub use rising::{is_among, is_before, place_among, place_within, stands_at};
 pub use tags::Tags;
 pub use text::{Text, TextFault};
