@@ -80,10 +80,6 @@ set_sound t k e s own here lives = record {
   number = s.number;
 }
 
--- made Incomplete, or known to be there
-pub noted_sound : (t : TableValue) (k : Key) → IsSound t → IsPositive k.id → IsSound (with_entry t k Incomplete)
-noted_sound t k s positive = set_sound t k Incomplete s (incomplete_entry t.next k positive) tt (λ r u. let f : false ≡ true = u in cc)
-
 -- a new object, whose references are there
 pub new_sound : (t : TableValue) (k : Key) (c : Content) → IsSound t → IsGiven t.next k.id → kind_of_content c ≡ k.kind → IsTrue (fits c) → ((r : Key) → IsTrue (refers c r) → IsThere (entry_of t r)) → IsSound (with_entry t k (Known New (Some c) None))
 new_sound t k c s given kind fit there =

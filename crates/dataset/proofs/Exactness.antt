@@ -1,6 +1,6 @@
 -- The index is exact after a patch, if the pairs of one side go and those of the other come.
-use Rattle.std.proofs.Common.{◌≡◌, ℕ, ℤ, not, ◌+◌, ◌<◌, ◌≤◌, ◌&&◌, Bool, true, false, cond, Option, Some, None, List, [], ◌∷◌, ◌++◌, length, get_or, take, map, refl, sym, ◌∙◌, ap, arith}
-use Rattle.std.specs.Option.{option_map_or, unwrap_or}
+use Rattle.std.proofs.Common.{◌≡◌, ℕ, ℤ, not, ◌+◌, ◌<◌, ◌≤◌, ◌&&◌, ◌||◌, Bool, true, false, cond, Option, Some, None, List, [], ◌∷◌, ◌++◌, length, get_or, take, map, refl, sym, ◌∙◌, ap, arith}
+use Rattle.std.specs.Option.{option_map_or}
 use Rattle.std.specs.Prelude.{T}
 use Rattle.std.proofs.lemmas.List.{take_more}
 use Rattle.std.proofs.lemmas.List.Sums.{sum_by-cons, sum_by-append}
@@ -15,11 +15,13 @@ use Rattle.osm_base.specs.declared.content.Content.TheVariants.{Node, Way, Relat
 use Rattle.osm_table.specs.declared.entry.Entry.{Entry}
 use Rattle.osm_table.specs.Table.{TableValue, entry_of}
 use Rattle.ref_index.specs.declared.pair.Pair.{Pair}
-use Rattle.ref_index.specs.Bag.{Bag, count, times, is_pair, pair_cmp}
+use Rattle.ref_index.specs.Bag.{times, is_pair}
 use Rattle.ref_index.proofs.Agreement.{pair_parts}
 use Rattle.dataset.specs.Edit.{Edit}
 use Rattle.dataset.specs.Patch.{Entries, in_order, edit_at, edited}
-use Rattle.dataset.specs.Exact.{mine_at, refs_at, times_key, IsExact, pairs_of, pairs_by, moved_pairs, keeps_refs, same_lists}
+use Rattle.std.specs.List.{list_all}
+use Rattle.std.proofs.lemmas.Bool.{and_parts}
+use Rattle.dataset.specs.Exact.{mine_at, refs_at, times_key, IsExact, pairs_of, pairs_with, pairs_by, moved_pairs, is_none_of, keeps_pairs, keeps_refs, same_lists}
 use Rattle.dataset.specs.Sides.{side}
 use Rattle.osm_base.proofs.RisingKeys.{one_key}
 use Rattle.dataset.proofs.Looked.{get_edited, tail_none, tail_order}
@@ -86,26 +88,26 @@ pub next_edit : (side : Edit → Option Entry) (es : List Edit) (i : ℕ) (e : E
 next_edit side es i e p within at =
     ap (λ (xs : List Edit). times p (pairs_by side xs)) (take_more es i e within ∙ ap (λ (x : Edit). take i es ++ x ∷ []) (sym at)) ∙ more_edits side (take i es) e p
 
--- the pairs of what stands there are in an exact bag
-pub gone_there : (side : Edit → Option Entry) (es : List Edit) (t : TableValue) (bag : Bag) → T (in_order es) → ((k : Key) (e : Edit) → edit_at k es ≡ Some e → entry_of t k ≡ side e) → IsExact t bag → (p : Pair) → times p (pairs_by side es) ≤ count bag p
-gone_there side es t bag h stands exact p =
+-- the pairs of what stands there are counted by an exact index
+pub gone_there : (side : Edit → Option Entry) (es : List Edit) (t : TableValue) (number : Pair → ℕ) → T (in_order es) → ((k : Key) (e : Edit) → edit_at k es ≡ Some e → entry_of t k ≡ side e) → IsExact t number → (p : Pair) → times p (pairs_by side es) ≤ number p
+gone_there side es t number h stands exact p =
     let is = times_by side es p.of p.user h in
-    let there : count bag p ≡ times_key p.of (refs_at (entry_of t p.user)) = exact p.of p.user in
+    let there : number p ≡ times_key p.of (refs_at (entry_of t p.user)) = exact p.of p.user in
     by_edit _ (edit_at p.user es)
     (λ none. let z : times p (pairs_by side es) ≡ 0 = is ∙ ap (λ (o : Option Edit). option_map_or (times_moved side p.of) o 0) none in omega (arith, z))
     (λ e some.
     let z : times p (pairs_by side es) ≡ times_moved side p.of e = is ∙ ap (λ (o : Option Edit). option_map_or (times_moved side p.of) o 0) some in
-    let w : count bag p ≡ times_key p.of (refs_at (side e)) = there ∙ ap (λ (o : Option Entry). times_key p.of (refs_at o)) (stands p.user e some) in
-    let f : times_moved side p.of e ≤ count bag p = fewer (keeps_refs e) (times_key p.of (refs_at (side e))) (count bag p) w in
+    let w : number p ≡ times_key p.of (refs_at (side e)) = there ∙ ap (λ (o : Option Entry). times_key p.of (refs_at o)) (stands p.user e some) in
+    let f : times_moved side p.of e ≤ number p = fewer (keeps_refs e) (times_key p.of (refs_at (side e))) (number p) w in
     omega (arith, z, f))
 
 moved_count : (b : Bool) (gone come old new f t : ℕ) → (b ≡ true → f ≡ t) → gone ≡ cond b 0 f → come ≡ cond b 0 t → gone + new ≡ come + old → old ≡ f → new ≡ t
 moved_count true gone come old new f t kept g c m was = let same = kept refl in omega arith
 moved_count false gone come old new f t kept g c m was = omega arith
 
--- the bag is exact for the edited entries
-pub stays_exact : (from to : Edit → Option Entry) (es : List Edit) (t u : TableValue) (old new : Bag) → T (in_order es) → ((e : Edit) → keeps_refs e ≡ true → refs_at (from e) ≡ refs_at (to e)) → ((k : Key) (e : Edit) → edit_at k es ≡ Some e → entry_of t k ≡ from e)
-    → u.entries ≡ edited to es t.entries → IsExact t old → ((p : Pair) → times p (pairs_by from es) + count new p ≡ times p (pairs_by to es) + count old p) → IsExact u new
+-- the index is exact for the edited entries
+pub stays_exact : (from to : Edit → Option Entry) (es : List Edit) (t u : TableValue) (old new : Pair → ℕ) → T (in_order es) → ((e : Edit) → keeps_refs e ≡ true → refs_at (from e) ≡ refs_at (to e)) → ((k : Key) (e : Edit) → edit_at k es ≡ Some e → entry_of t k ≡ from e)
+    → u.entries ≡ edited to es t.entries → IsExact t old → ((p : Pair) → times p (pairs_by from es) + new p ≡ times p (pairs_by to es) + old p) → IsExact u new
 stays_exact from to es t u old new h kept stands is exact changed of user =
     let gone = times_by from es of user h in
     let come = times_by to es of user h in
@@ -117,13 +119,13 @@ stays_exact from to es t u old new h kept stands is exact changed of user =
     let g : times (record { of = of; user = user }) (pairs_by from es) ≡ 0 = gone ∙ ap (λ (o : Option Edit). option_map_or (times_moved from of) o 0) none in
     let c : times (record { of = of; user = user }) (pairs_by to es) ≡ 0 = come ∙ ap (λ (o : Option Edit). option_map_or (times_moved to of) o 0) none in
     let n : entry_of u user ≡ entry_of t user = now ∙ ap (λ (o : Option Edit). option_map_or to o (entry_of t user)) none in
-    let m : count new (record { of = of; user = user }) ≡ count old (record { of = of; user = user }) = omega (arith, g, c, moved) in
+    let m : new (record { of = of; user = user }) ≡ old (record { of = of; user = user }) = omega (arith, g, c, moved) in
     m ∙ there ∙ ap (λ (o : Option Entry). times_key of (refs_at o)) (sym n))
     (λ e some.
     let g : times (record { of = of; user = user }) (pairs_by from es) ≡ times_moved from of e = gone ∙ ap (λ (o : Option Edit). option_map_or (times_moved from of) o 0) some in
     let c : times (record { of = of; user = user }) (pairs_by to es) ≡ times_moved to of e = come ∙ ap (λ (o : Option Edit). option_map_or (times_moved to of) o 0) some in
     let n : entry_of u user ≡ to e = now ∙ ap (λ (o : Option Edit). option_map_or to o (entry_of t user)) some in
-    let was : count old (record { of = of; user = user }) ≡ times_key of (refs_at (from e)) = there ∙ ap (λ (o : Option Entry). times_key of (refs_at o)) (stands user e some) in
+    let was : old (record { of = of; user = user }) ≡ times_key of (refs_at (from e)) = there ∙ ap (λ (o : Option Entry). times_key of (refs_at o)) (stands user e some) in
     moved_count (keeps_refs e) _ _ _ _ _ (times_key of (refs_at (to e))) (λ k. ap (times_key of) (kept e k)) g c moved was
     ∙ ap (λ (o : Option Entry). times_key of (refs_at o)) (sym n))
 
@@ -146,12 +148,40 @@ pub kept_refs : (forth : Bool) (e : Edit) → keeps_refs e ≡ true → refs_at 
 kept_refs true e k = kept_lists (mine_at e.before) (mine_at e.after) k
 kept_refs false e k = sym (kept_lists (mine_at e.before) (mine_at e.after) k)
 
-empty_pairs : (of user : Key) (o : Option ℕ) (x : Option Entry) → o ≡ None → x ≡ None → unwrap_or o 0 ≡ times_key of (refs_at x)
-empty_pairs of user o x e f = rw (e, f) refl
+empty_pairs : (of : Key) (n : ℕ) (x : Option Entry) → n ≡ 0 → x ≡ None → n ≡ times_key of (refs_at x)
+empty_pairs of n x e f = rw (e, f) refl
 
--- an empty bag is exact for an empty table
-pub empty_exact : (t : TableValue) (bag : Bag) (n : ℕ) → t ≡ record { entries = fin.empty; next = n } → bag ≡ fin.empty → IsExact t bag
-empty_exact t bag n et eb of user =
-    empty_pairs of user (fin.get bag (record { of = of; user = user })) (entry_of t user)
-    (ap (λ (b : Bag). fin.get b (record { of = of; user = user })) eb ∙ fin.get-empty pair_cmp (record { of = of; user = user }))
+-- no pair is exact for an empty table
+pub empty_exact : (t : TableValue) (number : Pair → ℕ) (n : ℕ) → t ≡ record { entries = fin.empty; next = n } → ((p : Pair) → number p ≡ 0) → IsExact t number
+empty_exact t number n et none of user =
+    empty_pairs of (number (record { of = of; user = user })) (entry_of t user) (none (record { of = of; user = user }))
     (ap (λ (x : TableValue). entry_of x user) et ∙ fin.get-empty rank_cmp user)
+
+-- edits that keep their pairs have none that move
+no_keys : (ks : List Key) → is_none_of ks ≡ true → ks ≡ []
+no_keys [] e = refl
+no_keys (k ∷ ks) e = cc
+
+kept_case : (kept before after forth : Bool) (ps qs : List Pair) → (kept || (before && after)) ≡ true → (before ≡ true → ps ≡ []) → (after ≡ true → qs ≡ []) → cond kept [] (cond forth qs ps) ≡ []
+kept_case true before after forth ps qs e f g = refl
+kept_case false true true true ps qs e f g = g refl
+kept_case false true true false ps qs e f g = f refl
+kept_case false true false forth ps qs e f g = cc
+kept_case false false after forth ps qs e f g = cc
+
+side_pairs : (forth : Bool) (e : Edit) → pairs_of e.key (side forth e) ≡ cond forth (pairs_of e.key e.after) (pairs_of e.key e.before)
+side_pairs true e = refl
+side_pairs false e = refl
+
+none_moved : (forth : Bool) (e : Edit) → keeps_pairs e ≡ true → moved_pairs (side forth) e ≡ []
+none_moved forth e kept =
+    ap (λ (ps : List Pair). cond (keeps_refs e) [] ps) (side_pairs forth e)
+    ∙ kept_case (keeps_refs e) (is_none_of (refs_at e.before)) (is_none_of (refs_at e.after)) forth (pairs_of e.key e.before) (pairs_of e.key e.after) kept
+    (λ none. ap (pairs_with e.key) (no_keys (refs_at e.before) none))
+    (λ none. ap (pairs_with e.key) (no_keys (refs_at e.after) none))
+
+pub no_pairs_move : (forth : Bool) (es : List Edit) → list_all keeps_pairs es ≡ true → pairs_by (side forth) es ≡ []
+no_pairs_move forth [] h = refl
+no_pairs_move forth (e ∷ es) h =
+    let parts = and_parts (keeps_pairs e) (list_all keeps_pairs es) h in
+    ap (λ (ps : List Pair). ps ++ pairs_by (side forth) es) (none_moved forth e parts.0) ∙ no_pairs_move forth es parts.1

@@ -71,6 +71,3 @@ one_diff t u p q d g =
     let b = sym d.before.number ∙ g.before.number in
     let a = sym d.after.number ∙ g.after.number in
     λ i. record { edits = es i; next_before = b i; next_after = a i }
-
-pub diff_to : (t u v : TableValue) (p : PatchValue) → IsDiff t u p → v ≡ after_of p t → v ≡ u
-diff_to t u v p d e = e ∙ sym (diff_leads t u p d).to

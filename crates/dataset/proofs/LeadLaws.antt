@@ -1,10 +1,9 @@
 -- A data set led by a patch: the index stays exact, and the table is the patch's.
-use Rattle.std.proofs.Common.{◌≡◌, ℕ, ◌+◌, ◌≤◌, not, Bool, true, false, Option, List, sym, ◌∙◌, ap, subst, arith}
+use Rattle.std.proofs.Common.{◌≡◌, ℕ, ◌+◌, ◌≤◌, not, Bool, true, false, List, sym, ◌∙◌, ap, subst}
 use Rattle.std.specs.Prelude.{T}
-use Rattle.osm_table.specs.declared.entry.Entry.{Entry}
 use Rattle.osm_table.specs.Table.{TableValue}
 use Rattle.ref_index.specs.declared.pair.Pair.{Pair}
-use Rattle.ref_index.specs.Bag.{Bag, count, times}
+use Rattle.ref_index.specs.Bag.{times}
 use Rattle.dataset.specs.Edit.{Edit}
 use Rattle.dataset.specs.Patch.{PatchValue, in_order, after_of, before_of}
 use Rattle.dataset.specs.Exact.{IsExact, pairs_by}
@@ -12,24 +11,16 @@ use Rattle.dataset.specs.Sides.{side, led}
 use Rattle.dataset.proofs.Exactness.{gone_there, stays_exact, kept_refs}
 use Rattle.dataset.proofs.SideLaws.{Stands, stands_found}
 
--- each pair of one side of the edits is there so much more often
-abbrev Added : (Edit → Option Entry) → List Edit → Bag → Bag → Type 0
-Added s es old new = (p : Pair) → count new p ≡ times p (pairs_by s es) + count old p
+-- what goes is there
+pub lead_gone : (t : TableValue) (number : Pair → ℕ) (forth : Bool) (es : List Edit) → T (in_order es) → Stands (side (not forth)) es t → IsExact t number → (p : Pair) → times p (pairs_by (side (not forth)) es) ≤ number p
+lead_gone t number forth es h a exact p = gone_there (side (not forth)) es t number h (stands_found (side (not forth)) es t a) exact p
 
--- what goes is still there when more has come
-pub lead_gone : (t : TableValue) (old more : Bag) (forth : Bool) (es : List Edit) → T (in_order es) → Stands (side (not forth)) es t → IsExact t old → Added (side forth) es old more → (p : Pair) → times p (pairs_by (side (not forth)) es) ≤ count more p
-lead_gone t old more forth es h a exact added p =
-    let there = gone_there (side (not forth)) es t old h (stands_found (side (not forth)) es t a) exact p in
-    let now = added p in
-    omega (arith, there, now)
+pub lead_exact : (t u : TableValue) (old new : Pair → ℕ) (forth : Bool) (es : List Edit) → T (in_order es) → Stands (side (not forth)) es t
+    → u ≡ led (side forth) es t → IsExact t old → ((p : Pair) → times p (pairs_by (side (not forth)) es) + new p ≡ times p (pairs_by (side forth) es) + old p) → IsExact u new
+lead_exact t u old new forth es h a is exact changed =
+    stays_exact (side (not forth)) (side forth) es t u old new h (kept_refs forth) (stands_found (side (not forth)) es t a) (ap (λ (x : TableValue). x.entries) is) exact changed
 
-pub lead_exact : (t u : TableValue) (old more new : Bag) (forth : Bool) (es : List Edit) → T (in_order es) → Stands (side (not forth)) es t
-    → u ≡ led (side forth) es t → IsExact t old → Added (side forth) es old more → Added (side (not forth)) es new more → IsExact u new
-lead_exact t u old more new forth es h a is exact added taken =
-    stays_exact (side (not forth)) (side forth) es t u old new h (kept_refs forth) (stands_found (side (not forth)) es t a) (ap (λ (x : TableValue). x.entries) is) exact
-    (λ p. sym (taken p) ∙ added p)
-
-pub exact_as_it_was : (t u : TableValue) (old new : Bag) → u ≡ t → ((p : Pair) → count new p ≡ count old p) → IsExact t old → IsExact u new
+pub exact_as_it_was : (t u : TableValue) (old new : Pair → ℕ) → u ≡ t → ((p : Pair) → new p ≡ old p) → IsExact t old → IsExact u new
 exact_as_it_was t u old new et same h of user = same (record { of = of; user = user }) ∙ subst (λ (v : TableValue). IsExact v old) (sym et) h of user
 
 -- the table of the exit, by the code's equations

@@ -10,6 +10,7 @@ pub mod Arrivals
 pub mod Differs
 mod Whole
 mod ToldIndex
+mod Beside
 pub mod ToldPatch
 pub mod Kept
 pub mod Changes

@@ -15,7 +15,7 @@ use Rattle.osm_base.specs.declared.content.Content.{Content}
 use Rattle.osm_table.specs.declared.entry.Entry.{Entry}
 use Rattle.osm_table.specs.Table.{TableValue, entry_of}
 use Rattle.osm_table.specs.Table.{mine_of, uses, users, users_among}
-use Rattle.ref_index.specs.Bag.{Bag, count}
+use Rattle.ref_index.specs.declared.pair.Pair.{Pair}
 use Rattle.osm_base.specs.RisingKeys.{marked, rises, is_in}
 use Rattle.dataset.specs.Exact.{refs_at, times_key, IsExact}
 use Rattle.osm_base.proofs.RisingKeys.{one_key, same_keys}
@@ -85,7 +85,7 @@ pub user_in : (t : TableValue) (k u : Key) → is_in u (users t k) ≡ nat_lt 0 
 user_in t k u = user_uses t k u ∙ entry_uses k (entry_of t u)
 
 -- what an exact index lends
-pub lent : (t : TableValue) (bag : Bag) (k : Key) (ks : List Key) → IsExact t bag → T (rises ks) → ((u : Key) → is_in u ks ≡ nat_lt 0 (count bag (record { of = k; user = u }))) → ks ≡ users t k
-lent t bag k ks exact h members =
+pub lent : (t : TableValue) (number : Pair → ℕ) (k : Key) (ks : List Key) → IsExact t number → T (rises ks) → ((u : Key) → is_in u ks ≡ nat_lt 0 (number (record { of = k; user = u }))) → ks ≡ users t k
+lent t number k ks exact h members =
     same_keys ks (users t k) h (rises_users (λ e. uses e.1 k) (fin.entries t.entries) (fin.entries_sorted t.entries))
     (λ u. members u ∙ ap (nat_lt 0) (exact k u) ∙ sym (user_in t k u))

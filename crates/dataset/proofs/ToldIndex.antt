@@ -19,6 +19,7 @@ use Rattle.osm_table.proofs.TableTold.{table_told_at}
 use Rattle.ref_index.specs.declared.pair.Pair.{Pair}
 use Rattle.ref_index.specs.Bag.{Bag, count, times, pair_cmp}
 use Rattle.dataset.specs.Exact.{IsExact, refs_at, times_key, pairs_of}
+use Rattle.dataset.specs.ToldIndex.{refs_told}
 use Rattle.dataset.proofs.Exactness.{listed_pairs}
 
 -- the entry of an object of which no more is known than what is told
@@ -36,7 +37,7 @@ turned : (x y : Key) → eq x y ≡ false → is_key y x ≡ false
 turned x y e = key_turned y x ∙ sym (rank_ties x y) ∙ e
 
 -- a key stands once among distinct ones
-apart : (x : Key) (ks : List Key) (i : ℕ) → AllByRecursion (λ y. eq x y ≡ false) ks → (d : Key) → i < length ks → is_key (get_or ks i d) x ≡ false
+pub apart : (x : Key) (ks : List Key) (i : ℕ) → AllByRecursion (λ y. eq x y ≡ false) ks → (d : Key) → i < length ks → is_key (get_or ks i d) x ≡ false
 apart x [] i h d less = absurd (let f : i < 0 = less in omega (arith, f))
 apart x (k ∷ ks) zero h d less = turned x k h.0
 apart x (k ∷ ks) (suc i) h d less = apart x ks i h.1 d (omega (arith, less))
@@ -75,8 +76,11 @@ there_case of (Some told) true e = refl
 there_case of (Some told) false e = cc
 
 -- all objects
-pub all_indexed : (m : ToldValue) (i : ℕ) (bag : Bag) → length m.order ≤ i → ((k : Key) → list_any (is_key k) m.order ≡ is_some (told_at m k)) → AreIndexed m.told (take i m.order) bag → (next : ℕ) → IsExact (table_told m.told next) bag
-all_indexed m i bag all each indexed next of user =
-    indexed of user
-    ∙ there_case of (fin.get m.told user) (is_in user (take i m.order)) (ap (λ (ks : List Key). is_in user ks) (take_all i m.order all) ∙ each user)
-    ∙ ap (λ (o : Option Entry). times_key of (refs_at o)) (sym (table_told_at m.told next user))
+pub all_indexed : (m : ToldValue) (i : ℕ) (bag : Bag) → length m.order ≤ i → ((k : Key) → list_any (is_key k) m.order ≡ is_some (told_at m k)) → AreIndexed m.told (take i m.order) bag → (p : Pair) → count bag p ≡ times_key p.of (refs_told m p.user)
+all_indexed m i bag all each indexed p =
+    indexed p.of p.user
+    ∙ there_case p.of (fin.get m.told p.user) (is_in p.user (take i m.order)) (ap (λ (ks : List Key). is_in p.user ks) (take_all i m.order all) ∙ each p.user)
+
+-- and so is the table of what is told
+pub told_exact : (m : ToldValue) (next : ℕ) (number : Pair → ℕ) → ((p : Pair) → number p ≡ times_key p.of (refs_told m p.user)) → IsExact (table_told m.told next) number
+told_exact m next number is of user = is (record { of = of; user = user }) ∙ ap (λ (o : Option Entry). times_key of (refs_at o)) (sym (table_told_at m.told next user))

@@ -1,11 +1,11 @@
 -- A patch by which a table without objects gets all that is told.
-use Rattle.std.proofs.Common.{◌≡◌, ℕ, Bool, true, false, not, Option, Some, None, List, refl, sym, ◌∙◌, ap, subst}
+use Rattle.std.proofs.Common.{◌≡◌, ℕ, Bool, true, false, not, Some, None, List, refl, sym, ◌∙◌, ap, subst}
 use Rattle.std.specs.Option.{option_map, option_or}
 use Rattle.std.specs.List.{AllByRecursion}
 use Rattle.std.specs.FinMap as fin
 use Rattle.osm_base.specs.Rank.{rank_cmp}
 use Rattle.osm_base.specs.declared.key.Key.{Key}
-use Rattle.osm_table.specs.declared.entry.Entry.{Entry}
+use Rattle.osm_base.proofs.Tests.{option_or-none}
 use Rattle.osm_table.specs.Table.{TableValue}
 use Rattle.osm_table.specs.Told.{ToldEntries, entry_told, table_told}
 use Rattle.osm_table.proofs.Each.{same_table}
@@ -39,15 +39,11 @@ same_diff t u t₀ u₀ p n m d et eu en em = record {
   rest = λ k none. ap (λ (x : Entries). fin.get x k) (sym et) ∙ d.rest k none ∙ ap (λ (x : Entries). fin.get x k) eu;
 }
 
-or_none : (o : Option Entry) → option_or o None ≡ o
-or_none None = refl
-or_none (Some e) = refl
-
 -- where there was nothing, the table has what is told and no more
 pub told_alone : (told : ToldEntries) (t : TableValue) → t.entries ≡ fin.empty → drafted (arrivals told t.next) t ≡ table_told told t.next
 told_alone told t none =
     same_table (drafted (arrivals told t.next) t) (table_told told t.next)
-    (λ k. arrived_at told t k ∙ ap (option_or (option_map entry_told (fin.get told k))) (ap (λ (x : Entries). fin.get x k) none ∙ fin.get-empty rank_cmp k) ∙ or_none (option_map entry_told (fin.get told k)) ∙ sym (table_told_at told t.next k))
+    (λ k. arrived_at told t k ∙ ap (option_or (option_map entry_told (fin.get told k))) (ap (λ (x : Entries). fin.get x k) none ∙ fin.get-empty rank_cmp k) ∙ option_or-none (option_map entry_told (fin.get told k)) ∙ sym (table_told_at told t.next k))
     refl
 
 -- the difference of any table without objects

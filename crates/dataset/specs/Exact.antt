@@ -1,5 +1,5 @@
 -- The pairs of a table, entry by entry, and those that move with edits.
-use Rattle.std.specs.Prelude.{◌≡◌, ℕ, Bool, false, if◌then◌else◌, Option, Some, List, [], ◌∷◌, ◌++◌, map}
+use Rattle.std.specs.Prelude.{◌≡◌, ℕ, ◌&&◌, ◌||◌, Bool, true, false, if◌then◌else◌, Option, Some, List, [], ◌∷◌, ◌++◌, map}
 use Rattle.std.specs.List.{count_by}
 use Rattle.std.specs.Option.{option_map_or, option_and_then}
 use Rattle.osm_base.specs.Rank.{is_key}
@@ -11,7 +11,6 @@ use Rattle.osm_base.specs.declared.content.Content.TheVariants.{Way, Relation}
 use Rattle.osm_table.specs.declared.entry.Entry.{Entry}
 use Rattle.osm_table.specs.Table.{TableValue, entry_of, mine_of}
 use Rattle.ref_index.specs.declared.pair.Pair.{Pair}
-use Rattle.ref_index.specs.Bag.{Bag, count}
 use Rattle.dataset.specs.Edit.{Edit}
 
 -- the content that a key has now, if it lives
@@ -26,9 +25,9 @@ refs_at o = option_map_or refs_of (mine_at o) []
 abbrev pub times_key : Key → List Key → ℕ
 times_key k ks = count_by (is_key k) ks
 
--- The bag holds each reference of each living entry as often as it stands.
-abbrev pub IsExact : TableValue → Bag → Type 0
-IsExact t bag = (of user : Key) → count bag (record { of = of; user = user }) ≡ times_key of (refs_at (entry_of t user))
+-- Each reference of each living entry is counted as often as it stands, and nothing else.
+abbrev pub IsExact : TableValue → (Pair → ℕ) → Type 0
+IsExact t number = (of user : Key) → number (record { of = of; user = user }) ≡ times_key of (refs_at (entry_of t user))
 
 -- the pairs of one user with some keys
 abbrev pub pairs_with : Key → List Key → List Pair
@@ -47,6 +46,15 @@ same_lists a b = false
 -- whether an edit keeps the references as they are, as one of tags alone does
 abbrev pub keeps_refs : Edit → Bool
 keeps_refs e = same_lists (mine_at e.before) (mine_at e.after)
+
+-- whether there is none
+abbrev pub is_none_of : List Key → Bool
+is_none_of [] = true
+is_none_of (k ∷ ks) = false
+
+-- whether an edit brings no pair and takes none, as one of a node does
+abbrev pub keeps_pairs : Edit → Bool
+keeps_pairs e = keeps_refs e || (is_none_of (refs_at e.before) && is_none_of (refs_at e.after))
 
 -- the pairs that move with one side of an edit
 abbrev pub moved_pairs : (Edit → Option Entry) → Edit → List Pair

@@ -1,6 +1,8 @@
 pub mod Edit
 pub mod Patch
 pub mod Exact
+pub mod ToldIndex
+pub mod Index
 pub mod Sides
 pub mod Draft
 pub mod Arrivals

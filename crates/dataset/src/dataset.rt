@@ -11,18 +11,18 @@ ghost use Rattle.dataset.specs.Diff.{diff};
 ghost use Rattle.dataset.specs.Draft.{drafted};
 ghost use Rattle.dataset.specs.Arrivals.{arrivals};
 ghost use Rattle.dataset.specs.Exact.{IsExact};
+ghost use Rattle.dataset.specs.Index.{count_kept};
 ghost use Rattle.dataset.specs.PatchKept.{edits_told};
 ghost use Rattle.dataset.specs.Sides.{side, led};
 
 use crate::difference::{edits_of_told, edits_over, told_edits};
 use crate::draft::Draft;
 use crate::edit::Edit;
-use crate::pairs::{add_pairs, index_of, take_pairs};
+use crate::index::Index;
 use crate::patch::{Edits, Patch};
 use crate::writes::{drop_keys, put_keys, write_all, writes_of};
 use osm_base::Key;
 use osm_table::{Ordered, OwnTable, Shared, SharedEntry, Table, ToldMap};
-use ref_index::RefIndex;
 use std::alloc::{AllocError, Global};
 use std::marker::Model;
 
@@ -30,7 +30,7 @@ use std::marker::Model;
 #[derive(Drop)]
 pub struct DataSet {
     table: Table,
-    index: RefIndex,
+    index: Index,
 }
 
 impl Model for DataSet {
@@ -38,6 +38,7 @@ impl Model for DataSet {
     ghost use Rattle.osm_table.specs.TableCode.{table_code};
     ghost use Rattle.dataset.specs.Sound.{IsSound};
     ghost use Rattle.dataset.specs.Exact.{IsExact};
+    ghost use Rattle.dataset.specs.Index.{count_kept};
 
     ghost Value = { TableValue };
 
@@ -45,7 +46,7 @@ impl Model for DataSet {
 
     ghost view = { λ d. d.table };
 
-    ghost invariant = { λ d. IsSound d.table × IsExact d.table d.index };
+    ghost invariant = { λ d. IsSound d.table × IsExact d.table (count_kept d.index) };
 }
 
 impl DataSet {
@@ -55,7 +56,7 @@ impl DataSet {
     {
         DataSet {
             table: Table::new(alloc),
-            index: RefIndex::new(alloc),
+            index: Index::new(alloc),
         }
     }
 
@@ -177,8 +178,9 @@ impl DataSet {
     /// Leads the table on, from what the patch has before to what it has after. Costs the edited
     /// entries and their references; an edit that keeps the references, as one of tags alone, costs
     /// the index nothing. Where all that is told comes into a table without objects, the told map
-    /// becomes the table, so only references are walked. The patch that follows such a one costs a copy
-    /// of the told map's keys.
+    /// becomes the table, so only references are walked, with one search each at most. The patch that
+    /// follows such a one costs a copy of the told map's keys, and the first that moves a reference one
+    /// look-up for each of its references.
     ///
     /// # Errors
     ///
@@ -226,15 +228,15 @@ impl DataSet {
 /// cost.
 fn lead(
     table: &mut Table,
-    index: &mut RefIndex,
+    index: &mut Index,
     patch: &Patch,
     forth: bool,
     next: u64,
 ) -> Result<(), AllocError>
     requires stands { AllByRecursion (λ e. entry_of table.old e.key ≡ side (not forth) e) patch.now.edits }
-    requires exact { IsExact table.old index.old }
+    requires exact { IsExact table.old (count_kept index.old) }
     ensures ok { OnOk result (table.new ≡ record { entries = (led (side forth) patch.now.edits table.old).entries; next = next }) }
-    ensures exact { IsExact table.new index.new }
+    ensures exact { IsExact table.new (count_kept index.new) }
     ensures err { OnErr result (table.new ≡ table.old) }
 {
     match patch.kept() {
@@ -247,27 +249,27 @@ fn lead(
 /// has no objects, and the table is emptied where it has no others.
 fn lead_told(
     table: &mut Table,
-    index: &mut RefIndex,
+    index: &mut Index,
     told: &Shared<ToldMap>,
     forth: bool,
     next: u64,
 ) -> Result<(), AllocError>
     requires stands { AllByRecursion (λ e. entry_of table.old e.key ≡ side (not forth) e) (edits_told told.now.told) }
-    requires exact { IsExact table.old index.old }
+    requires exact { IsExact table.old (count_kept index.old) }
     ensures ok { OnOk result (table.new ≡ record { entries = (led (side forth) (edits_told told.now.told) table.old).entries; next = next }) }
-    ensures exact { IsExact table.new index.new }
+    ensures exact { IsExact table.new (count_kept index.new) }
     ensures err { OnErr result (table.new ≡ table.old) }
 {
     if forth && table.len() == 0 {
-        let pairs = index_of(told.value())?;
+        let users = Index::told(told.copy()?)?;
         *table = Table::told(told.copy()?, next);
-        *index = pairs;
+        *index = users;
         return Ok(());
     }
     if !forth && table.len() == told.value().len() {
         let mut nothing = OwnTable::new(table.alloc());
         nothing.set_next(next);
-        *index = RefIndex::new(table.alloc());
+        *index = Index::new(table.alloc());
         *table = Table::own(nothing);
         return Ok(());
     }
@@ -279,16 +281,16 @@ fn lead_told(
 /// edit, and what it costs to take the table as its own.
 fn lead_listed(
     table: &mut Table,
-    index: &mut RefIndex,
+    index: &mut Index,
     edits: &[Edit],
     forth: bool,
     next: u64,
 ) -> Result<(), AllocError>
     requires order { T (in_order edits.now) }
     requires stands { AllByRecursion (λ e. entry_of table.old e.key ≡ side (not forth) e) edits.now }
-    requires exact { IsExact table.old index.old }
+    requires exact { IsExact table.old (count_kept index.old) }
     ensures ok { OnOk result (table.new ≡ record { entries = (led (side forth) edits.now table.old).entries; next = next }) }
-    ensures exact { IsExact table.new index.new }
+    ensures exact { IsExact table.new (count_kept index.new) }
     ensures err { OnErr result (table.new ≡ table.old) }
 {
     let mut own = table.take()?;
@@ -307,29 +309,27 @@ fn lead_listed(
 
 /// Leads the table by one side of edits, or leaves all as it was. Costs one look-up an edit.
 ///
-/// All that can find no memory comes first: the writes with their entries, the new keys, the pairs
-/// that come. Where the index finds none the new keys are taken out again. Only then do the other
-/// pairs go, so each of them is there.
+/// All that can find no memory comes first: the writes with their entries, the new keys, the index.
+/// Where that finds none the new keys are taken out again.
 fn lead_own(
     table: &mut OwnTable,
-    index: &mut RefIndex,
+    index: &mut Index,
     edits: &[Edit],
     forth: bool,
 ) -> Result<(), AllocError>
     requires order { T (in_order edits.now) }
     requires stands { AllByRecursion (λ e. entry_of table.old e.key ≡ side (not forth) e) edits.now }
-    requires exact { IsExact table.old index.old }
+    requires exact { IsExact table.old (count_kept index.old) }
     ensures ok { OnOk result (table.new ≡ led (side forth) edits.now table.old) }
-    ensures exact { IsExact table.new index.new }
+    ensures exact { IsExact table.new (count_kept index.new) }
     ensures err { OnErr result (table.new ≡ table.old) }
 {
     let writes = writes_of(table.alloc(), edits, forth)?;
     put_keys(table, edits, forth)?;
-    if let Err(e) = add_pairs(index, edits, forth) {
+    if let Err(e) = index.lead(edits, forth) {
         drop_keys(table, edits, !forth);
         return Err(e);
     }
-    take_pairs(index, edits, !forth);
     write_all(table, writes);
     drop_keys(table, edits, forth);
     Ok(())

@@ -6,7 +6,8 @@
 //! difference, and a patch leads the table there (`apply`) and back (`revert`), all or nothing, at
 //! the cost of its own entries and references. Where all that a download tells enters as it is, the
 //! told map is the draft (`patch_of_told`), and where there was nothing before it is the patch too, and
-//! becomes the table. Who keeps another index of referrers puts the references of a content in and takes
+//! becomes the table; the users of its keys stand beside it (`told_index`) until an edit moves a
+//! reference. Who keeps another index of referrers puts the references of a content in and takes
 //! them out by the same two calls (`add_content`, `take_content`). It stands on `osm_table` and
 //! `ref_index`.
 //!
@@ -22,8 +23,10 @@ mod dataset;
 mod difference;
 mod draft;
 mod edit;
+mod index;
 mod pairs;
 mod patch;
+mod told_index;
 mod writes;
 
 pub use dataset::DataSet;

@@ -1,13 +1,14 @@
 //! The pairs that come and go with edits, and those of one content. They enter the index one by one,
 //! so no list of them takes memory.
-ghost use Rattle.std.specs.Prelude.{◌≡◌, ◌+◌, ◌<◌, ◌≤◌, if◌then◌else◌, None, Some, length, take, slice_index_or, ℕ, OnOk, OnErr, IfOk};
+ghost use Rattle.std.specs.Prelude.{◌≡◌, ◌+◌, ◌<◌, ◌≤◌, not, if◌then◌else◌, None, Some, length, take, slice_index_or, OnOk, OnErr, IfOk};
+ghost use Rattle.std.specs.List.{list_all};
 ghost use Rattle.std.specs.Option.{option_copied};
 ghost use Rattle.osm_base.specs.Content.{refs_of};
 ghost use Rattle.ref_index.specs.declared.pair.Pair.{Pair};
 ghost use Rattle.ref_index.specs.Bag.{count, times};
-ghost use Rattle.osm_table.specs.Told.{table_told};
-ghost use Rattle.dataset.specs.Exact.{IsExact, keeps_refs, mine_at, moved_pairs, pairs_by, pairs_of, pairs_with, same_lists};
+ghost use Rattle.dataset.specs.Exact.{is_none_of, keeps_pairs, keeps_refs, mine_at, moved_pairs, pairs_by, pairs_of, pairs_with, refs_at, same_lists, times_key};
 ghost use Rattle.dataset.specs.Sides.{side};
+ghost use Rattle.dataset.specs.ToldIndex.{refs_told};
 
 use crate::edit::Edit;
 use osm_base::{Content, Key, node_key};
@@ -21,7 +22,7 @@ use std::alloc::AllocError;
 /// # Errors
 ///
 /// Where the index finds no memory. Then each pair is there as often as it was.
-pub fn add_pairs(index: &mut RefIndex, edits: &[Edit], forth: bool) -> Result<(), AllocError>
+fn add_pairs(index: &mut RefIndex, edits: &[Edit], forth: bool) -> Result<(), AllocError>
     ensures ok { OnOk result ((p : Pair) → count index.new p ≡ times p (pairs_by (side forth) edits.now) + count index.old p) }
     ensures err { OnErr result ((p : Pair) → count index.new p ≡ count index.old p) }
 {
@@ -36,7 +37,7 @@ pub fn add_pairs(index: &mut RefIndex, edits: &[Edit], forth: bool) -> Result<()
 
 /// Takes the pairs of one side of edits, which are there. Costs what adding them does, and takes no
 /// memory.
-pub fn take_pairs(index: &mut RefIndex, edits: &[Edit], forth: bool)
+fn take_pairs(index: &mut RefIndex, edits: &[Edit], forth: bool)
     requires { (p : Pair) → times p (pairs_by (side forth) edits.now) ≤ count index.old p }
     ensures { (p : Pair) → times p (pairs_by (side forth) edits.now) + count index.new p ≡ count index.old p }
 {
@@ -45,13 +46,37 @@ pub fn take_pairs(index: &mut RefIndex, edits: &[Edit], forth: bool)
     }
 }
 
+/// Leads an index by one side of edits: their pairs come, and those of the other side, which are
+/// there, go. It is led whole or not at all. All that comes enters first, so each pair that goes is
+/// there then. Costs what adding and taking cost.
+///
+/// # Errors
+///
+/// Where the index finds no memory. Then each pair is there as often as it was.
+pub fn lead_pairs(index: &mut RefIndex, edits: &[Edit], forth: bool) -> Result<(), AllocError>
+    requires { (p : Pair) → times p (pairs_by (side (not forth)) edits.now) ≤ count index.old p }
+    ensures ok { OnOk result ((p : Pair) → times p (pairs_by (side (not forth)) edits.now) + count index.new p ≡ times p (pairs_by (side forth) edits.now) + count index.old p) }
+    ensures err { OnErr result ((p : Pair) → count index.new p ≡ count index.old p) }
+{
+    add_pairs(index, edits, forth)?;
+    take_pairs(index, edits, !forth);
+    Ok(())
+}
+
+/// Whether edits bring no pair and take none, as those of tags and of nodes do.
+pub fn keep_pairs(edits: &[Edit]) -> bool
+    ensures { result ≡ list_all keeps_pairs edits.now }
+{
+    edits.iter().all(|edit| keeps_pairs(edit))
+}
+
 /// An index of what the objects that are told of as living refer to. It costs one look-up a reference.
 ///
 /// # Errors
 ///
 /// Where no memory is found.
 pub fn index_of(told: &ToldMap) -> Result<RefIndex, AllocError>
-    ensures { IfOk result (λ index. (next : ℕ) → IsExact (table_told told.now.told next) index) }
+    ensures { IfOk result (λ index. (p : Pair) → count index p ≡ times_key p.of (refs_told told.now p.user)) }
 {
     told.sound();
     let mut index = RefIndex::new(told.alloc());
@@ -101,6 +126,21 @@ fn moved(edit: &Edit, forth: bool) -> Option<&Content>
         return None;
     }
     mine_at(edit.side(forth))
+}
+
+fn keeps_pairs(edit: &Edit) -> bool
+    ensures { result ≡ keeps_pairs edit.now }
+{
+    keeps_refs(edit) || (refers_to_none(edit.before()) && refers_to_none(edit.after()))
+}
+
+fn refers_to_none(entry: Option<&SharedEntry>) -> bool
+    ensures { result ≡ is_none_of (refs_at (option_copied entry.entry)) }
+{
+    match mine_at(entry) {
+        Some(content) => references(content) == 0,
+        None => true,
+    }
 }
 
 fn keeps_refs(edit: &Edit) -> bool
@@ -179,7 +219,7 @@ fn take_first(index: &mut RefIndex, user: Key, content: &Content, few: usize)
 }
 
 /// How many references a content has.
-fn references(content: &Content) -> usize
+pub fn references(content: &Content) -> usize
     ensures { result ≡ length (refs_of content.now) }
 {
     match content {
@@ -190,7 +230,7 @@ fn references(content: &Content) -> usize
 }
 
 /// A reference of a content, by its place, as a pair.
-fn pair_at(user: Key, content: &Content, i: usize) -> Pair
+pub fn pair_at(user: Key, content: &Content, i: usize) -> Pair
     requires { i < length (refs_of content.now) }
     ensures { result ≡ slice_index_or (pairs_with user (refs_of content.now)) i result }
 {

@@ -1,4 +1,6 @@
 pub mod Each
+mod InPlace
+mod OrderLaws
 mod Standing
 pub mod SameLaws
 pub mod ToldLaws

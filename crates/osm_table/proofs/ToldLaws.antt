@@ -6,8 +6,7 @@ use Rattle.std.specs.List.{list_any, IsDistinct}
 use Rattle.std.specs.Map.{keys_of, lookup}
 use Rattle.std.specs.Option.{option_map}
 use Rattle.std.proofs.lemmas.List.{length-map}
-use Rattle.indexmap.specs.IndexMap.{IndexMap, get, insert_entry}
-use Rattle.indexmap.proofs.CallerLemmas.{insert_entry-new, keys-insert_entry-present}
+use Rattle.indexmap.specs.IndexMap.{insert_entry}
 use Rattle.osm_base.specs.KeyEq.{eq}
 use Rattle.osm_base.specs.Rank.{rank_cmp, is_key}
 use Rattle.osm_base.specs.RankLaws.{rank_total, rank_exact, rank_ties}
@@ -17,6 +16,7 @@ use Rattle.osm_table.specs.declared.told.Told.{Told}
 use Rattle.osm_table.specs.Told.{ToldEntries, ToldValue, IsTold, IsToldMap, entry_told, told_of, told_at, with_told, is_told_there}
 use Rattle.osm_table.specs.ToldCode.{each_told, told_kept, AreTold, AreThere}
 use Rattle.osm_table.proofs.Each.{with_cases}
+use Rattle.osm_table.proofs.OrderLaws.{keys_put, found_put}
 use Rattle.osm_base.proofs.ByRank.{rises_keys}
 use Rattle.osm_base.proofs.MapViews.{get_view, inserted, distinct_len}
 use Rattle.osm_base.proofs.RisingKeys.{key_itself, same_keys}
@@ -71,6 +71,9 @@ entry_kept_at es q all = back_again (lookup (eq q) es) (all q) ∙ ap (option_ma
 abbrev Updates : List (Key × Entry) → List (Key × Entry) → Key → Entry → Type 0
 Updates es fs k e = (q : Key) → lookup (eq q) fs ≡ cond (eq k q) (Some e) (lookup (eq q) es)
 
+pub put_updates : (es fs : List (Key × Entry)) (k : Key) (e : Entry) → fs ≡ insert_entry eq es k e → Updates es fs k e
+put_updates es fs k e is q = ap (λ (gs : List (Key × Entry)). lookup (eq q) gs) is ∙ found_put es k e q
+
 pub kept_with : (es fs : List (Key × Entry)) (k : Key) (e : Entry) → Updates es fs k e → told_kept fs ≡ fin.insert (told_kept es) k (told_of e)
 kept_with es fs k e h =
     inserted rank_total rank_exact rank_ties (each_told es) (each_told fs) k (told_of e)
@@ -83,22 +86,13 @@ are_told_case false e f o is here there = there is
 pub are_told_with : (es fs : List (Key × Entry)) (k : Key) (e : Entry) → Updates es fs k e → AreTold es → entry_told (told_of e) ≡ e → AreTold fs
 are_told_with es fs k e h all here q f has = are_told_case (eq k q) e f (lookup (eq q) es) (sym (h q) ∙ has) here (all q f)
 
-keys_push : {V : Type 0} (es : List (Key × V)) (k : Key) (t : V) → keys_of (es ++ (k, t) ∷ []) ≡ keys_of es ++ k ∷ []
-keys_push [] k t = refl
-keys_push (e ∷ es) k t = ap (λ ks. e.0 ∷ ks) (keys_push es k t)
-
--- the keys of the entries after one is put: a new key comes last
-order_cases : {V S : Type 0} (m : IndexMap Key V S) (k : Key) (t : V) (o : Option V) → get eq m k ≡ o → keys_of (insert_entry eq m.entries k t) ≡ cond (is_some o) (keys_of m.entries) (keys_of m.entries ++ k ∷ [])
-order_cases m k t None e = ap keys_of (insert_entry-new eq m k t e) ∙ keys_push m.entries k t
-order_cases m k t (Some u) e = keys-insert_entry-present eq m k t (ap is_some e)
-
 some_told : (o : Option Entry) → is_some o ≡ is_some (option_map told_of o)
 some_told None = refl
 some_told (Some e) = refl
 
-pub order_with : {S : Type 0} (m : IndexMap Key Entry S) (k : Key) (e : Entry)
-    → keys_of (insert_entry eq m.entries k e) ≡ cond (is_some (fin.get (told_kept m.entries) k)) (keys_of m.entries) (keys_of m.entries ++ k ∷ [])
-order_with m k e = order_cases m k e _ refl ∙ ap (λ b. cond b (keys_of m.entries) (keys_of m.entries ++ k ∷ [])) (some_told (get eq m k) ∙ ap is_some (sym (told_kept_at m.entries k)))
+-- the keys after one is put: a new key comes last
+pub order_with : (es : List (Key × Entry)) (k : Key) (e : Entry) → keys_of (insert_entry eq es k e) ≡ cond (is_some (fin.get (told_kept es) k)) (keys_of es) (keys_of es ++ k ∷ [])
+order_with es k e = keys_put es k e ∙ ap (λ b. cond b (keys_of es) (keys_of es ++ k ∷ [])) (some_told (lookup (eq k) es) ∙ ap is_some (sym (told_kept_at es k)))
 
 -- the keys in order are those of the map
 pub order_any : (es : List (Key × Entry)) (q : Key) → list_any (is_key q) (keys_of es) ≡ is_some (fin.get (told_kept es) q)

@@ -1,4 +1,5 @@
 pub mod Found
+pub mod InOrder
 pub mod Kept
 pub mod Parts
 pub mod Same

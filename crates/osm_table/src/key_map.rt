@@ -1,5 +1,5 @@
 //! Hashed maps of entries by key, as tables and told maps keep them.
-ghost use Rattle.std.specs.Prelude.{◌≡◌, T, true, IfOk};
+ghost use Rattle.std.specs.Prelude.{◌≡◌, T, true, Some, None, IfOk, IfSome, IfNone, slice_get};
 ghost use Rattle.std.specs.FinMap as map;
 ghost use Rattle.std.specs.List.{IsDistinct};
 ghost use Rattle.std.specs.Map.{keys_of};
@@ -32,6 +32,18 @@ pub fn get_near(
         None => None,
         Some((place, _, entry)) => Some((place.saturating_add(1), entry)),
     }
+}
+
+/// The place of a key. The place `near` is looked at first, which hashes nothing.
+pub fn place_near(entries: &IndexMap<Key, SharedEntry>, near: usize, key: Key) -> Option<usize>
+    ensures some { IfSome result (λ place. slice_get (keys_of entries.now.entries) place ≡ Some key) }
+    ensures none { IfNone result (get eq entries.now key ≡ None) }
+{
+    let keys = entries.keys().as_slice();
+    if near < keys.len() && keys[near] == key {
+        return Some(near);
+    }
+    entries.get_index_of(&key)
 }
 
 /// The keys by rank. They are lent where they stand so, and else listed and sorted.

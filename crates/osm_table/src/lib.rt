@@ -3,9 +3,10 @@
 //! An entry holds three states of one object side by side, as JOSM does when it merges: the
 //! `base` that a server last gave, `mine` that the user edits, and the `theirs` of a conflict
 //! that a later download told. `Table` keeps the entries under their keys, with the number of the
-//! next new object; `ToldMap` keeps what one download tells. Both are hashed maps of `indexmap`,
-//! and contracts see them as finite maps in the rank order of keys. After a first download the two
-//! are one map, which the table takes as its own (`OwnTable`) when it is changed. A table takes any entries:
+//! next new object; `ToldMap` keeps what one download tells. Contracts see both as finite maps in the
+//! rank order of keys. A told map whose keys came by rank finds them by halving (`rising`); all others
+//! are hashed maps of `indexmap`. After a first download the table is the told map, until it is changed:
+//! then it hashes the keys, and shares the entries (`OwnTable`). A table takes any entries:
 //! which ones make a sound table is for the layer above to keep. `specs/Table.antt` has the words
 //! on entries and tables (living, known side, changed, users), `specs/Told.antt` those on told
 //! maps.
@@ -13,8 +14,10 @@
 
 mod entry;
 mod key_map;
+mod keyed_entries;
 mod ordered;
 mod own_table;
+mod rising;
 mod shared;
 mod shared_entry;
 mod table;

@@ -1,5 +1,5 @@
 //! Values that stand in several places at once.
-ghost use Rattle.std.specs.Prelude.{◌≡◌, IfOk, IfErr};
+ghost use Rattle.std.specs.Prelude.{◌≡◌, IfOk};
 
 use std::alloc::{AllocError, Global};
 use std::marker::Model;
@@ -47,19 +47,5 @@ impl<T: Drop> Shared<T> {
         Ok(Shared {
             shared: self.shared.clone()?,
         })
-    }
-
-    /// The value itself, where nobody else shares it any more.
-    ///
-    /// # Errors
-    /// Others share it: then they and this one still do.
-    pub fn into_value(self) -> Result<T, Shared<T>>
-        ensures value { IfOk result (λ value. value ≡ self) }
-        ensures shared { IfErr result (λ shared. shared ≡ self) }
-    {
-        match Rc::try_unwrap(self.shared) {
-            Ok(value) => Ok(value),
-            Err(shared) => Err(Shared { shared }),
-        }
     }
 }

@@ -70,8 +70,8 @@ impl Table {
         }
     }
 
-    /// Takes the table as one that shares its entries with nobody, and leaves one without entries. It costs nothing where no
-    /// one else has the told map any more, and else a copy of that map.
+    /// Takes the table as one that shares its entries with nobody, and leaves one without entries. Where it
+    /// has a told map its keys are hashed, by `ToldMap::to_table`; else it costs nothing.
     ///
     /// # Errors
     /// Answers want of memory, and then nothing has changed.
@@ -107,7 +107,8 @@ impl Table {
         }
     }
 
-    /// The entry of a key.
+    /// The entry of a key: one look-up by hash, or in a told map whose keys came by rank about log n
+    /// comparisons.
     pub fn get(&self, key: Key) -> Option<&SharedEntry>
         ensures { option_copied result ≡ entry_of self.now key }
     {
@@ -119,7 +120,7 @@ impl Table {
 
     /// As `get`, with a place to look at first, and with the place behind the one where the key
     /// stands. Who goes over keys in the order in which they were set, each time from the place that
-    /// the last gave, pays no look-up; a key that isn't at the place costs one.
+    /// the last gave, pays no search; a key that isn't at the place costs one, as `get` does.
     pub fn get_near(&self, near: usize, key: Key) -> Option<(usize, &SharedEntry)>
         ensures { option_map (λ found. found.1.now) result ≡ entry_of self.now key }
     {
@@ -139,8 +140,8 @@ impl Table {
         }
     }
 
-    /// Its keys by rank. Where they stand so it lends them, after one pass over them; else it sorts them
-    /// once, so n keys cost n log n steps.
+    /// Its keys by rank. Where they stand so it lends them, after one pass over them at most; else it sorts
+    /// them once, so n keys cost n log n steps.
     ///
     /// # Errors
     /// Answers want of memory.
@@ -157,19 +158,16 @@ impl Table {
 /// The entries as a table that shares them with nobody.
 ///
 /// # Errors
-/// No memory was left for a copy of a told map that others have too.
+/// No memory was left for the entries of a told map.
 fn owned(entries: Entries) -> Result<OwnTable, Entries>
     ensures ok { IfOk result (λ table. table ≡ table_of entries) }
     ensures err { IfErr result (λ same. table_of same ≡ table_of entries) }
 {
     match entries {
         Entries::Own(table) => Ok(table),
-        Entries::Told { told, next } => match told.into_value() {
-            Ok(told) => Ok(told.into_table(next)),
-            Err(told) => match told.value().to_table(next) {
-                Ok(table) => Ok(table),
-                Err(_) => Err(Entries::Told { told, next }),
-            },
+        Entries::Told { told, next } => match told.value().to_table(next) {
+            Ok(table) => Ok(table),
+            Err(_) => Err(Entries::Told { told, next }),
         },
     }
 }

@@ -1,5 +1,5 @@
 //! What a download tells of the objects.
-ghost use Rattle.std.specs.Prelude.{◌≡◌, ◌<◌, true, [], Some, IfOk, OnOk, OnErr, length, slice_get, is_some};
+ghost use Rattle.std.specs.Prelude.{◌≡◌, ◌<◌, true, [], Some, None, IfOk, OnOk, OnErr, IfSome, IfNone, length, slice_get, is_some};
 ghost use Rattle.std.specs.Option.{option_copied, option_map};
 ghost use Rattle.std.specs.List.{list_any, IsDistinct};
 ghost use Rattle.std.specs.FinMap as map;
@@ -9,12 +9,11 @@ ghost use Rattle.osm_table.specs.Table.{IsPositive};
 ghost use Rattle.osm_table.specs.Told.{entry_told, told_of, told_at, with_told, with_mention, is_told_there, table_told, IsClosed, IsTold, IsToldMap};
 
 use crate::entry::Base;
-use crate::key_map::{get_near, ordered};
+use crate::keyed_entries::KeyedEntries;
 use crate::ordered::Ordered;
 use crate::own_table::OwnTable;
 use crate::shared_entry::{EntryParts, SharedEntry};
 use crate::told::Told;
-use indexmap::IndexMap;
 use osm_base::Key;
 use std::alloc::{AllocError, Global};
 use std::marker::Model;
@@ -22,11 +21,15 @@ use std::marker::Model;
 /// What a download tells of the objects: a map from keys of a server to what it tells of them. The
 /// keys keep the order in which they were first put.
 ///
+/// While keys come by rank, as in a file of osmium, a key is found by about log n comparisons and
+/// none is hashed; the first new one that doesn't come so has all of them hashed, once, and from
+/// then on a key is found by one look-up. That is what a search costs below.
+///
 /// What is told of an object is kept as the entry of which no more is known, in the block that the
 /// table and its patches share later. All that are mentioned share one.
 #[derive(Drop)]
 pub struct ToldMap {
-    entries: IndexMap<Key, SharedEntry>,
+    entries: KeyedEntries,
     mentioned: SharedEntry,
     /// Nothing is told of as deleted. While that is so a mention needs no look at an entry.
     all_there: bool,
@@ -49,9 +52,9 @@ impl Model for ToldMap {
 
     ghost coded = { told_code };
 
-    ghost view = { λ m. record { told = told_kept m.entries.entries; order = keys_of m.entries.entries } };
+    ghost view = { λ m. record { told = told_kept m.entries; order = keys_of m.entries } };
 
-    ghost invariant = { λ m. IsToldMap (told_kept m.entries.entries) × AreTold m.entries.entries × IsDistinct eq (keys_of m.entries.entries) × (m.mentioned ≡ Incomplete) × (m.all_there ≡ true → AreThere (told_kept m.entries.entries)) × (m.closed ≡ true → IsClosed (told_kept m.entries.entries)) };
+    ghost invariant = { λ m. IsToldMap (told_kept m.entries) × AreTold m.entries × IsDistinct eq (keys_of m.entries) × (m.mentioned ≡ Incomplete) × (m.all_there ≡ true → AreThere (told_kept m.entries)) × (m.closed ≡ true → IsClosed (told_kept m.entries)) };
 }
 
 impl ToldMap {
@@ -63,7 +66,7 @@ impl ToldMap {
         ensures { IfOk result (λ told. told ≡ record { told = map.empty; order = [] }) }
     {
         Ok(ToldMap {
-            entries: IndexMap::with_capacity(alloc, keys)?,
+            entries: KeyedEntries::with_capacity(alloc, keys)?,
             mentioned: SharedEntry::told(alloc, Told::Mentioned)?,
             all_there: true,
             closed: false,
@@ -71,7 +74,8 @@ impl ToldMap {
         })
     }
 
-    /// Sets what is told of a key.
+    /// Sets what is told of a key. Where keys come by rank, one behind all others costs one comparison;
+    /// another costs a search.
     ///
     /// # Errors
     /// Answers want of memory, and then nothing has changed.
@@ -80,12 +84,12 @@ impl ToldMap {
         ensures ok { OnOk result (self.new ≡ with_told self.old key told) }
         ensures err { OnErr result (self.new ≡ self.old) }
     {
-        let entry = SharedEntry::told(*self.entries.allocator(), told)?;
+        let entry = SharedEntry::told(self.entries.alloc(), told)?;
         self.set(key, entry)
     }
 
     /// Mentions a key, where nothing is told of it yet, and answers whether it is told of as there.
-    /// One look-up, and one more for a new key; none for a key that stands behind the one that was
+    /// One search, and one more for a new key; none for a key that stands behind the one that was
     /// mentioned before, as a way's next node often does.
     ///
     /// # Errors
@@ -140,21 +144,31 @@ impl ToldMap {
         self.closed
     }
 
-    /// The entry of an object of which no more is known than what is told of this key.
+    /// The entry of an object of which no more is known than what is told of this key. It costs one
+    /// search.
     pub fn get(&self, key: Key) -> Option<&SharedEntry>
         ensures value { option_copied result ≡ option_map entry_told (told_at self.now key) }
         ensures told_map { IsToldMap self.now.told }
     {
-        self.entries.get(&key)
+        self.entries.get(key)
     }
 
     /// As `get`, with a place to look at first, and with the place behind the one where the key
     /// stands. Who goes over keys in the order in which they were put, each time from the place that
-    /// the last gave, pays no look-up; a key that isn't at the place costs one.
+    /// the last gave, pays no search; a key that isn't at the place costs one.
     pub fn get_near(&self, near: usize, key: Key) -> Option<(usize, &SharedEntry)>
         ensures { option_map (λ found. found.1.now) result ≡ option_map entry_told (told_at self.now key) }
     {
-        get_near(&self.entries, near, key)
+        self.entries.get_near(near, key)
+    }
+
+    /// The place of a key among those that were put, counted from 0. The place `near` is looked at
+    /// first; else it costs one search.
+    pub fn place_near(&self, near: usize, key: Key) -> Option<usize>
+        ensures some { IfSome result (λ place. slice_get self.now.order place ≡ Some key) }
+        ensures none { IfNone result (told_at self.now key ≡ None) }
+    {
+        self.entries.place_near(near, key)
     }
 
     /// The number of its keys.
@@ -172,53 +186,45 @@ impl ToldMap {
         ensures each { (key : Key) → list_any (is_key key) self.now.order ≡ is_some (told_at self.now key) }
         ensures once { IsDistinct eq self.now.order }
     {
-        let (key, _) = self.entries.get_index(i).unwrap();
-        *key
+        self.entries.key_at(i)
     }
 
     /// The `i`th key that was put, and the entry of which no more is known than what is told of it.
-    /// It costs no look-up.
+    /// It costs no search.
     pub fn entry_at(&self, i: usize) -> (Key, &SharedEntry)
         requires { i < length self.now.order }
         ensures key { slice_get self.now.order i ≡ Some result.0 }
         ensures told { told_at self.now result.0 ≡ Some (told_of result.1.now) }
         ensures entry { entry_told (told_of result.1.now) ≡ result.1.now }
     {
-        let (key, entry) = self.entries.get_index(i).unwrap();
-        (*key, entry)
+        self.entries.entry_at(i)
     }
 
-    /// Its keys by rank. Where they were put so it lends them, after one pass over them; else it sorts
-    /// them once.
+    /// Its keys by rank. Where they came so it lends them, which costs nothing. Hashed ones are compared
+    /// with their neighbours once, and sorted where they don't stand by rank.
     ///
     /// # Errors
     /// Answers want of memory.
     pub fn ordered(&self) -> Result<Ordered<'_>, AllocError>
         ensures { IfOk result (λ keys. keys ≡ map.keys self.now.told) }
     {
-        ordered(&self.entries)
+        self.entries.ordered()
     }
 
-    /// The table of which no more is known than what is told. Its entries are the map's own, so it costs nothing.
-    pub fn into_table(self, next: u64) -> OwnTable
-        ensures { result ≡ table_told self.told next }
-    {
-        OwnTable::with_entries(self.entries, next)
-    }
-
-    /// As `into_table`, where the map stays. It copies the keys and the places of their entries.
+    /// The table of which no more is known than what is told, which shares its entries. It hashes each
+    /// key that came by rank, once; a map that is hashed already is copied.
     ///
     /// # Errors
     /// Answers want of memory.
     pub fn to_table(&self, next: u64) -> Result<OwnTable, AllocError>
         ensures { IfOk result (λ table. table ≡ table_told self.now.told next) }
     {
-        Ok(OwnTable::with_entries(self.entries.clone()?, next))
+        Ok(OwnTable::with_entries(self.entries.to_map()?, next))
     }
 
     /// The allocator that it takes its memory from.
     pub fn alloc(&self) -> Global {
-        *self.entries.allocator()
+        self.entries.alloc()
     }
 
     /// What every told map keeps. Costs nothing.

@@ -1,5 +1,5 @@
 pub mod Agreement
 pub mod BagView
 pub mod ListViews
-pub mod Halving
+mod TakenOut
 pub mod Examples

@@ -10,9 +10,9 @@ ghost use Rattle.ref_index.specs.Repeats.{AreRepeats, times_there};
 use crate::lists::{list_at, list_user, unlist_user};
 use crate::pair::Pair;
 use crate::repeats::{count_again, number_of, set_number};
-use crate::users::{Users, is_among};
+use crate::users::Users;
 use indexmap::IndexMap;
-use osm_base::Key;
+use osm_base::{Key, is_among};
 use std::alloc::{AllocError, Global};
 use std::marker::Model;
 

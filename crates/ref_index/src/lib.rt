@@ -20,3 +20,4 @@ mod users;
 
 pub use index::RefIndex;
 pub use pair::Pair;
+pub use users::Users;

@@ -4,19 +4,17 @@
 //! in or taken out, and one move of the keys behind it. Most keys have one user, who takes no block,
 //! and most others have two, who share one. Three or more stand in a list, which takes two blocks and
 //! begins with room for four.
-ghost use Rattle.std.specs.Prelude.{◌≡◌, ◌≤◌, ◌<◌, ◌&&◌, [], ◌∷◌, length, not, IfOk, OnOk, OnErr, T, nat_lt, slice_index_or};
+ghost use Rattle.std.specs.Prelude.{◌≡◌, ◌≤◌, ◌<◌, [], ◌∷◌, length, not, IfOk, OnOk, OnErr, T};
 ghost use Rattle.std.specs.List.{insert, remove};
-ghost use Rattle.std.specs.Ordering.{is_lt};
-ghost use Rattle.osm_base.specs.Rank.{rank_cmp, is_key};
-ghost use Rattle.osm_base.specs.RisingKeys.{rises, is_in, with_key, without_key, place_in};
+ghost use Rattle.osm_base.specs.RisingKeys.{rises, is_in, with_key, without_key};
 ghost use Rattle.ref_index.specs.Listed.{listed};
 
-use osm_base::{Key, rank, same_key};
+use osm_base::{Key, place_among, stands_at};
 use std::alloc::{AllocError, Global};
 use std::marker::Model;
 use std::slice;
 
-/// Keys that rise by rank, each once.
+/// The users of one key: keys that rise by rank, each once.
 #[derive(Drop)]
 pub struct Users {
     alloc: Global,
@@ -47,6 +45,7 @@ impl Model for Users {
 }
 
 impl Users {
+    /// No users. It takes no block.
     pub fn new(alloc: Global) -> Self
         ensures { result ≡ [] }
     {
@@ -56,7 +55,7 @@ impl Users {
         }
     }
 
-    /// The keys, by rank.
+    /// The keys, by rank. Costs nothing.
     pub fn as_slice(&self) -> &[Key]
         ensures value { result.now ≡ self.now }
         ensures rises { T (rises self.now) }
@@ -65,7 +64,8 @@ impl Users {
     }
 
     /// Puts the key into its place, and answers whether it is new. Where it stands already nothing
-    /// changes.
+    /// changes. With u keys it costs about log u comparisons, and one move of the keys behind a new
+    /// one.
     ///
     /// # Errors
     ///
@@ -79,7 +79,8 @@ impl Users {
         Ok(first)
     }
 
-    /// Takes the key out. Where it doesn't stand nothing changes.
+    /// Takes the key out. Where it doesn't stand nothing changes. It costs what `put` does, and takes
+    /// no memory.
     pub fn take(&mut self, key: Key)
         ensures { self.new ≡ without_key key self.old }
     {
@@ -98,21 +99,13 @@ fn listed(items: &Items) -> &[Key]
     }
 }
 
-/// Whether the key is one of keys that rise. It is found by halving.
-pub fn is_among(items: &[Key], key: Key) -> bool
-    requires { T (rises items.now) }
-    ensures { result ≡ is_in key items.now }
-{
-    stands_at(items, place(items, key), key)
-}
-
 fn put_item(alloc: Global, items: &mut Items, key: Key) -> Result<bool, AllocError>
     requires { T (rises (listed items.old)) }
     ensures first { IfOk result (λ first. first ≡ not (is_in key (listed items.old))) }
     ensures ok { OnOk result (listed items.new ≡ with_key key (listed items.old)) }
     ensures err { OnErr result (listed items.new ≡ listed items.old) }
 {
-    let at = place(listed(items), key);
+    let at = place_among(listed(items), key);
     if stands_at(listed(items), at, key) {
         return Ok(false);
     }
@@ -154,7 +147,7 @@ fn take_item(items: &mut Items, key: Key)
     requires { T (rises (listed items.old)) }
     ensures { listed items.new ≡ without_key key (listed items.old) }
 {
-    let at = place(listed(items), key);
+    let at = place_among(listed(items), key);
     if stands_at(listed(items), at, key) {
         remove_at(items, at);
     }
@@ -180,24 +173,4 @@ fn other_key(keys: &[Key; 2], at: usize) -> Key
     ensures { remove keys.now at ≡ result ∷ [] }
 {
     if at == 0 { keys[1] } else { keys[0] }
-}
-
-/// Where the key stands in keys that rise, or would stand.
-fn place(items: &[Key], key: Key) -> usize
-    requires { T (rises items.now) }
-    ensures { result ≡ place_in key items.now }
-{
-    items.partition_point(|item| is_before(item, key))
-}
-
-fn is_before(a: &Key, b: Key) -> bool
-    ensures { result ≡ is_lt (rank_cmp a.now b) }
-{
-    rank(*a, b).is_lt()
-}
-
-fn stands_at(items: &[Key], at: usize, key: Key) -> bool
-    ensures { result ≡ (nat_lt at (length items.now) && is_key key (slice_index_or items.now at key)) }
-{
-    at < items.len() && same_key(key, items[at])
 }

@@ -5,4 +5,4 @@ use Rattle.osm_table.proofs.ToldLaws.{entry_kept_at}
 use Rattle.osm_table.proofs.told_map.ToldMap.get_near.Goals as goal
 
 pub returns : goal.returns
-returns c = c.get_near.ensures ∙ entry_kept_at c.self.inside.entries.entries c.args.key c.self.invariant.1 ∙ ap (λ (m : ToldValue). option_map entry_told (told_at m c.args.key)) c.self.view_is
+returns c = c.get_near.ensures ∙ entry_kept_at c.self.inside.entries c.args.key c.self.invariant.1 ∙ ap (λ (m : ToldValue). option_map entry_told (told_at m c.args.key)) c.self.view_is

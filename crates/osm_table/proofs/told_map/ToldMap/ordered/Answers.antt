@@ -8,5 +8,5 @@ use Rattle.osm_table.proofs.told_map.ToldMap.ordered.Goals as goal
 pub returns : goal.returns
 returns c =
     subst (λ (ks : List Key). IfOk c.ordered.result (λ (keys : List Key). keys ≡ ks))
-    (keys_kept c.self.inside.entries.entries ∙ ap (λ (m : ToldValue). map.keys m.told) c.self.view_is)
+    (keys_kept c.self.inside.entries ∙ ap (λ (m : ToldValue). map.keys m.told) c.self.view_is)
     c.ordered.ensures

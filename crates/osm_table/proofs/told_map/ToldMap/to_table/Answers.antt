@@ -1,6 +1,5 @@
 use Rattle.std.proofs.Common.{ap, ◌∙◌, List}
 use Rattle.std.specs.FinMap as map
-use Rattle.std.proofs.lemmas.List.Elements.{same_from_all_zip}
 use Rattle.osm_base.specs.declared.key.Key.{Key}
 use Rattle.osm_table.specs.declared.entry.Entry.{Entry}
 use Rattle.osm_table.specs.Told.{ToldValue, table_told}
@@ -9,8 +8,7 @@ use Rattle.osm_table.proofs.told_map.ToldMap.to_table.Goals as goal
 
 pub returns : goal.returns
 returns c =
-    let copied = same_from_all_zip _ c.self.inside.entries.entries c.in_ok-clone.field-0.entries c.in_ok-clone.ensures.cases (λ p q h i. (h.0 i, h.1 i)) in
     c.with_entries.ensures
-    ∙ ap (λ (es : List (Key × Entry)). record { entries = map.from_entries es; next = c.args.next }) copied
-    ∙ table_kept c.self.inside.entries.entries c.args.next c.self.invariant.1
+    ∙ ap (λ (es : List (Key × Entry)). record { entries = map.from_entries es; next = c.args.next }) c.in_ok-to_map.ensures
+    ∙ table_kept c.self.inside.entries c.args.next c.self.invariant.1
     ∙ ap (λ (m : ToldValue). table_told m.told c.args.next) c.self.view_is

@@ -1,0 +1,23 @@
+use Rattle.std.proofs.Common.{◌≡◌, ◌+◌, ◌≤◌, not, sym, ◌∙◌, true, arith, subst}
+use Rattle.std.specs.List.{list_all}
+use Rattle.ref_index.specs.Bag.{times}
+use Rattle.dataset.specs.Exact.{keeps_pairs, pairs_by}
+use Rattle.dataset.specs.Index.{count_kept}
+use Rattle.dataset.specs.Sides.{side}
+use Rattle.dataset.specs.declared.index.Index.{Index}
+use Rattle.dataset.proofs.Exactness.{no_pairs_move}
+use Rattle.dataset.proofs.index.Index.lead.Goals as goal
+
+pub returns-then-keep_pairs-clause-ok : goal.returns-then-keep_pairs-clause-ok
+returns-then-keep_pairs-clause-ok c = λ p.
+    let kept : list_all keeps_pairs c.args.edits.now ≡ true = sym c.keep_pairs.ensures ∙ c.if-keep_pairs.true in
+    λ i. times p ((no_pairs_move (not c.args.forth) c.args.edits.now kept ∙ sym (no_pairs_move c.args.forth c.args.edits.now kept)) i) + count_kept c.args.self.now p
+
+pub lead_pairs-requires : goal.lead_pairs-requires
+lead_pairs-requires c = λ p. subst (λ (x : Index). times p (pairs_by (side (not c.args.forth)) c.args.edits.now) ≤ count_kept x p) c.in-Own.is (c.requires p)
+
+pub lead_pairs-requires-in-Told : goal.lead_pairs-requires-in-Told
+lead_pairs-requires-in-Told c = λ p.
+    let there = subst (λ (x : Index). times p (pairs_by (side (not c.args.forth)) c.args.edits.now) ≤ count_kept x p) c.in-Told.is (c.requires p) in
+    let same = c.in_ok-index-in-Told.ensures p in
+    omega (arith, there, same)
