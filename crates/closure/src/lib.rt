@@ -15,4 +15,4 @@ mod marks;
 
 pub use law::{ends_of_chains_are_least, others_are_stuck, ready_ones_are_least};
 pub use links::Links;
-pub use marks::{reach, set_of};
+pub use marks::{is_among, reach, set_of};

@@ -52,6 +52,14 @@ pub fn set_of(alloc: Global, keys: &[Key]) -> Result<IndexSet<Key>, AllocError>
     Ok(set)
 }
 
+/// Whether a key is one of a set.
+#[tactic(auto, using(crate::proofs::KeyLaws::has_same))]
+pub fn is_among(keys: &IndexSet<Key>, key: Key) -> bool
+    ensures { result ≡ has is_key keys.now.keys key }
+{
+    keys.contains(&key)
+}
+
 fn mark_all(marks: &mut IndexSet<Key>, keys: &[Key]) -> Result<(), AllocError>
     ensures { OnOk result (marks.new.keys ≡ insert_all eq marks.old.keys keys.now) }
 {

@@ -20,7 +20,8 @@ use Rattle.osm_base.specs.Same.{same_coord}
 use Rattle.osm_base.specs.declared.coord.Coord.{Coord}
 use Rattle.osm_base.specs.declared.key.Key.{Key}
 use Rattle.osm_base.proofs.ByRank.{rises_keys}
-use Rattle.osm_base.proofs.Tests.{second_T}
+use Rattle.osm_base.proofs.Halving.{below_at}
+use Rattle.osm_base.proofs.Tests.{option_or-none, second_T}
 use Rattle.osm_table.specs.Table.{TableValue, keys_by_rank}
 use Rattle.tool_api.specs.Findings.{doubled_of, place_at, same_place}
 use Rattle.map_checks.specs.Findings.{doubled_finding}
@@ -40,11 +41,6 @@ not_below k j Less is less = ap is_lt (rank_total.antisymm j k ∙ ap ordering_r
 not_below k j Equal is less = cc
 not_below k j Greater is less = cc
 
-below_at : (k : Key) (ks : List Key) (i : ℕ) (d : Key) → T (below_all rank_cmp k (marked ks)) → i < length ks → is_lt (rank_cmp k (get_or ks i d)) ≡ true
-below_at k [] i d h lt = absurd (omega (arith, lt))
-below_at k (x ∷ xs) zero d h lt = left (is_lt (rank_cmp k x)) _ h
-below_at k (x ∷ xs) (suc i) d h lt = below_at k xs i d (second_T (is_lt (rank_cmp k x)) _ h) (omega (arith, lt))
-
 module _ (p : Key → Bool) where
   above : (k : Key) (ks : List Key) → T (below_all rank_cmp k (marked ks)) → find (λ j. is_lt (rank_cmp j k) && p j) ks ≡ None
   above k [] h = refl
@@ -59,7 +55,7 @@ module _ (p : Key → Bool) where
       ∙ above x xs (let e = left (below_all rank_cmp x (marked xs)) (rises xs) h in rw e tt)
   below_are_before (x ∷ xs) (suc i) d h lt =
       let below : T (below_all rank_cmp x (marked xs)) = (let e = left (below_all rank_cmp x (marked xs)) (rises xs) h in rw e tt) in
-      let less : is_lt (rank_cmp x (get_or xs i d)) ≡ true = below_at x xs i d below (omega (arith, lt)) in
+      let less : is_lt (rank_cmp x (get_or xs i d)) ≡ true = ap is_lt (below_at x xs i d below (omega (arith, lt))) in
       ap (λ b. cond (b && p x) (Some x) (find (λ j. is_lt (rank_cmp j (get_or xs i d)) && p j) xs)) less
       ∙ ap (cond (p x) (Some x)) (below_are_before xs i d (second_T (below_all rank_cmp x (marked xs)) (rises xs) h) (omega (arith, lt)))
 
@@ -101,14 +97,10 @@ noted_more t ks i d entries lt h at = h at ∙ ap (λ (l : List Key). first_at t
 
 -- Notes of one key more.
 
-or_none : (o : Option Key) → option_or o None ≡ o
-or_none None = refl
-or_none (Some k) = refl
-
 -- of a key that isn't a living node
 pub not_noted : (t : TableValue) (keys : List Key) (k : Key) (entries : List (Place × Key)) → place_at t k ≡ None → HasFirst t keys entries → HasFirst t (keys ++ k ∷ []) entries
 not_noted t keys k entries none h at =
-    h at ∙ sym (or_none (first_at t keys at))
+    h at ∙ sym (option_or-none (first_at t keys at))
     ∙ ap (λ (o : Option Coord). option_or (first_at t keys at) (cond (same_place o (Some at)) (Some k) None)) (sym none)
     ∙ sym (find-append (λ j. same_place (place_at t j) (Some at)) keys (k ∷ []))
 

@@ -9,8 +9,7 @@ ghost use Rattle.osm_base.specs.Rank.{is_key};
 ghost use Rattle.osm_base.specs.RisingKeys.{is_in};
 ghost use Rattle.osm_table.specs.Table.{entry_of, users};
 
-use crate::sets::is_among;
-use closure::set_of;
+use closure::{is_among, set_of};
 use dataset::DataSet;
 use indexmap::IndexSet;
 use osm_base::{Content, Key, Kind, Member, node_key};

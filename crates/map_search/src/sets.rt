@@ -5,18 +5,10 @@ ghost use Rattle.closure.specs.Closure.{has};
 ghost use Rattle.osm_base.specs.Rank.{is_key};
 ghost use Rattle.osm_base.specs.RisingKeys.{is_in};
 
-use closure::set_of;
+use closure::{is_among, set_of};
 use indexmap::IndexSet;
 use osm_base::Key;
 use std::alloc::{AllocError, Global};
-
-/// Whether a key is one of these.
-#[tactic(auto, using(closure::proofs::KeyLaws::has_same))]
-pub fn is_among(keys: &IndexSet<Key>, key: Key) -> bool
-    ensures { result ≡ has is_key keys.now.keys key }
-{
-    keys.contains(&key)
-}
 
 /// The keys that are none of those found.
 pub fn others(alloc: Global, keys: &[Key], found: &[Key]) -> Result<Vec<Key>, AllocError>

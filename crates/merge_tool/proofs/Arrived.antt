@@ -10,6 +10,7 @@ use Rattle.osm_base.specs.Content.{refs_of}
 use Rattle.osm_base.specs.Rank.{rank_cmp, is_key}
 use Rattle.osm_base.proofs.ByRank.{rises_keys}
 use Rattle.osm_base.proofs.RisingKeys.{same_keys}
+use Rattle.osm_base.proofs.Tests.{option_or-none}
 use Rattle.osm_base.specs.declared.key.Key.{Key}
 use Rattle.osm_table.specs.declared.entry.Entry.{Entry}
 use Rattle.osm_table.specs.declared.told.Told.{Told}
@@ -82,10 +83,6 @@ told_names m closed j k None e h = absurd (true≢false (sym h))
 told_names m closed j k (Some told.Mentioned) e h = absurd (true≢false (sym h))
 told_names m closed j k (Some (told.Live v c meta)) e h = all_at (λ r. is_told_there (fin.get m r) ≡ true) (refs_of c) k (closed j v c meta e) h
 told_names m closed j k (Some (told.Gone v meta)) e h = absurd (true≢false (sym h))
-
-or_none : (o : Option Entry) → option_or o None ≡ o
-or_none None = refl
-or_none (Some e) = refl
 
 -- maps with the same keys have as many
 same_len : {V W : Type 0} (m : fin.FinMap rank_cmp V) (n : fin.FinMap rank_cmp W) → ((k : Key) → is_some (fin.get m k) ≡ is_some (fin.get n k)) → fin.len m ≡ fin.len n
@@ -167,7 +164,7 @@ pub all_come : (t : TableValue) (m : ToldValue) (limit len : ℕ) (p : PatchValu
     → p ≡ diff t (drafted (arrivals m.told t.next) t) → IsDiff t (drafted (arrivals m.told t.next) t) p → IsReady t p × (merge t limit m ≡ Ok (done (after_of p t)))
 all_come t m limit len p sound is_told none closed is few whole differs =
     let empty = none_there t none in
-    let come = drafted_is t m (arrivals m.told t.next) (λ k. arrived_at m.told t k ∙ ap (option_or (option_map entry_told (fin.get m.told k))) (empty k) ∙ or_none (option_map entry_told (fin.get m.told k)) ∙ sym (ends_as_told t m.told empty closed k)) refl in
+    let come = drafted_is t m (arrivals m.told t.next) (λ k. arrived_at m.told t k ∙ ap (option_or (option_map entry_told (fin.get m.told k))) (empty k) ∙ option_or-none (option_map entry_told (fin.get m.told k)) ∙ sym (ends_as_told t m.told empty closed k)) refl in
     let to = (diff_leads t (drafted (arrivals m.told t.next) t) p differs).to in
     let number = next_changed t (final (stage_of t m.told) (both_keys t m.told)) (reached_keys t m.told) in
     let room = ap (λ b. when b TableFull) ((λ i. full limit ((as_many t m.told empty closed ∙ sym is) i) (number i)) ∙ isnt_full_by limit len t.next few sound.number.1) in (

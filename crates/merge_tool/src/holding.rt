@@ -12,7 +12,7 @@ ghost use Rattle.merge_tool.specs.Passes.{has_untold_user, held_starts};
 use crate::entries::mine;
 use crate::naming::name_all;
 use crate::staging::{has_untold_user, push_all};
-use closure::{Links, reach};
+use closure::{Links, is_among, reach};
 use dataset::{DataSet, Draft};
 use indexmap::IndexSet;
 use osm_base::Key;
@@ -62,14 +62,6 @@ fn push_if_going(candidates: &IndexSet<Key>, key: Key, out: &mut Vec<Key>) -> Re
         out.push(key)?;
     }
     Ok(())
-}
-
-/// Whether a key is one of these.
-#[tactic(auto, using(closure::proofs::KeyLaws::has_same))]
-pub fn is_among(keys: &IndexSet<Key>, key: Key) -> bool
-    ensures { result ≡ has is_key keys.now.keys key }
-{
-    keys.contains(&key)
 }
 
 /// Appends those of these keys to which an object refers that isn't told of.

@@ -6,7 +6,7 @@ ghost use Rattle.merge_tool.specs.Drafts.{AreGoing, ComeBack, GoUnlessHeld, IsWr
 ghost use Rattle.merge_tool.specs.Passes.{is_going, left};
 
 use crate::entries::{against, back};
-use crate::holding::is_among;
+use closure::is_among;
 use dataset::{DataSet, Draft};
 use indexmap::IndexSet;
 use osm_base::Key;

@@ -13,7 +13,7 @@ use Rattle.osm_base.specs.Content.{refs_of}
 use Rattle.osm_base.specs.declared.key.Key.{Key}
 use Rattle.osm_base.specs.declared.content.Content.{Content}
 use Rattle.osm_base.proofs.RisingKeys.{one_key}
-use Rattle.osm_base.proofs.Tests.{none_from_test}
+use Rattle.osm_base.proofs.Tests.{none_from_test, option_or-none}
 use Rattle.osm_table.specs.declared.entry.Entry.{Entry}
 use Rattle.osm_table.specs.declared.entry.Entry.TheVariants.{Incomplete, Known}
 use Rattle.osm_table.specs.Table.{TableValue, entry_of, keys_by_rank}
@@ -49,10 +49,6 @@ bases_put t m (k ∷ ks) q =
     ∙ ap (λ (g : Option WorldEntry). cond (is_in q ks) (option_or (based (entry_of t q)) g) g) (some_put m k q (based (entry_of t k)) (is_key q k) refl)
     ∙ base_case (is_key q k) (is_in q ks) (based (entry_of t q)) (based (entry_of t k)) (fin.get m q) (λ e. ap (λ (j : Key). based (entry_of t j)) (sym (one_key q k e)))
 
-none_last : (o : Option WorldEntry) → option_or o None ≡ o
-none_last None = refl
-none_last (Some x) = refl
-
 -- of a key that isn't among those of the table nothing is known
 no_entry : (t : TableValue) (q : Key) → is_in q (keys_by_rank t) ≡ false → entry_of t q ≡ None
 no_entry t q e = none_from_test (entry_of t q) (fin.contains_key-keys t.entries q ∙ e)
@@ -63,7 +59,7 @@ all_bases t q =
     ∙ ap (λ (g : Option WorldEntry). cond (is_in q (keys_by_rank t)) (option_or (based (entry_of t q)) g) g) (fin.get-empty rank_cmp q)
     ∙ in_or_out (cases_Bool (is_in q (keys_by_rank t))) where
       in_or_out : ((is_in q (keys_by_rank t) ≡ true) ⊎ (is_in q (keys_by_rank t) ≡ false)) → cond (is_in q (keys_by_rank t)) (option_or (based (entry_of t q)) None) None ≡ based (entry_of t q)
-      in_or_out (inl i) = ap (λ b. cond b (option_or (based (entry_of t q)) None) None) i ∙ none_last (based (entry_of t q))
+      in_or_out (inl i) = ap (λ b. cond b (option_or (based (entry_of t q)) None) None) i ∙ option_or-none (based (entry_of t q))
       in_or_out (inr o) = ap (λ b. cond b (option_or (based (entry_of t q)) None) None) o ∙ sym (ap based (no_entry t q o))
 
 -- an empty object put, where nothing stands
@@ -158,7 +154,7 @@ told_case true true o p same = ap (λ x. option_or x o) (same refl) ∙ again o 
   again : (o : Option WorldEntry) → option_or o o ≡ o
   again None = refl
   again (Some x) = refl
-told_case true false o p same = ap (λ x. option_or x None) (same refl) ∙ none_last o
+told_case true false o p same = ap (λ x. option_or x None) (same refl) ∙ option_or-none o
 told_case false b o p same = refl
 
 each_at : (t : TableValue) (ks : List Key) (q : Key) → fin.get (fin.from_entries {R = rank_cmp} (flat_map (λ k. at_key k (standing t k)) ks)) q ≡ cond (is_in q ks) (standing t q) None
