@@ -1,7 +1,7 @@
 use Rattle.std.proofs.Common.{◌≡◌, sym, subst, None}
 use Rattle.osm_outside.specs.Outside.{Shelved, held}
-use Rattle.session_cases.proofs.Held.{held-more}
-use Rattle.session_cases.proofs.running.add_unnamed.Goals as goal
+use Rattle.case_files.proofs.Held.{held-more}
+use Rattle.case_files.proofs.shelving.add_unnamed.Goals as goal
 
 pub returns : goal.returns
 returns c name none other =

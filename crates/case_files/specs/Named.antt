@@ -3,7 +3,7 @@ use Rattle.std.specs.Prelude.{◌≡◌, ℕ, Bool, false, List, None}
 use Rattle.std.specs.List.{list_any}
 use Rattle.std.specs.Str.{bytes_eq}
 use Rattle.osm_outside.specs.Outside.{Shelved, held}
-use Rattle.session_cases.specs.declared.case.CaseFile.{CaseFile}
+use Rattle.case_files.specs.declared.case.CaseFile.{CaseFile}
 
 -- whether a file has the name
 abbrev pub is_named : List ℕ → List CaseFile → Bool

@@ -2,8 +2,8 @@ use Rattle.std.proofs.Common.{◌≡◌, false, sym, ◌∙◌, subst, arith}
 use Rattle.std.proofs.lemmas.List.Folds.{list_any_more}
 use Rattle.std.proofs.lemmas.Bool.{or_parts}
 use Rattle.std.specs.Str.{bytes_eq}
-use Rattle.session_cases.specs.declared.case.CaseFile.{CaseFile}
-use Rattle.session_cases.proofs.running.files_of.Goals as goal
+use Rattle.case_files.specs.declared.case.CaseFile.{CaseFile}
+use Rattle.case_files.proofs.shelving.files_of.Goals as goal
 
 pub loop-i-preserved : goal.loop-i-preserved
 loop-i-preserved c name none =
