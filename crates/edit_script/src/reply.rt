@@ -12,7 +12,7 @@ use std::alloc::AllocError;
 use tool_api::Refusal;
 
 /// Why a step was refused. It then changed nothing.
-#[derive(Debug, Drop)]
+#[derive(Drop)]
 pub enum StepRefusal {
     /// Its job was refused.
     Tool(Refusal),
@@ -51,7 +51,7 @@ pub enum StepRefusal {
 }
 
 /// What a step replies.
-#[derive(Debug, Drop)]
+#[derive(Drop)]
 pub enum StepReply {
     /// It was done, and made the objects with these keys.
     Done(Keys),
