@@ -1,12 +1,14 @@
 //! An editor of OpenStreetMap data without screen or network: runs a script over files of the working folder.
 //!
 //! `main` alone speaks with the world: it hands the words, the files and standard output to `run_editor`, where all that
-//! is proved stands, tells the status on the error stream and ends with its number.
+//! is proved stands, tells the status on the error stream and ends with its number ([`exit_code`]).
 #![tactic(auto)]
 
 ghost use Rattle.std.specs.Prelude.{◌≡◌, ◌⊎◌, None, IfOk, map, string_bytes};
+ghost use Rattle.std.specs.Process.{exit_status};
 ghost use Rattle.command_line.specs.Words.{command_of};
 ghost use Rattle.tool_api.specs.declared.verb.Verb.{Verb};
+ghost use Rattle.edit_session.specs.StatusText.{number_of};
 
 use all_tools::run_editor;
 use edit_session::Status;
@@ -19,6 +21,13 @@ use std::process::ExitCode;
 fn main(rt: HostRuntime) -> ExitCode {
     let status = run(&rt);
     let _ = tell(&rt, status);
+    exit_code(status)
+}
+
+/// The exit code by which the program tells its status.
+fn exit_code(status: Status) -> ExitCode
+    ensures { exit_status result ≡ number_of status }
+{
     ExitCode::from(status.number())
 }
 
