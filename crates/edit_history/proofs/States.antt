@@ -4,7 +4,6 @@ use Rattle.std.proofs.lemmas.Bool.Decides.{nat_tests}
 use Rattle.std.proofs.lemmas.List.{length-take-le}
 use Rattle.osm_table.specs.Table.{TableValue}
 use Rattle.dataset.specs.Patch.{PatchValue}
-use Rattle.tool_api.specs.declared.reply.Reply.{Reply}
 use Rattle.edit_history.specs.declared.counts.Group.{Group}
 use Rattle.edit_history.specs.declared.counts.Counts.{Counts}
 use Rattle.edit_history.specs.declared.sides.Direction.{Direction}
@@ -12,9 +11,12 @@ use Rattle.edit_history.specs.declared.sides.Direction.TheVariants.{Back, On}
 use Rattle.edit_history.specs.declared.sides.Sides.{Sides}
 use Rattle.edit_history.specs.Ways.{opposite, pick, side, Passed}
 use Rattle.edit_history.specs.Trail.{LeadAlong, Went, led, led_by, onto, trail}
-use Rattle.edit_history.specs.Machine.{State, ran}
+use Rattle.edit_history.specs.Machine.{State}
 use Rattle.edit_history.specs.Single.{go_1, go_n, tables, went}
-use Rattle.edit_history.specs.Moved.{Move, steps_move}
+use Rattle.edit_history.specs.declared.edit_step.EditAnswer.{EditAnswer}
+use Rattle.edit_history.specs.declared.edit_step.EditAnswer.TheVariants as answer
+use Rattle.edit_history.specs.Moved.{Move}
+use Rattle.edit_history.specs.Steps.{none_this_way, silent, steps_move}
 use Rattle.edit_history.specs.Shown.{ends, state_of}
 use Rattle.edit_history.proofs.Tables.{length-trail}
 use Rattle.edit_history.proofs.Trails.{led_back}
@@ -72,8 +74,8 @@ step_state On k o s s₁ bs bs₁ g dones undones dones₁ undones₁ t t₁ pas
     rw (eo, w.left, w.turned, w.table, passed.left, passed.passed)
     (ap (λ (us : List TableValue). outside us u (ends On s₁.ahead (drop k fs) u) g) (ends_again On k s.behind fs ps t (omega (arith, length-trail On bs.ahead undones)) h))
 
-abbrev move : Bool → State → Move Bool
-move answer s = record { answer = answer; state = s }
+abbrev too_few : Direction → State → Move EditAnswer
+too_few way s = record { answer = answer.Refused (none_this_way way); state = s }
 
 length-ends : (way : Direction) (ks : List ℕ) (ps : List PatchValue) (t : TableValue) → length (ends way ks ps t) ≡ length ks
 length-ends way [] ps t = refl
@@ -84,20 +86,16 @@ length-tables : (way : Direction) (c : Counts) (ps fs : List PatchValue) (t : Ta
 length-tables Back c ps fs t = length-ends Back c.steps.behind (drop c.waiting ps) (led_by Back (take c.waiting ps) t)
 length-tables On c ps fs t = length-ends On c.steps.ahead fs t
 
-pub few_steps : (way : Direction) (n : ℕ) (c : Counts) (ps fs : List PatchValue) (t : TableValue) → length (side way c.steps) < n → steps_move way n (state_of c ps fs t) ≡ record { answer = false; state = state_of c ps fs t }
+pub few_steps : (way : Direction) (n : ℕ) (c : Counts) (ps fs : List PatchValue) (t : TableValue) → length (side way c.steps) < n → steps_move way n (state_of c ps fs t) ≡ too_few way (state_of c ps fs t)
 few_steps way n c ps fs t h =
     let s : State = state_of c ps fs t in
     let e : nat_le n (length (tables way s)) ≡ false = rw (length-tables way c ps fs t) (grind (arith, nat_tests)) in
-    ap (λ (b : Bool). if b then move true (went way n s) else move false s) e
+    ap (λ (b : Bool). if b then silent (went way n s) else too_few way s) e
 
 -- n steps one by one are the move
-pub all_steps : (way : Direction) (n : ℕ) (c : Counts) (ps fs : List PatchValue) (t : TableValue) → 1 ≤ n → n ≤ length (side way c.steps) → steps_move way n (state_of c ps fs t) ≡ record { answer = true; state = go_n way n (state_of c ps fs t) }
+pub all_steps : (way : Direction) (n : ℕ) (c : Counts) (ps fs : List PatchValue) (t : TableValue) → 1 ≤ n → n ≤ length (side way c.steps) → steps_move way n (state_of c ps fs t) ≡ silent (go_n way n (state_of c ps fs t))
 all_steps way n c ps fs t one h =
     let s : State = state_of c ps fs t in
     let enough : n ≤ length (tables way s) = rw (length-tables way c ps fs t) h in
     let e : nat_le n (length (tables way s)) ≡ true = rw (length-tables way c ps fs t) (grind (arith, nat_tests)) in
-    ap (λ (b : Bool). if b then move true (went way n s) else move false s) e ∙ ap (move true) (sym (went_is way n s one enough))
-
--- the reply may be written as what it is
-pub ran_by : (r q : Reply) (u : TableValue) (s t : State) → r ≡ q → t ≡ ran r u s → t ≡ ran q u s
-ran_by r q u s t e h = h ∙ ap (λ (x : Reply). ran x u s) e
+    ap (λ (b : Bool). if b then silent (went way n s) else too_few way s) e ∙ ap silent (sym (went_is way n s one enough))

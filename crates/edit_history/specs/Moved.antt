@@ -2,20 +2,18 @@
 --
 -- Each call is a move of the machine: of the state before it follow its answer and the state after it. The functions
 -- `done`, `undone` and `kind` say what a box keeps and which verb it has.
-use Rattle.std.specs.Prelude.{◌≡◌, ◌≢◌, ℕ, List, length, Bool, true, false, nat_le, if◌then◌else◌, Result, OnOk, IfOk}
+use Rattle.std.specs.Prelude.{◌≡◌, ◌≢◌, ℕ, List, Result, OnOk, IfOk}
 use Rattle.std.specs.declared.dyn_box.DynBox.{DynBox}
 use Rattle.std.specs.declared.alloc.Global.{Global}
 use Rattle.dataset.specs.Patch.{PatchValue, StandsBefore, after_of}
 use Rattle.dataset.specs.Sound.{IsSound}
 use Rattle.tool_api.specs.declared.verb.Verb.{Verb}
 use Rattle.tool_api.specs.declared.job.Job.{Job}
-use Rattle.tool_api.specs.declared.reply.Reply.{Reply}
 use Rattle.tool_api.specs.Plain.{verb_of, plain, IsWellFormed}
 use Rattle.edit_history.specs.declared.counts.Group.TheVariants.{Outside, Refused}
 use Rattle.edit_history.specs.declared.sides.Direction.{Direction}
 use Rattle.edit_history.specs.declared.history.History.{History}
-use Rattle.edit_history.specs.Machine.{State, IsWiped, ran}
-use Rattle.edit_history.specs.Single.{tables, went}
+use Rattle.edit_history.specs.Machine.{State, IsWiped}
 use Rattle.edit_history.specs.Trail.{KeepNothing, IsAlong}
 use Rattle.edit_history.specs.Boxes.{Keeps, trail_of}
 use Rattle.edit_history.specs.Shown.{shown, Valid, IsThere, verbs_of, patches_of}
@@ -55,27 +53,11 @@ IsMadeBy job limit done undone old new = (shown done undone new).now ≡ (plain 
 abbrev pub IsKept : {X : Type 0} {F : X → Type 0} → Keeps X F → Keeps X F → History X F → History X F → Type 0
 IsKept done undone old new = shown done undone new ≡ shown done undone old
 
--- a move that answers nothing
-abbrev pub silent : (State → State) → State → Move (Unit {0})
-silent step s = record { answer = tt; state = step s }
-
--- no group is open, whatever verbs there are
-abbrev pub Alone : State → List Verb → Type 0
-Alone s verbs = s.group ≡ Outside
-
 -- a job may run
 pub record MayRun (job : Job) (s : State) (verbs : List Verb) : Type 0 where
   pub there : IsThere (verb_of job) verbs
   pub formed : IsWellFormed job
   pub unrefused : s.group ≢ Refused
-
--- a job is run
-abbrev pub run_move : Job → ℕ → State → Move Reply
-run_move job limit s = record { answer = (plain job s.now limit).reply; state = ran (plain job s.now limit).reply (plain job s.now limit).table s }
-
--- n steps this way, where there are so many
-abbrev pub steps_move : Direction → ℕ → State → Move Bool
-steps_move way n s = if nat_le n (length (tables way s)) then record { answer = true; state = went way n s } else record { answer = false; state = s }
 
 -- a patch may be settled
 pub record MaySettle (patch : PatchValue) (s : State) (verbs : List Verb) : Type 0 where

@@ -1,55 +1,64 @@
-// The shelf and the sink of a program. Real files and the real output tell no content, so these
-// few lines are what a reader has to believe; their faults are counted.
-ghost use Rattle.std.specs.Prelude.{◌≡◌, None, is_some, false, IsTrue, not};
+// The shelf and the sink of a program: over a folder, and over a writer.
+ghost use Rattle.std.specs.Prelude.{◌≡◌, None, is_some, false, IsTrue, IsErr, IfOk, IfSome, not};
+ghost use Rattle.std.specs.Str.{IsUtf8};
 ghost use Rattle.std.specs.Io.KnownBytes.{Appends};
-ghost use Rattle.osm_outside.specs.Outside.{AppendsFront};
+ghost use Rattle.osm_outside.specs.Folder.{rest_of};
+ghost use Rattle.osm_outside.specs.Outside.{held, answered, Begins, HasCause, AppendsFront};
 
 use crate::outside::counted_fault;
-use crate::{Failed, Shelf, Sink};
-use std::fs::{self, File};
+use crate::{Failed, Folder, Shelf, Sink};
 use std::io::{ErrorKind, Read, Write};
 
-/// The files of the working folder, by name.
+/// The files of a folder, by name. Of a program it is the working folder, which the runtime opens.
 ///
 /// A name that doesn't exist is no file. One that can't be opened for another reason, as a name
 /// that isn't UTF-8, is a fault, and so is a folder at its first read. A call of the system that
-/// was interrupted is a fault too.
+/// was interrupted is a fault too. Where the folder tells its files, so does the shelf.
 #[derive(Drop)]
-pub struct HostShelf {
-    rt: HostRuntime,
-    file: Option<File>,
+pub struct HostShelf<F: Folder> {
+    folder: F,
+    file: Option<F::File>,
     faults: u64,
 }
 
-impl HostShelf {
-    /// The files that this runtime opens.
-    pub fn new(rt: HostRuntime) -> HostShelf
-        ensures begun { ⟦<HostShelf as Shelf>⟧.begun result ≡ false }
-        ensures faults { ⟦<HostShelf as Shelf>⟧.faults result ≡ 0 }
+impl<F: Folder> HostShelf<F> {
+    /// The files that this folder opens.
+    pub fn new(folder: F) -> HostShelf<F>
+        ensures told { ⟦<HostShelf<F> as Shelf>⟧.told result ≡ F.files folder }
+        ensures begun { ⟦<HostShelf<F> as Shelf>⟧.begun result ≡ false }
+        ensures faults { ⟦<HostShelf<F> as Shelf>⟧.faults result ≡ 0 }
     {
         HostShelf {
-            rt,
+            folder,
             file: None,
             faults: 0,
         }
     }
 }
 
-impl Shelf for HostShelf {
-    ghost told = { λ shelf. None };
+impl<F: Folder> Shelf for HostShelf<F> {
+    ghost told = { λ shelf. F.files shelf.folder };
 
-    ghost rest = { λ shelf. None };
+    ghost rest = { λ shelf. rest_of F.File.remaining shelf.file };
 
     ghost begun = { λ shelf. is_some shelf.file };
 
     ghost faults = { λ shelf. shelf.faults };
 
-    fn begin(&mut self, name: &[u8]) -> Result<bool, Failed> {
+    // A file that isn't there is no fault: a call fails only at a name that isn't UTF-8, or at
+    // which the folder says that opening may fail.
+    fn begin(&mut self, name: &[u8]) -> Result<bool, Failed>
+        ensures told { F.files self.new.folder ≡ F.files self.old.folder }
+        ensures begun { is_some self.new.file ≡ answered result }
+        ensures found { IfOk result (λ found. IfSome (F.files self.old.folder) (λ files. Begins (held files name.now) found (rest_of F.File.remaining self.new.file))) }
+        ensures cause { HasCause self.old.faults self.new.faults result }
+        ensures failed { IsErr result → IsUtf8 name.now → F.may_fail self.old.folder name.now }
+    {
         self.file = None;
         let Ok(name) = str::from_utf8(name) else {
             return Err(counted_fault(&mut self.faults));
         };
-        match fs::open(&self.rt, name) {
+        match self.folder.open(name) {
             Ok(file) => {
                 self.file = Some(file);
                 Ok(true)
@@ -89,6 +98,13 @@ impl<W: Write> HostSink<W> {
     {
         HostSink { inner, faults: 0 }
     }
+
+    /// The writer, with all that the sink took.
+    pub fn into_inner(self) -> W
+        ensures { W.contents result ≡ ⟦<HostSink<W> as Sink>⟧.taken self }
+    {
+        self.inner
+    }
 }
 
 impl<W: Write> Sink for HostSink<W> {
@@ -122,6 +138,7 @@ fn write_whole<W: Write>(to: &mut W, piece: &[u8]) -> bool
 #[cfg(test)]
 mod tests {
     use super::*;
+    use crate::Files;
     use std::io;
     use std::test::Fail;
 
@@ -215,6 +232,39 @@ mod tests {
         };
         assert!(rt; !read, "a folder is no file");
         assert_eq!(rt; shelf.faults, 2);
+        Ok(())
+    }
+
+    #[test]
+    fn shelf_reads_files_of_a_folder_in_memory(rt: HostRuntime) -> Result<(), Fail> {
+        let mut files = Files::new(rt.alloc());
+        files.push(b"town.opl", b"abc")?;
+        let mut shelf = HostShelf::new(files);
+        assert_eq!(rt; shelf.begin(b"city.opl"), Ok(false));
+        let mut front = [0u8; 2];
+        let mut back = [0u8; 2];
+        let begun = shelf.begin(b"town.opl");
+        let reads = if begun == Ok(true) {
+            [
+                shelf.next(&mut front),
+                shelf.next(&mut back),
+                shelf.next(&mut [0u8; 2]),
+            ]
+        } else {
+            [begun.map(|_| 0); 3]
+        };
+        assert_eq!(rt; reads, [Ok(2), Ok(1), Ok(0)]);
+        assert_eq!(rt; (front, back[0]), (*b"ab", b'c'));
+        assert_eq!(rt; shelf.faults, 0);
+        Ok(())
+    }
+
+    #[test]
+    fn sink_hands_its_writer_back(rt: HostRuntime) -> Result<(), Fail> {
+        let mut sink = HostSink::new(Vec::new(rt.alloc()));
+        assert_eq!(rt; sink.put(b"ab"), Ok(()));
+        assert_eq!(rt; sink.put(b"cd"), Ok(()));
+        assert_eq!(rt; sink.into_inner().as_slice(), b"abcd".as_slice());
         Ok(())
     }
 }
