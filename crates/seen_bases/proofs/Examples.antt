@@ -1,5 +1,5 @@
--- Worked examples: a conflict that is settled, and steps of an editor.
-use Rattle.std.proofs.Common.{◌≡◌, pos, false, [], ◌∷◌, Option, Some, None, refl, sym, ap, subst}
+-- Worked examples: a conflict that is settled.
+use Rattle.std.proofs.Common.{◌≡◌, pos, [], ◌∷◌, Option, Some, None, refl, sym, ap, subst}
 use mathlib.Core.Logic.{inl, inr}
 use Rattle.std.specs.Option.{option_or}
 use Rattle.osm_base.specs.Content.{node}
@@ -16,10 +16,7 @@ use Rattle.osm_table.specs.Table.{TableValue, entry_of, is_new}
 use Rattle.resolution.specs.declared.choice.Choice.TheVariants as choice
 use Rattle.resolution.specs.Resolve.{resolved}
 use Rattle.tool_api.specs.Resolve.{settled_entry}
-use Rattle.edit_history.specs.declared.counts.Group.TheVariants.{Outside}
-use Rattle.edit_history.specs.Machine.{State}
 use Rattle.seen_bases.specs.Bases.{HasSide, KeepsSides, Mentions, side_refers}
-use Rattle.seen_bases.specs.Editing.{Undo, Redo, edited}
 
 abbrev n9 : Key
 n9 = node (pos 9)
@@ -60,16 +57,3 @@ mentioned t is = side_refers w5 theirs (content.Way [] (pos 1 ∷ pos 9 ∷ []))
 
 enters : (t : TableValue) → entry_of t n9 ≡ None → settled_entry t w5 (Some settled) n9 ≡ Some Incomplete
 enters t none = ap (λ (o : Option Entry). option_or o (Some Incomplete)) none
-
--- one step back or on is made, two are refused
-abbrev editor : TableValue → TableValue → State
-editor a b = record { past = a ∷ []; now = b; undone = []; group = Outside; start = b; accepted = false }
-
-one_back : (a b : TableValue) → edited (Undo 1) (editor a b) ≡ record { past = []; now = a; undone = b ∷ []; group = Outside; start = a; accepted = false }
-one_back a b = refl
-
-two_back : (a b : TableValue) → edited (Undo 2) (editor a b) ≡ editor a b
-two_back a b = refl
-
-none_on : (a b : TableValue) → edited (Redo 1) (editor a b) ≡ editor a b
-none_on a b = refl

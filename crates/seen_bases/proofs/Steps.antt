@@ -4,16 +4,23 @@ use mathlib.Core.Logic.{inl, inr}
 use Rattle.std.specs.List.{AllByRecursion}
 use Rattle.osm_base.proofs.Lists.{all_joined, all_taken, all_dropped}
 use Rattle.osm_table.specs.Table.{TableValue}
-use Rattle.osm_table.specs.Told.{ToldValue}
-use Rattle.tool_api.specs.declared.job.Job.TheVariants as job
+use Rattle.dataset.specs.Patch.{after_of}
+use Rattle.tool_api.specs.declared.job.Job.{Job}
 use Rattle.tool_api.specs.declared.reply.Reply.{Reply}
 use Rattle.tool_api.specs.declared.reply.Reply.TheVariants as reply
 use Rattle.tool_api.specs.Plain.{plain}
 use Rattle.edit_history.specs.declared.counts.Group.{Group}
 use Rattle.edit_history.specs.declared.counts.Group.TheVariants.{Outside, Running, Refused}
 use Rattle.edit_history.specs.Machine.{State, done_in, refused_in, ran, went_back, went_on}
+use Rattle.edit_history.specs.declared.edit_step.EditAnswer.{EditAnswer}
+use Rattle.edit_history.specs.declared.edit_step.EditStep.{EditStep}
+use Rattle.edit_history.specs.declared.edit_step.EditStep.TheVariants.{Run, Begin, GiveUp, End, Undo, Redo, Settle}
+use Rattle.edit_history.specs.Moved.{Move}
+use Rattle.edit_history.specs.declared.sides.Direction.{Direction}
+use Rattle.edit_history.specs.declared.sides.Direction.TheVariants.{Back, On}
+use Rattle.edit_history.specs.Steps.{edited, job_move, steps_move}
 use Rattle.seen_bases.specs.Bases.{KeepsBases}
-use Rattle.seen_bases.specs.Editing.{EditStep, Run, Begin, GiveUp, End, Undo, Redo, answered_by, edited, IsEdit, EachTable, AnyByRecursion, in_past, at_now, in_undone, at_start, KeepsSome}
+use Rattle.seen_bases.specs.Editing.{IsEdit, EachTable, AnyByRecursion, in_past, at_now, in_undone, at_start, KeepsSome}
 use Rattle.seen_bases.proofs.Lists.{all_reversed}
 use Rattle.seen_bases.proofs.Jobs.{job_keeps}
 
@@ -58,28 +65,47 @@ module _ (P : TableValue → Type 0) where
   ran_tables (reply.Done keys) u s p h = done_tables s.group u s p h
   ran_tables (reply.Refused r) u s p h = refused_tables s.group s h
 
-  -- a download, where the table with it meets the condition
-  pub merged_tables : (told : ToldValue) (limit : ℕ) (s : State) → P (plain (job.Merge told) s.now limit).table → EachTable P s → EachTable P (answered_by (plain (job.Merge told) s.now limit) s)
-  merged_tables told limit s p h = let a = plain (job.Merge told) s.now limit in ran_tables a.reply a.table s p h
+  -- the same of the job with its answer
+  pub job_tables : (limit : ℕ) (j : Job) (s : State) → P (plain j s.now limit).table → EachTable P s → EachTable P (job_move limit j s).state
+  job_tables limit j s p h = let a = plain j s.now limit in ran_tables a.reply a.table s p h
 
   put_past : (b : Bool) (t : TableValue) (ts : List TableValue) → P t → AllByRecursion P ts → AllByRecursion P (cond b (t ∷ ts) ts)
   put_past true t ts p h = (p, h)
   put_past false t ts p h = h
 
-  if_enough : (b : Bool) (s u : State) → EachTable P s → EachTable P u → EachTable P (cond b u s)
-  if_enough true s u h i = i
-  if_enough false s u h i = h
+  if_enough : (b : Bool) (x y : Move EditAnswer) → EachTable P x.state → EachTable P y.state → EachTable P (cond b y x).state
+  if_enough true x y h i = i
+  if_enough false x y h i = h
 
-  -- what KeepsBases keeps of a table, a step that isn't a download keeps of each
-  pub edited_tables : ((t u : TableValue) → KeepsBases t u → P t → P u) → (step : EditStep) (s : State) → IsEdit step → EachTable P s → EachTable P (edited step s)
-  edited_tables keeps (Run j limit) s is h =
-      let a = plain j s.now limit in
-      ran_tables a.reply a.table s (keeps s.now a.table (job_keeps j s.now limit is) h.now) h
-  edited_tables keeps Begin s is h = record { past = h.past; now = h.now; undone = h.undone; start = h.now }
-  edited_tables keeps GiveUp s is h = record { past = h.past; now = h.start; undone = h.undone; start = h.start }
-  edited_tables keeps End s is h = record { past = put_past s.accepted s.start s.past h.start h.past; now = h.now; undone = h.undone; start = h.now }
-  edited_tables keeps (Undo n) s is h = if_enough (nat_le n (length s.past)) s (went_back n s) h (back_tables n s h)
-  edited_tables keeps (Redo n) s is h = if_enough (nat_le n (length s.undone)) s (went_on n s) h (on_tables n s h)
+  -- so many steps back or on
+  pub steps_tables : (way : Direction) (n : ℕ) (s : State) → EachTable P s → EachTable P (steps_move way n s).state
+  steps_tables Back n s h = if_enough (nat_le n (length s.past)) _ _ h (back_tables n s h)
+  steps_tables On n s h = if_enough (nat_le n (length s.undone)) _ _ h (on_tables n s h)
+
+  -- The table that the step makes of the one now, by a job or a patch, meets the condition.
+  abbrev pub Makes : ℕ → EditStep → State → Type 0
+  Makes limit (Run job) s = P (plain job.now s.now limit).table
+  Makes limit (Settle patch) s = P (after_of patch.now s.now)
+  Makes limit step s = Unit {0}
+
+  -- So does each table after any step.
+  pub edited_tables : (limit : ℕ) (step : EditStep) (s : State) → Makes limit step s → EachTable P s → EachTable P (edited limit step s).state
+  edited_tables limit (Run job) s p h = job_tables limit job.now s p h
+  edited_tables limit Begin s p h = record { past = h.past; now = h.now; undone = h.undone; start = h.now }
+  edited_tables limit GiveUp s p h = record { past = h.past; now = h.start; undone = h.undone; start = h.start }
+  edited_tables limit End s p h = record { past = put_past s.accepted s.start s.past h.start h.past; now = h.now; undone = h.undone; start = h.now }
+  edited_tables limit (Undo n) s p h = steps_tables Back n s h
+  edited_tables limit (Redo n) s p h = steps_tables On n s h
+  edited_tables limit (Settle patch) s p h = record { past = tt; now = p; undone = tt; start = p }
+
+  -- what KeepsBases keeps of a table, an edit keeps of each
+  pub kept_tables : ((t u : TableValue) → KeepsBases t u → P t → P u) → (limit : ℕ) (step : EditStep) (s : State) → IsEdit step → EachTable P s → EachTable P (edited limit step s).state
+  kept_tables keeps limit step s is h = edited_tables limit step s (makes step is) h
+    where
+      makes : (step : EditStep) → IsEdit step → Makes limit step s
+      makes (Run job) is = keeps s.now (plain job.now s.now limit).table (job_keeps job.now s.now limit is) h.now
+      makes (Settle patch) is = absurd is
+      makes step is = tt
 
 -- Each table of an editor keeps its own bases, so each after a step keeps those of some table before it.
 
@@ -112,5 +138,5 @@ some_on s t u h (at_now k) = at_now (bases_on s.now t u k h)
 some_on s t u h (in_undone a) = in_undone (any_more (λ x. KeepsBases x t) (λ x. KeepsBases x u) (λ x k. bases_on x t u k h) s.undone a)
 some_on s t u h (at_start k) = at_start (bases_on s.start t u k h)
 
-pub steps_keep : (step : EditStep) (s : State) → IsEdit step → EachTable (KeepsSome s) (edited step s)
-steps_keep step s is = edited_tables (KeepsSome s) (some_on s) step s is (own_tables s)
+pub steps_keep : (limit : ℕ) (step : EditStep) (s : State) → IsEdit step → EachTable (KeepsSome s) (edited limit step s).state
+steps_keep limit step s is = kept_tables (KeepsSome s) (some_on s) limit step s is (own_tables s)
