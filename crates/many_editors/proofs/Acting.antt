@@ -12,7 +12,10 @@ use Rattle.osm_table.specs.Table.{TableValue, entry_of}
 use Rattle.dataset.specs.Sound.{IsSound}
 use Rattle.tool_api.specs.declared.job.Job.TheVariants as job
 use Rattle.edit_history.specs.declared.counts.Group.TheVariants.{Outside}
-use Rattle.edit_history.specs.Machine.{refused_in}
+use Rattle.edit_history.specs.declared.edit_step.EditAnswer.{EditAnswer}
+use Rattle.edit_history.specs.Machine.{State, refused_in}
+use Rattle.edit_history.specs.Moved.{Move}
+use Rattle.edit_history.specs.Steps.{edited, job_move}
 use Rattle.upload_order.specs.declared.change.Change.{Change}
 use Rattle.upload_order.specs.declared.refusal.PlanRefusal.{PlanRefusal}
 use Rattle.upload_order.specs.Refused.{upload}
@@ -22,10 +25,9 @@ use Rattle.placeholder.specs.declared.answer.Answer.{Answer}
 use Rattle.server_world.specs.Codes.{Objects}
 use Rattle.seen_bases.specs.Bases.{Mentions}
 use Rattle.seen_bases.specs.Bases.Mentions.{has_key}
-use Rattle.seen_bases.specs.Editing.{EditStep, edited, IsEdit, EachTable}
-use Rattle.seen_bases.specs.Editing as step
+use Rattle.seen_bases.specs.Editing.{EachTable}
 use Rattle.seen_bases.proofs.Lists.{all_more}
-use Rattle.seen_bases.proofs.Steps.{edited_tables, merged_tables, refused_tables}
+use Rattle.seen_bases.proofs.Steps.{job_tables, kept_tables, refused_tables}
 use Rattle.many_editors.specs.declared.act.MeetAct.{MeetAct}
 use Rattle.many_editors.specs.declared.act.MeetAct.TheVariants as act
 use Rattle.many_editors.specs.States.{IsFromStates, IsServer}
@@ -33,9 +35,9 @@ use Rattle.many_editors.specs.Serving.{told_of_state}
 use Rattle.many_editors.specs.Sending.{version_end, ArePicked}
 use Rattle.many_editors.specs.Meeting.{Editor, Meeting, states, at_editor, at_work, first_editor, first_editors, served, stepped}
 use Rattle.many_editors.specs.Acts.{fetch_met, changes_met, send_met, met_at_work, met_waiting, met_by, met_of, met}
-use Rattle.many_editors.specs.Laws.{IsAbsent, IsNewId, IsUnmentioned, MayKeepSound, OfEachTable}
+use Rattle.many_editors.specs.Laws.{AllKeysStand, IsAbsent, IsNewId, IsUnmentioned, KeysStand, MayKeepSound, OfEachTable}
 use Rattle.many_editors.specs.Sound.{MayWait, IsFrom, IsSoundMeeting, KeepsSound}
-use Rattle.many_editors.proofs.Stating.{keeps_states, empty_states, unmentioned}
+use Rattle.many_editors.proofs.Stating.{keeps_states, empty_states, mentioned_stands, unmentioned}
 use Rattle.many_editors.proofs.Merging.{fetched_states}
 use Rattle.many_editors.proofs.Waiting.{each_map, here, at_sound, answered_sound, lost_sound, sent_sound}
 
@@ -46,18 +48,15 @@ module _ (m : Meeting) (s : IsSoundMeeting m) (n : ℕ) (e : Editor) (at : slice
   -- An editor at work.
   module _ (idle : e.waits ≡ None) where
     -- a step of its machine after which its tables are from the states
-    step_sound : (step : EditStep) → EachTable (IsFromStates (states m)) (edited step e.state) → IsSoundMeeting (at_editor n (stepped step) m)
-    step_sound step from = at_sound m s n e at (stepped step) (record { tables = from; waits = subst (MayWait (states m) (edited step e.state)) (sym idle) tt })
-
-    edit_sound : (step : EditStep) → IsEdit step → IsSoundMeeting (at_editor n (stepped step) m)
-    edit_sound step edit = step_sound step (edited_tables (IsFromStates (states m)) (keeps_states (states m)) step e.state edit tables)
+    step_sound : (move : State → Move EditAnswer) → EachTable (IsFromStates (states m)) (move e.state).state → IsSoundMeeting (at_editor n (stepped move) m)
+    step_sound move from = at_sound m s n e at (stepped move) (record { tables = from; waits = subst (MayWait (states m) (move e.state).state) (sym idle) tt })
 
     module _ (is : IsSound e.state.now) (limit : ℕ) where
       fetch_sound : (area : Option Area) (wanted : Option (List Pair)) (back : ℕ) (o : Option Objects) → slice_get (states m) back ≡ o → IsSoundMeeting (fetch_met limit n area wanted e.state o m).meeting
       fetch_sound area wanted back None get = at_sound m s n e at (λ e. at_work (refused_in e.state.group e.state)) (record { tables = refused_tables (IsFromStates (states m)) e.state.group e.state tables; waits = tt })
       fetch_sound area wanted back (Some objects) get =
           let told = told_of_state objects area wanted in
-          step_sound (step.Run (job.Merge told) limit) (merged_tables (IsFromStates (states m)) told limit e.state (fetched_states (states m) back objects area wanted e.state.now limit s.servers get is tables.now) tables)
+          step_sound (job_move limit (job.Merge told)) (job_tables (IsFromStates (states m)) limit (job.Merge told) e.state (fetched_states (states m) back objects area wanted e.state.now limit s.servers get is tables.now) tables)
 
       changes_sound : (count : ℕ) (changes : List Change) → upload e.state.now ≡ Ok changes → e.state.group ≡ Outside → (version_end (take count changes) ≡ None → ArePicked e.state.now m.world (take count changes))
           → (end : Option Key) → version_end (take count changes) ≡ end → IsSoundMeeting (changes_met n (take count changes) e.state end m).meeting
@@ -70,12 +69,7 @@ module _ (m : Meeting) (s : IsSoundMeeting m) (n : ℕ) (e : Editor) (at : slice
 
       work_sound : (act : MeetAct) → KeepsSound act e.state m.world → IsSoundMeeting (met_at_work limit n act e.state m).meeting
       work_sound (act.Fetch back area wanted) may = fetch_sound area (option_map (λ tags. tags.now) wanted) back (slice_get (states m) back) refl
-      work_sound (act.Job job) may = edit_sound (step.Run job.now limit) may
-      work_sound act.Begin may = edit_sound step.Begin tt
-      work_sound act.GiveUp may = edit_sound step.GiveUp tt
-      work_sound act.End may = edit_sound step.End tt
-      work_sound (act.Undo steps) may = edit_sound (step.Undo steps) tt
-      work_sound (act.Redo steps) may = edit_sound (step.Redo steps) tt
+      work_sound (act.Own step) may = step_sound (edited limit step) (kept_tables (IsFromStates (states m)) (keeps_states (states m)) limit step e.state may tables)
       work_sound (act.Send count) may = send_sound count may (upload e.state.now) refl
       work_sound act.Answer may = s
       work_sound act.Lost may = s
@@ -83,12 +77,7 @@ module _ (m : Meeting) (s : IsSoundMeeting m) (n : ℕ) (e : Editor) (at : slice
   -- An editor that waits.
   wait_sound : (act : MeetAct) (answers : List Answer) → e.waits ≡ Some answers → IsSoundMeeting (met_waiting n act answers m).meeting
   wait_sound (act.Fetch back area wanted) answers waits = s
-  wait_sound (act.Job job) answers waits = s
-  wait_sound act.Begin answers waits = s
-  wait_sound act.GiveUp answers waits = s
-  wait_sound act.End answers waits = s
-  wait_sound (act.Undo steps) answers waits = s
-  wait_sound (act.Redo steps) answers waits = s
+  wait_sound (act.Own step) answers waits = s
   wait_sound (act.Send count) answers waits = s
   wait_sound act.Answer answers waits = answered_sound m s n e at answers waits
   wait_sound act.Lost answers waits = lost_sound m s n e at
@@ -148,3 +137,9 @@ pub absent_from_tables : (m : Meeting) (k : Key) → IsSoundMeeting m → IsNewI
 absent_from_tables m k s new =
     all_more (λ e. EachTable (IsUnmentioned k) e.state) (λ e. EachTable (IsAbsent k) e.state)
     (λ e h. each_map (IsUnmentioned k) (IsAbsent k) e.state (λ t none. not_there t k (entry_of t k) refl none) h) m.editors (new_to_tables m k s new)
+
+-- Each positive key of a table stands in the world.
+pub keys_stand : (m : Meeting) → IsSoundMeeting m → AllKeysStand m
+keys_stand m s =
+    all_more (IsFrom (states m)) (λ e. EachTable (KeysStand m.world) e.state)
+    (λ e h. each_map (IsFromStates (states m)) (KeysStand m.world) e.state (λ t from k entry is positive. mentioned_stands m.earlier m.world.entries t k s.history.0 from positive (has_key entry is)) h.tables) m.editors s.editors

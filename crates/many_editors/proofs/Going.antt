@@ -1,5 +1,5 @@
 -- A step of a meeting by the part that does it.
-use Rattle.std.proofs.Common.{◌≡◌, ℕ, true, false, List, [], get_or, is_some, slice_get, Option, Some, None, Result, Vec, IfOk, OnOk, refl, sym, ◌∙◌, ap, subst}
+use Rattle.std.proofs.Common.{◌≡◌, ℕ, true, false, List, [], get_or, is_some, slice_get, Option, Some, None, Result, Ok, Err, Vec, IfOk, OnOk, refl, sym, ◌∙◌, ap, subst}
 use Rattle.std.specs.Option.{option_map}
 use Rattle.std.specs.declared.dyn_box.DynBox.{DynBox}
 use Rattle.std.specs.declared.alloc.Global.{Global}
@@ -25,10 +25,10 @@ use Rattle.many_editors.specs.Lifted.{fetched, own_act, sent_at, IsAt, IsPickedA
 use Rattle.many_editors.specs.Meeting as seen
 use Rattle.many_editors.specs.Meeting.{states}
 use Rattle.many_editors.specs.Own.{IsOwn, IsTaken, MayOwn, MayOwnBy}
-use Rattle.many_editors.specs.Shown.{shown_editor, shown_meeting, verbs_met, ComesOf, FitsMeeting, MovedMeeting}
-use Rattle.many_editors.specs.Laws.{HasSoundTable}
+use Rattle.many_editors.specs.Shown.{shown_editor, shown_meeting, verbs_met, ComesOf, FitsMeeting, MovedMeeting, ValidMeeting}
+use Rattle.many_editors.specs.Laws.{AllKeysStand, HasSoundTable}
 use Rattle.many_editors.specs.Sound.{IsSoundMeeting, KeepsSound, MayWait}
-use Rattle.many_editors.proofs.Acting.{met_sound}
+use Rattle.many_editors.proofs.Acting.{keys_stand, met_sound}
 use Rattle.many_editors.proofs.Lifting.{always, shown_at}
 use Rattle.many_editors.proofs.Replying.{met_calm}
 use Rattle.many_editors.proofs.Stepping.{met_fetches, met_sends, met_waits, met_works, moved_by}
@@ -38,24 +38,14 @@ use Rattle.many_editors.proofs.Waiting.{here, sent_finds}
 pub other_own : (a : MeetAct) → ((back : ℕ) (area : Option Area) (wanted : _) → a ≡ act.Fetch back area wanted → ⊥) → ((count : ℕ) → a ≡ act.Send count → ⊥) → IsOwn a
 other_own (act.Fetch back area wanted) no_fetch no_send = no_fetch back area wanted refl
 other_own (act.Send count) no_fetch no_send = no_send count refl
-other_own (act.Job job) no_fetch no_send = tt
-other_own act.Begin no_fetch no_send = tt
-other_own act.GiveUp no_fetch no_send = tt
-other_own act.End no_fetch no_send = tt
-other_own (act.Undo steps) no_fetch no_send = tt
-other_own (act.Redo steps) no_fetch no_send = tt
+other_own (act.Own step) no_fetch no_send = tt
 other_own act.Answer no_fetch no_send = tt
 other_own act.Lost no_fetch no_send = tt
 
 own_keeps : (a : MeetAct) (s : State) (verbs : List Verb) (w : World) → IsOwn a → MayWork a s verbs → KeepsSound a s w
 own_keeps (act.Fetch back area wanted) s verbs w own may = absurd own
 own_keeps (act.Send count) s verbs w own may = absurd own
-own_keeps (act.Job job) s verbs w own may = may.edits
-own_keeps act.Begin s verbs w own may = tt
-own_keeps act.GiveUp s verbs w own may = tt
-own_keeps act.End s verbs w own may = tt
-own_keeps (act.Undo steps) s verbs w own may = tt
-own_keeps (act.Redo steps) s verbs w own may = tt
+own_keeps (act.Own step) s verbs w own may = may.edits
 own_keeps act.Answer s verbs w own may = tt
 own_keeps act.Lost s verbs w own may = tt
 
@@ -63,14 +53,14 @@ own_keeps act.Lost s verbs w own may = tt
 pub all_seen : (n : ℕ) (a : MeetAct) (m : seen.Meeting) → IsSoundMeeting m → HasSoundTable n m → IsSeen n a m
 all_seen n (act.Send count) m sound tables = λ e changes at up. sent_finds m sound n e at changes count (tables e at) up
 all_seen n (act.Fetch back area wanted) m sound tables = tt
-all_seen n (act.Job job) m sound tables = tt
-all_seen n act.Begin m sound tables = tt
-all_seen n act.GiveUp m sound tables = tt
-all_seen n act.End m sound tables = tt
-all_seen n (act.Undo steps) m sound tables = tt
-all_seen n (act.Redo steps) m sound tables = tt
+all_seen n (act.Own step) m sound tables = tt
 all_seen n act.Answer m sound tables = tt
 all_seen n act.Lost m sound tables = tt
+
+-- in a meeting that is valid after a step each positive key of a table stands in the world
+pub step_keys : {X : Type 0} {F : X → Type 0} {E : Type 0} (done undone : DynBox X Global F → List PatchValue) (new : Meeting X F) (result : Result MeetReply E) → OnOk result (ValidMeeting done undone new) → OnOk result (AllKeysStand (shown_meeting done undone new))
+step_keys done undone new (Ok reply) valid = keys_stand (shown_meeting done undone new) valid.sound
+step_keys done undone new (Err why) valid = tt
 
 module _ {X : Type 0} {F : X → Type 0} (done undone : DynBox X Global F → List PatchValue) (kind : DynBox X Global F → Verb) (old : Meeting X F) (n : ℕ) (a : MeetAct) (x : Editor X F) (at : slice_get old.editors.items n ≡ Some x) (fits : FitsMeeting done undone kind old (MayAct n a)) where
   shows : slice_get (shown_meeting done undone old).editors n ≡ Some (shown_editor done undone x)

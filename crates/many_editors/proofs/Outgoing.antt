@@ -18,6 +18,8 @@ use Rattle.download.specs.Tell.{AreTellable}
 use Rattle.tool_api.specs.declared.job.Job.TheVariants as job
 use Rattle.tool_api.specs.declared.verb.Verb.{Verb}
 use Rattle.edit_history.specs.Shown.{shown, Valid, verbs_of}
+use Rattle.edit_history.specs.Moved.{MayRun}
+use Rattle.edit_history.specs.Steps.{job_move}
 use Rattle.upload_order.specs.declared.change.Change.{Change}
 use Rattle.upload_order.specs.Refused.{upload}
 use Rattle.upload_order.proofs.Basics.{both, none_some}
@@ -36,7 +38,7 @@ use Rattle.many_editors.specs.Lifted.{changes_at, changes_of, fetched, lifted, o
 use Rattle.many_editors.specs.Logged.{sent_by, IsSent}
 use Rattle.many_editors.specs.Meeting as seen
 use Rattle.many_editors.specs.Meeting.{states, waiting_for}
-use Rattle.many_editors.specs.Own.{own_job, own_no_state, IsAtWork, MayOwnRun}
+use Rattle.many_editors.specs.Own.{own_no_state, own_step, IsAtWork}
 use Rattle.many_editors.specs.Sending.{version_end, ArePicked}
 use Rattle.many_editors.specs.Serving.{told_objects}
 use Rattle.many_editors.specs.Shown.{shown_editor, shown_meeting, verbs_met, AreValid, ComesOf, FitsEditor, MovedEditor}
@@ -44,6 +46,10 @@ use Rattle.many_editors.specs.States.{IsServer}
 use Rattle.many_editors.proofs.Fetching.{state_tellable}
 use Rattle.many_editors.proofs.Laying.{length_before}
 use Rattle.many_editors.proofs.Lifting.{all_at, all_set, fits_at, lifts, map_same, shown_at, with_set}
+
+-- an editor may merge
+abbrev pub MayOwnMerge : ToldValue → seen.Editor → List Verb → Type 0
+MayOwnMerge told e verbs = MayRun (job.Merge told) e.state verbs
 
 same_ok : {A B : Type 0} (r : Result A B) (x y : A) → r ≡ Ok x → r ≡ Ok y → x ≡ y
 same_ok r x y e f = let h : Ok x ≡ Ok y = sym e ∙ f in cc
@@ -113,8 +119,8 @@ module _ {X : Type 0} {F : X → Type 0} (done undone : DynBox X Global F → Li
     pub fetch_fits : AreValid done undone old → IsAt n MayFetch (shown_meeting done undone old) (verbs_met kind old) → FitsEditor done undone kind x IsAtWork
     fetch_fits valid fits = fits_at done undone kind old n x IsAtWork at valid (record { there = fits.there; asked = λ e h. (fits.asked e h).work })
 
-    pub merge_fits : (told : ToldValue) → AreValid done undone old → IsAt n MayFetch (shown_meeting done undone old) (verbs_met kind old) → FitsEditor done undone kind x (MayOwnRun (job.Merge told))
-    merge_fits told valid fits = fits_at done undone kind old n x (MayOwnRun (job.Merge told)) at valid (record { there = fits.there; asked = λ e h. record { there = (fits.asked e h).merge.there; formed = tt; unrefused = (fits.asked e h).merge.unrefused } })
+    pub merge_fits : (told : ToldValue) → AreValid done undone old → IsAt n MayFetch (shown_meeting done undone old) (verbs_met kind old) → FitsEditor done undone kind x (MayOwnMerge told)
+    merge_fits told valid fits = fits_at done undone kind old n x (MayOwnMerge told) at valid (record { there = fits.there; asked = λ e h. record { there = (fits.asked e h).merge.there; formed = tt; unrefused = (fits.asked e h).merge.unrefused } })
 
     pub no_state_comes : {E : Type 0} (new : Meeting X F) (result : Result MeetReply E) (w : Editor X F) (count limit back : ℕ) (area : Option Area) (wanted : Option (List Pair))
         → new.editors.items ≡ slice_set old.editors.items n w → new.world ≡ old.world → new.log.items ≡ old.log.items → AreValid done undone old
@@ -129,14 +135,14 @@ module _ {X : Type 0} {F : X → Type 0} (done undone : DynBox X Global F → Li
 
     pub fetch_comes : {E : Type 0} (new : Meeting X F) (result : Result MeetReply E) (w : Editor X F) (limit back : ℕ) (area : Option Area) (wanted : Option (List Pair)) (objects : List OplObject) (told : ToldValue)
         → new.editors.items ≡ slice_set old.editors.items n w → new.world ≡ old.world → new.log.items ≡ old.log.items → AreValid done undone old
-        → Some objects ≡ option_map told_objects (slice_get (states (shown_meeting done undone old)) back) → told ≡ filtered objects area wanted → MovedEditor done undone kind x w result (own_job limit (job.Merge told))
+        → Some objects ≡ option_map told_objects (slice_get (states (shown_meeting done undone old)) back) → told ≡ filtered objects area wanted → MovedEditor done undone kind x w result (own_step (job_move limit (job.Merge told)))
         → ComesOf done undone kind old new result (fetched limit n back area wanted)
     fetch_comes new result w limit back area wanted objects told editors world log valid is tells moved =
         let m = shown_meeting done undone old in
         let state = told_some _ objects is in
-        comes_as old new result (lifted n (own_job limit (job.Merge told))) (fetched limit n back area wanted)
-        (ap (λ t. lifted n (own_job limit (job.Merge t)) m) (tells ∙ ap (λ os. filtered os area wanted) state.2) ∙ ap (λ o. lifted n (own_fetch limit area wanted (length m.earlier) o) m) (sym state.1))
-        (lifts done undone kind old new result n x w (own_job limit (job.Merge told)) at editors world log valid moved)
+        comes_as old new result (lifted n (own_step (job_move limit (job.Merge told)))) (fetched limit n back area wanted)
+        (ap (λ t. lifted n (own_step (job_move limit (job.Merge t))) m) (tells ∙ ap (λ os. filtered os area wanted) state.2) ∙ ap (λ o. lifted n (own_fetch limit area wanted (length m.earlier) o) m) (sym state.1))
+        (lifts done undone kind old new result n x w (own_step (job_move limit (job.Merge told))) at editors world log valid moved)
 
     -- A send.
 

@@ -7,6 +7,7 @@ ghost use Rattle.server_world.specs.Unsound.{first_unsound};
 ghost use Rattle.many_editors.specs.Acts.{met};
 ghost use Rattle.many_editors.specs.Asked.{MayAct, MayServe, IsSeen, NeverClashes};
 ghost use Rattle.many_editors.specs.Boxed.{shown_meeting, verbs_met, AreValid, ComesOf, FitsMeeting, IsAsked, IsKept, IsServed, KeepsVerbs, MovedMeeting, ValidMeeting};
+ghost use Rattle.many_editors.specs.Laws.{AllKeysStand};
 ghost use Rattle.many_editors.specs.Lifted.{changes_at, fetched, own_act, sent_at, ArePickedAt, IsAt, IsPickedAt, MayFetch, MaySend};
 ghost use Rattle.many_editors.specs.Meeting.{first_meeting, joined, IfEditor};
 ghost use Rattle.many_editors.specs.Own.{MayOwn};
@@ -21,7 +22,7 @@ use crate::reply::{MeetRefusal, MeetReply};
 use crate::sending::{first_changes, send, version_end};
 use dataset::DataSet;
 use download::filter;
-use edit_history::{Group, History};
+use edit_history::{EditStep, Group, History};
 use opl_file::Objects;
 use opl_line::OplObject;
 use osm_base::{Area, Key, Tags};
@@ -119,6 +120,8 @@ impl Meeting {
         ensures seen { OnOk result (IsSeen editor act.now (shown_meeting done undone self.old)) }
         // A fetch is never refused for a clash of versions.
         ensures clash { IfOk result (NeverClashes act.now) }
+        // Each object with a server's id in a table of an editor stands at the server.
+        ensures keys { OnOk result (AllKeysStand (shown_meeting done undone self.new)) }
     {
         self.editors[editor].history.ds().sound();
         if self.editors[editor].answers.is_some() {
@@ -195,7 +198,8 @@ impl Meeting {
             None => self.editors[editor].refuse_state(self.log.len() as u64),
             Some(objects) => {
                 let told = Shared::new(alloc, filter(alloc, objects, area, wanted)?)?;
-                self.editors[editor].run(&Job::Merge { told }, limit)
+                let job = Job::Merge { told };
+                self.editors[editor].step(&EditStep::Run(&job), limit)
             }
         }
     }
