@@ -14,11 +14,14 @@ from launcher.store import NAME, remove
 PROGRAM = 'editor'
 # Bytes of disk: of a kept library for each line of Rattle, and of temporary files beside them.
 DISK_OF_LINE, DISK_OF_WORK = 170e3, 0.5e9
-# Of the free memory, what proofs side by side may take.
-PART_OF_MEMORY = 0.85
+# Of the free memory, what proofs side by side may take, and the most bytes that they are planned for: more of them side by
+# side would end a tenth sooner, and take half as much again.
+PART_OF_MEMORY, MOST_MEMORY = 0.85, 8e9
 # Reckoned seconds that count as if they had been held against the clock, so that one small proof doesn't turn the time that
 # is told; and seconds after which something is said though nothing ended.
 PRIOR, SILENCE = 300.0, 120.0
+# The part of what a proof has taken that it is taken to need still, where it takes longer than reckoned.
+MORE = 0.15
 EACH_LOOK = 0.5
 EXAMPLE = ('examples', 'edit.script', 'edit.expected')
 
@@ -82,7 +85,7 @@ class Build:
         self.begun = time.monotonic()
         self.jobs = self.wishes.jobs or machine.processors()
         self.keys = keys.of_crates(self.crates, self.texts, self.toolkit.identity)
-        self.schedule = Schedule(self.crates, self.jobs, PART_OF_MEMORY * machine.free_memory())
+        self.schedule = plan(self.crates, self.jobs)
         self.proved, self.alone, self.running = set(), set(), []
         self.reckoned = self.taken = 0.0
         self.told = self.begun
@@ -201,14 +204,23 @@ class Build:
         return os.path.join(self.home, 'crates', name)
 
     def left_of_running(self):
-        """The proofs that run, with what is left of each as far as its reckoned time tells."""
+        """The proofs that run, with what is left of each as far as its reckoned time tells. One that takes longer than that is
+        taken to need some more."""
         pace = self.pace()
-        return [Running(it.start, max(10.0, self.schedule.seconds[it.start.name] - RATES[it.start.jobs] * it.seconds / pace))
-                for it in self.running]
+        found = []
+        for it in self.running:
+            done = RATES[it.start.jobs] * it.seconds / pace
+            found.append(Running(it.start, max(10.0, MORE * done, self.schedule.seconds[it.start.name] - done)))
+        return found
 
     def pace(self):
-        """How many seconds a reckoned second takes here, as far as the proofs that ended tell."""
-        return (self.taken + PRIOR) / (self.reckoned + PRIOR)
+        """How many seconds a reckoned second takes here, as far as the proofs tell that ended or take longer than reckoned."""
+        taken, reckoned = self.taken, self.reckoned
+        for it in self.running:
+            so_far, whole = RATES[it.start.jobs] * it.seconds, self.schedule.seconds[it.start.name]
+            if so_far > whole:
+                taken, reckoned = taken + so_far, reckoned + whole
+        return (taken + PRIOR) / (reckoned + PRIOR)
 
     def seconds_left(self):
         """The seconds until all is proved, as far as the schedule and the proofs that ended tell."""
@@ -340,16 +352,19 @@ def keep_program(home, store, toolkit, texts, part, key, how):
     return path
 
 
-def copy_to_checkout(home, path):
-    """Copies the program into the checkout (crates/editor/out), from where it is installed and measured."""
+def copy_to_checkout(home, path, tells=True):
+    """Copies the program into the checkout (crates/editor/out), from where it is installed and measured, if it isn't there."""
     to = os.path.join(home, 'crates', PROGRAM, 'out', PROGRAM)
     try:
+        if os.path.isfile(to) and keys.of_file(to) == keys.of_file(path):
+            return
         os.makedirs(os.path.dirname(to), exist_ok=True)
         shutil.copyfile(path, to + '.part')
         os.chmod(to + '.part', 0o755)
         os.replace(to + '.part', to)
     except OSError as error:
-        say('{} can\'t be written ({}): the program is in {} alone'.format(to, error.strerror, path))
+        if tells:
+            say('{} can\'t be written ({}): the program is in {} alone'.format(to, error.strerror, path))
 
 
 def commit(home):
@@ -360,6 +375,11 @@ def commit(home):
     except OSError:
         return ''
     return done.stdout.decode('utf-8', 'replace').strip() if done.returncode == 0 else ''
+
+
+def plan(crates_needed, jobs):
+    """The schedule of these crates' proofs on this machine."""
+    return Schedule(crates_needed, jobs, min(MOST_MEMORY, PART_OF_MEMORY * machine.free_memory()))
 
 
 def needed(home):

@@ -67,8 +67,10 @@ def script_of(words):
     return words[0]
 
 
-def command(home, script, folder):
+def command(script, folder):
     """The words of the call of rt try."""
+    if not os.path.isfile(os.path.join(folder, script)):
+        raise Stop('--look takes a script that is a file, and {} is none'.format(script), 2)
     with open(os.path.join(folder, script), 'rb') as file:
         text = file.read(LARGEST).decode('utf-8', 'replace')
     name = script if can_be_given(script) else 'the.script'
@@ -82,7 +84,7 @@ def run(home, words):
     if not shutil.which('rt'):
         raise Stop('--look needs the Rattle toolkit: there is no command rt on the path. {} says which it is'
                    .format(os.path.join(home, 'README.md')), 127)
-    call = command(home, script, os.getcwd())
+    call = command(script, os.getcwd())
     say('running {} unproved, by rt try: two minutes or three, and nothing is proved by it. Nothing is kept'.format(script))
     sys.stdout.flush()
     # rt gets standard error through a pipe, since its last lines are for who writes Rattle, and are put in plain words here.

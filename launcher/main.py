@@ -5,8 +5,8 @@ import signal
 import sys
 import time
 
-from launcher import keys, look, programs, toolkit, words
-from launcher.messages import Stop, count, gigabytes, say
+from launcher import keys, look, machine, programs, toolkit, words
+from launcher.messages import Stop, count, gigabytes, minutes, say
 from launcher.store import Store, default_folder
 
 HOME = os.path.dirname(os.path.dirname(os.path.abspath(__file__)))
@@ -64,7 +64,9 @@ def run(arguments):
     if not path:
         words.hold_to_script(arguments)
         path = proved_now(store, crates, texts, {})
-    sys.stdout.flush()
+    # Python ignores these, and the program would inherit that.
+    for number in (signal.SIGPIPE, signal.SIGXFSZ):
+        signal.signal(number, signal.SIG_DFL)
     os.execv(path, [PROGRAM, *arguments])
 
 
@@ -73,7 +75,12 @@ def proved(store, sources):
     found = store.program(sources, None)
     kit = toolkit.find(store) if found else None
     found = store.program(sources, kit.identity) if kit else found
-    return found[0] if found else None
+    if not found:
+        return None
+    from launcher import build
+
+    build.copy_to_checkout(HOME, found[0], tells=False)
+    return found[0]
 
 
 def released(sources):
@@ -91,7 +98,8 @@ def proved_now(store, crates, texts, flags):
     toolkit.demand(toolkit.find(store), HOME)
     store.make(HOME)
     for number in (signal.SIGTERM, signal.SIGHUP):
-        signal.signal(number, lambda it, _: sys.exit(128 + it))
+        if signal.getsignal(number) != signal.SIG_IGN:  # nohup ignores SIGHUP
+            signal.signal(number, lambda it, _: sys.exit(128 + it))
     mine = 'process {}, since {}'.format(os.getpid(), time.strftime('%H:%M'))
     with store.lock(mine, told_of_other):
         kit = toolkit.demand(toolkit.find(store, may_write=True), HOME)
@@ -168,11 +176,12 @@ def version_text():
 
 def help_text():
     """What --help answers."""
-    from launcher import build, schedule
+    from launcher import build
 
     crates = build.needed(HOME)
-    plan = schedule.Schedule(crates, 4, 1e12)
-    memory = max(plan.need(it) for it in crates)
+    plan = build.plan(crates, words.jobs_wanted() or machine.processors())
+    seconds = plan.seconds_left(list(crates), set(), [])
+    largest = max(plan.need(it) for it in crates)
     disk = build.DISK_OF_WORK + build.DISK_OF_LINE * sum(it.lines for it in crates.values())
-    log = Store(default_folder()).log('build.log')
-    return words.HELP.format(memory='{} to 6 GB'.format(gigabytes(memory)[:-3]), disk=gigabytes(disk), log=log)
+    return words.HELP.format(minutes=minutes(seconds), memory=gigabytes(max(largest, min(6e9, plan.memory))), disk=gigabytes(disk),
+                             log=Store(default_folder()).log('build.log'))

@@ -13,12 +13,16 @@ from launcher.crates import all_below
 # proofs and begin the time that is told; nothing else hangs on them.
 SECONDS, SECONDS_A_LINE = 25.0, 0.12
 # Bytes of memory: a proof's own, what a thousand lines of its crate add, a thousand lines below it, and a further job.
-MEMORY, MEMORY_OF_LINES, MEMORY_BELOW, MEMORY_OF_JOB = 1.5e9, 0.5e9, 0.04e9, 0.3e9
+MEMORY, MEMORY_OF_LINES, MEMORY_BELOW, MEMORY_OF_JOB = 1.2e9, 0.45e9, 0.05e9, 0.3e9
 # How much faster a proof is with more jobs; more than four seldom help.
 RATES = {1: 1.0, 2: 1.4, 3: 1.65, 4: 1.85}
 MOST_JOBS = max(RATES)
 # A crate with fewer seconds to spare than these is taken for one of the longest chain.
 CLOSE = 30.0
+# The end hangs on the longest chain where that is so many times what each processor has to do; its crates then have so many
+# jobs at least. Played through with the measured seconds of this repository's crates, and with jobs that help much or little,
+# these two end first or nearly so on three, four and eight processors.
+HANGS, FAVOURED = 1.3, 2
 
 
 @dataclass(frozen=True)
@@ -69,9 +73,9 @@ class Schedule:
     def next(self, waiting, proved, running, alone=()):
         """The proof that is to begin now, or None. `alone` names those that want nothing beside them.
 
-        From three processors on the end hangs on the longest chain: the crate that begins it gets all the jobs that help
-        and needn't wait for a processor, since what has time to spare yields to it. A further job costs processor time, so
-        any other crate has one job while another is ready."""
+        Where the end hangs on the longest chain, the crate that begins it has a second job and needn't wait for a processor,
+        since what has time to spare yields to it. A further job costs processor time, so any other crate has one job while
+        another is ready."""
         ready = [it for it in self.order if it in waiting and proved.issuperset(self.crates[it].below)]
         if any(it.start.name in alone for it in running):
             return None
@@ -93,12 +97,16 @@ class Schedule:
     def share(self, name, waiting, running, others):
         """How many jobs a crate gets, 0 where it is to wait, and the seconds that its chain has to spare."""
         ends = [self.chain[it.start.name] - self.seconds[it.start.name] + it.left for it in running]
-        spare = max(0.0, max(ends + [self.chain[it] for it in waiting]) - self.chain[name])
+        longest = max(ends + [self.chain[it] for it in waiting])
+        spare = max(0.0, longest - self.chain[name])
+        work = sum(self.seconds[it] for it in waiting) + sum(it.left for it in running)
         idle = self.processors - len(running)
+        jobs = min(MOST_JOBS, max(1, idle - others)) if idle > 0 else 0
         is_led = any(it.start.jobs > 1 and it.start.spare < CLOSE for it in running)
-        if spare < CLOSE and self.processors > 2 and idle >= 0 and not is_led:
-            return min(MOST_JOBS, self.processors), spare
-        return (min(MOST_JOBS, max(1, idle - others)) if idle > 0 else 0), spare
+        hangs = self.processors > 2 and longest > HANGS * work / self.processors
+        if hangs and spare < CLOSE and idle >= 0 and not is_led:
+            return max(FAVOURED, jobs), spare
+        return jobs, spare
 
     def seconds_left(self, waiting, proved, running, alone=()):
         """The reckoned seconds until all is proved, by playing the rest of the schedule through."""

@@ -10,9 +10,9 @@ HELP = '''usage: ./editor [--max-objects N] [--max-file N] SCRIPT
        ./editor --prove
 
 Runs a script over OPL files (docs/GUIDE.md), and writes the replies and the data to standard output. The first time it
-proves the program's crates and builds the program, which takes about half an hour on four processors, {memory} of memory
-and {disk} of disk until it is done; it may be interrupted, and goes on later from what is proved. Then it starts at once,
-until the sources change.
+proves the program's crates and builds the program. On this machine that takes {minutes}, as far as the sources
+tell, up to {memory} of memory, and {disk} of disk until it is done. It may be interrupted, and goes on later from what is
+proved. Then it starts at once, until the sources change.
 
   --look SCRIPT    runs the script unproved, in two or three minutes, by the toolkit's `rt try`: at most 60 seconds and 1 MiB of
                    output, and nothing is kept

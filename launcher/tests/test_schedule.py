@@ -2,7 +2,7 @@
 import unittest
 
 from launcher.crates import Crate, all_below
-from launcher.schedule import CLOSE, MOST_JOBS, Running, Schedule, Start
+from launcher.schedule import CLOSE, FAVOURED, MOST_JOBS, Running, Schedule, Start
 
 PLENTY = 1e12
 
@@ -60,9 +60,22 @@ class Order(unittest.TestCase):
 
 
 class Jobs(unittest.TestCase):
-    def test_the_longest_chain_has_all_jobs_that_help(self):
+    def test_what_is_ready_alone_has_all_jobs_that_help(self):
         schedule = Schedule(tower(6), 4, PLENTY)
         self.assertEqual(MOST_JOBS, schedule.next(list(schedule.crates), set(), []).jobs)
+
+    def test_the_longest_chain_is_favoured_where_the_end_hangs_on_it(self):
+        schedule = Schedule(crates(low=(100,), a=(100,), b=(100,), c=(100,), d=(100,), top=(9000, 'low')), 4, PLENTY)
+        waiting, running = list(schedule.crates), []
+        for _ in range(4):
+            start = schedule.next(waiting, set(), running)
+            waiting.remove(start.name)
+            running.append(Running(start, schedule.seconds[start.name]))
+        self.assertEqual([('low', FAVOURED)] + [(it, 1) for it in 'abc'], [(it.start.name, it.start.jobs) for it in running])
+
+    def test_nobody_is_favoured_where_work_is_plenty(self):
+        schedule = Schedule(crates(**{'c{}'.format(at): (1000 + at,) for at in range(40)}), 4, PLENTY)
+        self.assertEqual(1, schedule.next(list(schedule.crates), set(), []).jobs)
 
     def test_one_processor_one_job(self):
         for start, _, beside in played(Schedule(tower(4), 1, PLENTY)):
@@ -78,7 +91,7 @@ class Jobs(unittest.TestCase):
         schedule = Schedule(given, 4, PLENTY)
         running = [Running(Start(it, 1, 5, 1e9, 500.0), 10.0) for it in ('a', 'b', 'c', 'd')]
         start = schedule.next(['long', 'top'], set(), running)
-        self.assertEqual(('long', MOST_JOBS, 0), (start.name, start.jobs, start.nice))
+        self.assertEqual(('long', FAVOURED, 0), (start.name, start.jobs, start.nice))
 
     def test_others_wait_for_a_processor(self):
         schedule = Schedule(crates(a=(100,), b=(100,), c=(9000,), d=(9000,), e=(10,)), 4, PLENTY)
@@ -101,8 +114,9 @@ class Memory(unittest.TestCase):
         self.assertEqual(2, schedule.next(['a'], set(), []).jobs)
 
     def test_a_proof_that_does_not_fit_waits_for_others_and_then_begins(self):
-        schedule = Schedule(crates(a=(1000,), b=(1000,)), 4, 2e9)
-        running = [Running(Start('a', 1, 0, 2e9, 0.0), 10.0)]
+        schedule = Schedule(crates(a=(1000,), b=(1000,)), 4, 0)
+        schedule.memory = schedule.need('b') * 1.1
+        running = [Running(Start('a', 1, 0, schedule.need('a'), 0.0), 10.0)]
         self.assertIsNone(schedule.next(['b'], set(), running))
         self.assertEqual(1, schedule.next(['b'], set(), []).jobs)
 
