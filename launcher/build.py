@@ -8,7 +8,7 @@ from dataclasses import dataclass, field
 from launcher import calls, crates, keys, machine, measure
 from launcher.guard import Guard
 from launcher.messages import Stop, count, end_of, gigabytes, minutes, say, stopped_by
-from launcher.schedule import RATES, Running, Schedule
+from launcher.schedule import RATES, Running, Schedule, Start
 from launcher.store import NAME, remove
 
 PROGRAM = 'editor'
@@ -42,7 +42,7 @@ class Proof:
 
     def has_ended(self):
         """Whether it ended; then with its status and what it took."""
-        pid, status, used = os.wait4(self.process.pid, os.WNOHANG)
+        pid, status, used = os.wait4(self.process.pid, os.WNOHANG)  # Popen would throw away what it took
         if pid:
             self.status = self.process.returncode = os.waitstatus_to_exitcode(status)
             self.used, self.ended = used, time.monotonic()
@@ -52,6 +52,11 @@ class Proof:
     def seconds(self):
         """The seconds that it has run, or ran."""
         return (self.ended or time.monotonic()) - self.begun
+
+    @property
+    def worked(self):
+        """The seconds of processors that it took."""
+        return self.used.ru_utime + self.used.ru_stime
 
     @property
     def signal(self):
@@ -163,7 +168,7 @@ class Build:
         """Says what is about to be done, how long it takes, and where the log is."""
         left, kept = len(self.waiting()), len(self.proved)
         say('proving {}{} and building the program, with {}: {}'.format(
-            count(left, 'crate'), ' ({} are proved already)'.format(kept) if kept else '',
+            count(left, 'crate'), ' ({} proved already)'.format(kept) if kept else '',
             count(self.jobs, 'processor'), minutes(self.seconds_left())))
         say('It may be interrupted, and goes on later from what is proved. Log: ' + self.store.log('build.log'))
 
@@ -250,7 +255,7 @@ class Build:
         with open(log, encoding='utf-8', errors='replace') as file:
             last = (file.read().splitlines() or [''])[-1]
         if proof.signal:
-            raise Stop(stopped_by(name, proof.signal, self.jobs, proof.free) + '. What is proved is kept')
+            raise Stop(stopped_by('the proof of ' + name, proof.signal, self.jobs, proof.free) + '. What is proved is kept')
         if proof.status:
             raise Stop('{} isn\'t proved: rattle ended with status {}. The end of {}:\n{}What is proved is kept'
                        .format(name, proof.status, log, end_of(log)))
@@ -270,19 +275,25 @@ class Build:
         crate = self.crates[PROGRAM]
         kit, part = self.toolkit.folder, self.store.path('part', NAME)
         checked, compiled = self.store.path('part', 'checked'), part + '.o'
+        self.tell('all {} proved: compiling and linking the program'.format(count(len(self.proved), 'crate')))
         self.call('compiling', calls.compiling(crate, self.crates, kit, self.store.path('rlib'), checked, compiled))
         self.call('linking', calls.linking(kit, compiled, part))
         return part
 
     def call(self, what, words):
         """Runs a step after the proofs, and ends the build where it fails."""
-        begun, log, free = time.monotonic(), self.store.log(what), machine.free_memory()
-        status = self.guard.start(words, self.folder_of(PROGRAM), log).wait()
-        if status < 0:
-            raise Stop(stopped_by(PROGRAM, -status, 1, free).replace('the proof', what))
-        if status:
-            raise Stop('{} the program failed with status {}. The end of {}:\n{}'.format(what, status, log, end_of(log)))
-        self.note('{}: {:.0f} s\n'.format(what, time.monotonic() - begun))
+        log, free = self.store.log(what), machine.free_memory()
+        process = self.guard.start(words, self.folder_of(PROGRAM), log)
+        step = Proof(Start(what, 1, 0, 0.0, 0.0), process, '', time.monotonic(), free)
+        self.rows.append(step)
+        while not step.has_ended():
+            time.sleep(EACH_LOOK)
+            if self.meter:
+                self.meter.look([step])
+        if step.signal:
+            raise Stop(stopped_by(what + ' the program', step.signal, 1, free))
+        if step.status:
+            raise Stop('{} the program failed with status {}. The end of {}:\n{}'.format(what, step.status, log, end_of(log)))
 
     def hold_to_example(self, program):
         """Ends the build where the program doesn't answer the example as its page does."""
@@ -328,16 +339,17 @@ class Build:
 
     def table(self):
         """What each proof took, and what all of them took together."""
-        lines = ['what each proof took\n', '{:24} {:>6} {:>4} {:>8} {:>10} {:>10} {:>9}\n'.format(
-            'crate', 'lines', 'jobs', 'minutes', 'processors', 'largest', 'all of it')]
-        for it in self.rows:
-            lines.append('{:24} {:6} {:4} {:8.1f} {:8.0f} s {:>10} {:>9}{}\n'.format(
-                it.start.name, self.crates[it.start.name].lines, it.start.jobs, it.seconds / 60,
-                it.used.ru_utime + it.used.ru_stime, gigabytes(1024 * it.used.ru_maxrss),
-                gigabytes(it.peak) if it.peak else '-', ' stopped by signal {}'.format(it.signal) if it.signal else ''))
-        worked = sum(it.used.ru_utime + it.used.ru_stime for it in self.rows)
-        lines.append('{:24} {:6} {:>4} {:8.1f} {:8.0f} s\n'.format(
-            'all', sum(it.lines for it in self.crates.values()), '', (time.monotonic() - self.begun) / 60, worked))
+        form = '{:24} {:>6} {:>4} {:>8} {:>12} {:>9} {:>9}{}\n'
+        lines = ['what each proof took\n', form.format('crate', 'lines', 'jobs', 'minutes', 'processors', 'largest', 'all of it', '')]
+        for it in [it for it in self.rows if it.used]:
+            crate = self.crates.get(it.start.name)
+            lines.append(form.format(
+                it.start.name, crate.lines if crate else '', it.start.jobs, '{:.1f}'.format(it.seconds / 60),
+                '{:.0f} s'.format(it.worked), gigabytes(1024 * it.used.ru_maxrss), gigabytes(it.peak) if it.peak else '-',
+                ' stopped by signal {}'.format(it.signal) if it.signal else ''))
+        lines.append(form.format(
+            'all', sum(it.lines for it in self.crates.values()), '', '{:.1f}'.format((time.monotonic() - self.begun) / 60),
+            '{:.0f} s'.format(sum(it.worked for it in self.rows if it.used)), '', '', ''))
         if self.meter:
             lines.append(self.meter.told())
         return ''.join(lines)

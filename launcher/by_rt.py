@@ -72,9 +72,9 @@ def call(guard, words, folder, log, crates, jobs):
     follower.read()
     status = process.returncode
     if status < 0 or status > 128:
-        raise Stop(stopped_by(follower.crate or PROGRAM, -status if status < 0 else status - 128, jobs, free))
+        raise Stop(stopped_by('the proof of ' + (follower.crate or PROGRAM), -status if status < 0 else status - 128, jobs, free))
     if status:
         end = end_of(log)
         if KILLED.search(end):
-            raise Stop('{}{}'.format(end, stopped_by(follower.crate or PROGRAM, 9, jobs, free)))
+            raise Stop('{}{}'.format(end, stopped_by('the proof of ' + (follower.crate or PROGRAM), 9, jobs, free)))
         raise Stop('{} ended with status {}. The end of {}:\n{}'.format(' '.join(words[:3]), status, log, end))

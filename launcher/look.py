@@ -6,8 +6,9 @@ import signal
 import subprocess
 import sys
 
+from launcher import machine
 from launcher.build import PROGRAM
-from launcher.messages import Stop, say
+from launcher.messages import Stop, gigabytes, say
 
 # The verbs whose first word names a file.
 READS = ('download', 'import', 'confirm', 'resume', 'serve')
@@ -16,6 +17,8 @@ TAKEN = ('program', 'stdin', 'stdout', 'stderr')
 ENDED = re.compile(r'run=ended status=(\d+) .*proved=no')
 ESCAPE = re.compile(r'%([0-9a-fA-F]{1,8})%')
 LARGEST = 16_777_216
+# Bytes of memory that rt try takes to read and compile the program's sources.
+MEMORY = 3e9
 SAYS = {
     1: 'the toolkit refuses the program\'s sources',
     2: 'rt try itself failed',
@@ -85,7 +88,9 @@ def run(home, words):
         raise Stop('--look needs the Rattle toolkit: there is no command rt on the path. {} says which it is'
                    .format(os.path.join(home, 'README.md')), 127)
     call = command(script, os.getcwd())
-    say('running {} unproved, by rt try: two minutes or three, and nothing is proved by it. Nothing is kept'.format(script))
+    if machine.free_memory() + machine.free_swap() < MEMORY:
+        say('this may take {}, and {} are free'.format(gigabytes(MEMORY), gigabytes(machine.free_memory())))
+    say('running {} unproved, by rt try: about three minutes, and nothing is proved by it. Nothing is kept'.format(script))
     sys.stdout.flush()
     # rt gets standard error through a pipe, since its last lines are for who writes Rattle, and are put in plain words here.
     process = subprocess.Popen(call, cwd=os.path.join(home, 'crates', PROGRAM), stdin=subprocess.DEVNULL, stderr=subprocess.PIPE)

@@ -34,9 +34,9 @@ def gigabytes(size):
     return '{:.1f} GB'.format(size / 1e9)
 
 
-def stopped_by(name, signal, jobs, free):
-    """What is said where a proof was stopped from outside. A proof that was stopped hasn't failed."""
-    text = 'the proof of {} was stopped by signal {}'.format(name, signal)
+def stopped_by(what, signal, jobs, free):
+    """What is said where something, as "the proof of low", was stopped from outside. What was stopped hasn't failed."""
+    text = '{} was stopped by signal {}'.format(what, signal)
     if signal != 9:
         return text + ': run ./editor again, and it goes on from what is proved'
     text += ': out of memory? {} were free when it began'.format(gigabytes(free))

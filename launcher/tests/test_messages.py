@@ -19,12 +19,12 @@ class Texts(unittest.TestCase):
         self.assertEqual('4.1 GB', gigabytes(4.06e9))
 
     def test_stopped_is_not_failed(self):
-        text = stopped_by('low', 9, 4, 2.5e9)
+        text = stopped_by('the proof of low', 9, 4, 2.5e9)
         self.assertIn('stopped by signal 9: out of memory? 2.5 GB were free when it began. Run with fewer jobs: JOBS=1 ./editor', text)
-        alone = stopped_by('low', 9, 1, 2.5e9)
+        alone = stopped_by('the proof of low', 9, 1, 2.5e9)
         self.assertNotIn('JOBS', alone)
         self.assertIn('close other programs', alone)
-        other = stopped_by('low', 15, 4, 2.5e9)
+        other = stopped_by('the proof of low', 15, 4, 2.5e9)
         self.assertIn('stopped by signal 15', other)
         self.assertNotIn('memory', other)
         for it in (text, alone, other):
