@@ -14,6 +14,8 @@ from launcher.store import NAME, remove
 PROGRAM = 'editor'
 # Bytes of disk: of a kept library for each line of Rattle, and of temporary files beside them.
 DISK_OF_LINE, DISK_OF_WORK = 170e3, 0.5e9
+# With fewer bytes of free disk than these a proof that ended badly most likely had no room.
+FULL = 0.1e9
 # Of the free memory, what proofs side by side may take, and the most bytes that they are planned for: more of them side by
 # side would end a tenth sooner, and take half as much again.
 PART_OF_MEMORY, MOST_MEMORY = 0.85, 8e9
@@ -256,6 +258,9 @@ class Build:
             last = (file.read().splitlines() or [''])[-1]
         if proof.signal:
             raise Stop(stopped_by('the proof of ' + name, proof.signal, self.jobs, proof.free) + '. What is proved is kept')
+        if proof.status and machine.free_disk(self.store.folder) < FULL:
+            raise Stop('the proof of {} ended with status {}, and the disk is full: {} are free in {}. What is proved is kept'
+                       .format(name, proof.status, gigabytes(machine.free_disk(self.store.folder)), self.store.folder))
         if proof.status:
             raise Stop('{} isn\'t proved: rattle ended with status {}. The end of {}:\n{}What is proved is kept'
                        .format(name, proof.status, log, end_of(log)))
@@ -340,7 +345,8 @@ class Build:
     def table(self):
         """What each proof took, and what all of them took together."""
         form = '{:24} {:>6} {:>4} {:>8} {:>12} {:>9} {:>9}{}\n'
-        lines = ['what each proof took\n', form.format('crate', 'lines', 'jobs', 'minutes', 'processors', 'largest', 'all of it', '')]
+        lines = ['what each proof took\n',
+                 form.format('crate', 'lines', 'jobs', 'minutes', 'processors', 'largest', 'all of it', '')]
         for it in [it for it in self.rows if it.used]:
             crate = self.crates.get(it.start.name)
             lines.append(form.format(
@@ -382,8 +388,8 @@ def copy_to_checkout(home, path, tells=True):
 def commit(home):
     """The commit of the checkout, with "and changes" where files differ from it; '' where there is none."""
     try:
-        done = subprocess.run(['git', '-C', home, 'describe', '--always', '--dirty= and changes', '--abbrev=40', '--exclude=*'],
-                              stdin=subprocess.DEVNULL, stdout=subprocess.PIPE, stderr=subprocess.DEVNULL)
+        words = ['git', '-C', home, 'describe', '--always', '--dirty= and changes', '--abbrev=40', '--exclude=*']
+        done = subprocess.run(words, stdin=subprocess.DEVNULL, stdout=subprocess.PIPE, stderr=subprocess.DEVNULL)
     except OSError:
         return ''
     return done.stdout.decode('utf-8', 'replace').strip() if done.returncode == 0 else ''

@@ -16,13 +16,21 @@ class Follower:
     """Reads a log as it grows, and tells of each crate that is proved."""
 
     def __init__(self, path, crates):
-        self.file = open(path, encoding='utf-8', errors='replace')
-        self.crates, self.crate, self.proved, self.rest = crates, '', 0, ''
+        self.path, self.at, self.rest = path, 0, b''
+        self.crates, self.crate, self.proved = crates, '', 0
         self.begun = time.monotonic()
 
     def read(self):
         """Reads what came since."""
-        *lines, self.rest = (self.rest + self.file.read()).split('\n')
+        with open(self.path, 'rb') as file:
+            file.seek(self.at)
+            came = file.read()
+        self.at += len(came)
+        *lines, self.rest = (self.rest + came).split(b'\n')
+        self.tell(line.decode('utf-8', 'replace') for line in lines)
+
+    def tell(self, lines):
+        """Tells of each crate that these lines call proved."""
         for line in lines:
             if line.startswith('== '):
                 self.crate = line[3:]
@@ -71,10 +79,11 @@ def call(guard, words, folder, log, crates, jobs):
         follower.read()
     follower.read()
     status = process.returncode
+    proof = 'the proof of ' + (follower.crate or PROGRAM)
     if status < 0 or status > 128:
-        raise Stop(stopped_by('the proof of ' + (follower.crate or PROGRAM), -status if status < 0 else status - 128, jobs, free))
+        raise Stop(stopped_by(proof, -status if status < 0 else status - 128, jobs, free))
     if status:
         end = end_of(log)
         if KILLED.search(end):
-            raise Stop('{}{}'.format(end, stopped_by('the proof of ' + (follower.crate or PROGRAM), 9, jobs, free)))
+            raise Stop(end + stopped_by(proof, 9, jobs, free))
         raise Stop('{} ended with status {}. The end of {}:\n{}'.format(' '.join(words[:3]), status, log, end))

@@ -93,7 +93,8 @@ def run(home, words):
     say('running {} unproved, by rt try: about three minutes, and nothing is proved by it. Nothing is kept'.format(script))
     sys.stdout.flush()
     # rt gets standard error through a pipe, since its last lines are for who writes Rattle, and are put in plain words here.
-    process = subprocess.Popen(call, cwd=os.path.join(home, 'crates', PROGRAM), stdin=subprocess.DEVNULL, stderr=subprocess.PIPE)
+    how = {'stdin': subprocess.DEVNULL, 'stderr': subprocess.PIPE}
+    process = subprocess.Popen(call, cwd=os.path.join(home, 'crates', PROGRAM), **how)
     try:
         said = process.communicate()[1].decode('utf-8', 'replace')
     except BaseException:

@@ -12,6 +12,8 @@ from launcher.store import Store, default_folder
 HOME = os.path.dirname(os.path.dirname(os.path.abspath(__file__)))
 # The name under which the program is started, as its messages have it.
 PROGRAM = 'editor'
+# Bytes of memory that proofs side by side take at the most, where there is enough.
+USUAL_MEMORY = 6e9
 
 
 def main(arguments):
@@ -102,14 +104,21 @@ def proved_now(store, crates, texts, flags):
             signal.signal(number, lambda it, _: sys.exit(128 + it))
     mine = 'process {}, since {}'.format(os.getpid(), time.strftime('%H:%M'))
     with store.lock(mine, told_of_other):
-        kit = toolkit.demand(toolkit.find(store, may_write=True), HOME)
+        kit = toolkit.demand(toolkit.find(store), HOME)
         found = store.program(keys.of_sources(texts), kit.identity)
-        return found[0] if found else built(store, kit, crates, texts, flags, jobs)
+        if found:
+            return found[0]
+        other = store.program(keys.of_sources(texts), None)
+        if other:
+            say('there is a program of these sources, proved by {}; the toolkit on the path is another, {}'.format(
+                other[1].get('line'), toolkit.named(kit)))
+        return built(store, kit, crates, texts, flags, jobs)
 
 
 def told_of_other(other):
     """Says that another launcher is at work."""
-    say('another ./editor ({}) proves and builds: this one waits for it. Ctrl-C ends this one alone'.format(other or 'of this user'))
+    say('another ./editor ({}) proves and builds: this one waits for it. Ctrl-C ends this one alone'
+        .format(other or 'of this user'))
 
 
 def built(store, kit, crates, texts, flags, jobs):
@@ -183,5 +192,5 @@ def help_text():
     seconds = plan.seconds_left(list(crates), set(), [])
     largest = max(plan.need(it) for it in crates)
     disk = build.DISK_OF_WORK + build.DISK_OF_LINE * sum(it.lines for it in crates.values())
-    return words.HELP.format(minutes=minutes(seconds), memory=gigabytes(max(largest, min(6e9, plan.memory))), disk=gigabytes(disk),
-                             log=Store(default_folder()).log('build.log'))
+    return words.HELP.format(minutes=minutes(seconds), memory=gigabytes(max(largest, min(USUAL_MEMORY, plan.memory))),
+                             disk=gigabytes(disk), log=os.path.join(default_folder(), 'log', 'build.log'))

@@ -52,7 +52,8 @@ def beside(home, release):
         return None, '{} isn\'t used: there is no released program whose hash it could have'.format(path)
     found = keys.of_file(path)
     if found != release.sha256:
-        return None, '{} isn\'t used: its SHA-256 is {}, and that of the released program {}'.format(path, found, release.sha256)
+        return None, ('{} isn\'t used: its SHA-256 is {}, and that of the released program {}'
+                      .format(path, found, release.sha256))
     if not os.access(path, os.X_OK):
         return None, '{0} is the released program, and may not be run: chmod +x {0}'.format(path)
     return path, 'running the released program of commit {}'.format(release.commit or 'unknown')

@@ -1,4 +1,5 @@
 """Where the Rattle toolkit is, which one it is, and whether it is of the kind that the launcher was made for."""
+import contextlib
 import json
 import os
 import re
@@ -61,8 +62,8 @@ def marks(paths):
     return found
 
 
-def find(store, may_write=False):
-    """The toolkit whose `rt` is on the path, or None where there is none."""
+def find(store):
+    """The toolkit whose `rt` is on the path, or None where there is none. Where the store is there it remembers the answer."""
     rt = shutil.which('rt')
     if not rt:
         return None
@@ -72,10 +73,11 @@ def find(store, may_write=False):
     if kept and kept.get('rt') == rt and kept.get('marks') == marks([rt, *read_by(kept.get('folder'))]):
         return Toolkit(kept['folder'], kept['line'], kept['identity'])
     found = look(rt)
-    if may_write:
+    if os.path.isdir(store.folder):
         record = {'rt': rt, 'folder': found.folder, 'line': found.line, 'identity': found.identity}
         record['marks'] = marks([rt, *read_by(found.folder)])
-        write_whole(memo, json.dumps(record, indent=1) + '\n')
+        with contextlib.suppress(OSError):  # then it is looked at again
+            write_whole(memo, json.dumps(record, indent=1) + '\n')
     return found
 
 

@@ -48,7 +48,8 @@ class Crates(Checkout):
         found = crates.read(str(self.home), ['editor'])
         self.assertEqual(['low', 'middle', 'editor'], list(found))
         self.assertEqual((('middle', 'low'), True), (found['editor'].below, found['editor'].is_program))
-        self.assertEqual((('itoa',), (), False, 1), (found['low'].libraries, found['low'].below, found['low'].is_program, found['low'].lines))
+        low = found['low']
+        self.assertEqual((('itoa',), (), False, 1), (low.libraries, low.below, low.is_program, low.lines))
 
     def refused(self, text, names=('editor',)):
         self.write('crates.txt', text)
@@ -88,7 +89,8 @@ class Keys(Checkout):
 
     def test_a_line_of_the_list_counts(self):
         text = (self.home / 'crates.txt').read_text()
-        self.assertEqual(['editor', 'middle'], self.changed(lambda: self.write('crates.txt', text.replace('middle: low', 'middle: low memchr'))))
+        other = text.replace('middle: low', 'middle: low memchr')
+        self.assertEqual(['editor', 'middle'], self.changed(lambda: self.write('crates.txt', other)))
         self.write('crates.txt', text)
         self.assertEqual([], self.changed(lambda: self.write('crates.txt', text + '# more\n')))
 

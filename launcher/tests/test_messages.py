@@ -20,7 +20,8 @@ class Texts(unittest.TestCase):
 
     def test_stopped_is_not_failed(self):
         text = stopped_by('the proof of low', 9, 4, 2.5e9)
-        self.assertIn('stopped by signal 9: out of memory? 2.5 GB were free when it began. Run with fewer jobs: JOBS=1 ./editor', text)
+        self.assertIn('stopped by signal 9: out of memory? 2.5 GB were free when it began', text)
+        self.assertIn('Run with fewer jobs: JOBS=1 ./editor', text)
         alone = stopped_by('the proof of low', 9, 1, 2.5e9)
         self.assertNotIn('JOBS', alone)
         self.assertIn('close other programs', alone)
@@ -72,7 +73,8 @@ class Words(unittest.TestCase):
 
 class Looks(unittest.TestCase):
     def test_names_in_a_script(self):
-        script = 'download town.opl B1,2,3,4\n# download no.opl\nimport a%20%b.opl\ntag n1 Tx=y\nconfirm r\nresume s\nserve t\ndownload town.opl\n'
+        script = ('download town.opl B1,2,3,4\n# download no.opl\nimport a%20%b.opl\ntag n1 Tx=y\nconfirm r\nresume s\nserve t\n'
+                  'download town.opl\n')
         self.assertEqual(['town.opl', 'a b.opl', 'r', 's', 't'], look.names_in(script))
 
     def test_names_that_can_be_given(self):
@@ -172,11 +174,12 @@ class Machines(unittest.TestCase):
         with tempfile.TemporaryDirectory() as folder:
             for name, text in (('cpu', '150000 100000\n'), ('max', '2000000000\n'), ('stat', 'anon 500000000\nfile 7\n')):
                 pathlib.Path(folder, name).write_text(text)
-            with mock.patch.multiple(machine, CPU_LIMIT=folder + '/cpu', MEMORY_LIMIT=folder + '/max', MEMORY_HELD=folder + '/stat'):
+            files = {'MEMORY_LIMIT': folder + '/max', 'MEMORY_HELD': folder + '/stat'}
+            with mock.patch.multiple(machine, CPU_LIMIT=folder + '/cpu', **files):
                 self.assertEqual(1, machine.processors())
                 self.assertLessEqual(machine.free_memory(), 1_500_000_000)
             pathlib.Path(folder, 'max').write_text('max\n')
-            with mock.patch.multiple(machine, CPU_LIMIT=folder + '/none', MEMORY_LIMIT=folder + '/max', MEMORY_HELD=folder + '/stat'):
+            with mock.patch.multiple(machine, CPU_LIMIT=folder + '/none', **files):
                 self.assertEqual(len(os.sched_getaffinity(0)), machine.processors())
                 self.assertGreater(machine.free_memory(), 0)
 
