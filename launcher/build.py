@@ -107,7 +107,7 @@ class Build:
         self.take_kept()
         self.hold_to_machine()
         self.guard = Guard(self.store.path('tmp'))
-        self.meter = measure.Meter(self.guard.shell.pid, self.store.path('rlib')) if self.wishes.measures else None
+        self.meter = measure.Meter(self.guard.shell.pid, self.store.folder) if self.wishes.measures else None
         try:
             self.tell_begin()
             self.prove()
@@ -125,6 +125,8 @@ class Build:
 
     def take_kept(self):
         """Takes what an earlier run proved of the same text by the same toolkit, and removes all else that it left."""
+        if self.store.names():
+            say('looking at what an earlier build proved')
         for name in self.store.names():
             if name not in self.crates or not self.store.verdict_of(name, self.keys[name]):
                 self.store.forget(name)
@@ -301,9 +303,11 @@ class Build:
             raise Stop('{} the program failed with status {}. The end of {}:\n{}'.format(what, step.status, log, end_of(log)))
 
     def hold_to_example(self, program):
-        """Ends the build where the program doesn't answer the example as its page does."""
+        """Ends the build where the program doesn't answer the example as its page does, if there is one."""
         folder, script, wanted = EXAMPLE
         folder = os.path.join(self.home, folder)
+        if not os.path.isfile(os.path.join(folder, wanted)):
+            return
         done = subprocess.run([program, script], cwd=folder, stdin=subprocess.DEVNULL, stdout=subprocess.PIPE)
         with open(os.path.join(folder, wanted), 'rb') as file:
             if done.returncode or done.stdout != file.read():
