@@ -41,7 +41,7 @@ def stopped_by(what, signal, jobs, free):
         return text + ': run ./editor again, and it goes on from what is proved'
     text += ': out of memory? {} were free when it began'.format(gigabytes(free))
     if jobs > 1:
-        return text + '. Run with fewer jobs: JOBS=1 ./editor'
+        return text + '. Close other programs, and run with fewer jobs: JOBS=1 ./editor'
     return text + ', and nothing else ran beside it: close other programs, or take a machine with more memory'
 
 

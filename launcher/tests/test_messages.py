@@ -21,7 +21,7 @@ class Texts(unittest.TestCase):
     def test_stopped_is_not_failed(self):
         text = stopped_by('the proof of low', 9, 4, 2.5e9)
         self.assertIn('stopped by signal 9: out of memory? 2.5 GB were free when it began', text)
-        self.assertIn('Run with fewer jobs: JOBS=1 ./editor', text)
+        self.assertIn('run with fewer jobs: JOBS=1 ./editor', text)
         alone = stopped_by('the proof of low', 9, 1, 2.5e9)
         self.assertNotIn('JOBS', alone)
         self.assertIn('close other programs', alone)
