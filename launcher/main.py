@@ -1,0 +1,196 @@
+"""The launcher: reads the words, finds a program or has one proved and built, and runs it."""
+import os
+import re
+import signal
+import sys
+import time
+
+from launcher import keys, look, machine, programs, toolkit, words
+from launcher.messages import Stop, count, gigabytes, minutes, say
+from launcher.store import Store, default_folder
+
+HOME = os.path.dirname(os.path.dirname(os.path.abspath(__file__)))
+# The name under which the program is started, as its messages have it.
+PROGRAM = 'editor'
+# Bytes of memory that proofs side by side take at the most, where there is enough.
+USUAL_MEMORY = 6e9
+
+
+def main(arguments):
+    """Does what the words ask for, and returns the exit status."""
+    try:
+        return act(words.read(arguments))
+    except Stop as why:
+        say(str(why))
+        return why.status
+    except KeyboardInterrupt:
+        return 130
+    except OSError as error:
+        say('{}: {}'.format(error.filename or 'a call of the system failed', error.strerror))
+        return 1
+
+
+def act(asked):
+    """Does what was asked for: the status."""
+    if asked.action == 'brief':
+        sys.stderr.write(words.BRIEF)
+        return 2
+    if asked.action == 'help':
+        sys.stdout.write(help_text())
+        return 0
+    if asked.action == 'version':
+        sys.stdout.write(version_text())
+        return 0
+    if asked.action == 'look':
+        words.hold_to_script(asked.rest)
+        return look.run(HOME, asked.rest)
+    if asked.action == 'prove':
+        return prove(asked.flags)
+    return run(asked.rest)
+
+
+def crates_and_texts():
+    """The crates that the program needs, and the hash of each one's text."""
+    from launcher import build  # what only a build needs isn't read for each run
+
+    crates = build.needed(HOME)
+    return crates, keys.of_texts(HOME, crates)
+
+
+def run(arguments):
+    """Runs the program, and proves and builds it first where that has to be."""
+    store = Store(default_folder())
+    crates, texts = crates_and_texts()
+    sources = keys.of_sources(texts)
+    path = proved(store, sources) or released(sources)
+    if not path:
+        words.hold_to_script(arguments)
+        path = proved_now(store, crates, texts, {})
+    # Python ignores these, and the program would inherit that.
+    for number in (signal.SIGPIPE, signal.SIGXFSZ):
+        signal.signal(number, signal.SIG_DFL)
+    os.execv(path, [PROGRAM, *arguments])
+
+
+def proved(store, sources):
+    """A kept program of these sources by the toolkit that is on the path, or by any where none is: its path or None."""
+    found = store.program(sources, None)
+    kit = toolkit.find(store) if found else None
+    found = store.program(sources, kit.identity) if kit else found
+    if not found:
+        return None
+    from launcher import build
+
+    build.copy_to_checkout(HOME, found[0], tells=False)
+    return found[0]
+
+
+def released(sources):
+    """The released program that stands beside the launcher, if it is the one that RELEASE names: its path or None."""
+    release = programs.release_of(HOME)
+    path, said = programs.beside(HOME, release)
+    if said:
+        say(said + (programs.said_of(release, sources) if path else ''))
+    return path
+
+
+def proved_now(store, crates, texts, flags):
+    """Proves and builds the program, one launcher at a time: its path."""
+    jobs = words.jobs_wanted()
+    toolkit.demand(toolkit.find(store), HOME)
+    store.make(HOME)
+    for number in (signal.SIGTERM, signal.SIGHUP):
+        if signal.getsignal(number) != signal.SIG_IGN:  # nohup ignores SIGHUP
+            signal.signal(number, lambda it, _: sys.exit(128 + it))
+    mine = 'process {}, since {}'.format(os.getpid(), time.strftime('%H:%M'))
+    with store.lock(mine, told_of_other):
+        kit = toolkit.demand(toolkit.find(store), HOME)
+        found = store.program(keys.of_sources(texts), kit.identity)
+        if found:
+            return found[0]
+        other = store.program(keys.of_sources(texts), None)
+        if other:
+            say('there is a program of these sources, proved by {}; the toolkit on the path is another, {}'.format(
+                other[1].get('line'), toolkit.named(kit)))
+        return built(store, kit, crates, texts, flags, jobs)
+
+
+def told_of_other(other):
+    """Says that another launcher is at work."""
+    say('another ./editor ({}) proves and builds: this one waits for it. Ctrl-C ends this one alone'
+        .format(other or 'of this user'))
+
+
+def built(store, kit, crates, texts, flags, jobs):
+    """Proves and builds the program by this toolkit: its path. The lock is held."""
+    from launcher import build, by_rt
+
+    why = toolkit.misfits(kit, HOME)
+    if why:
+        return by_rt.build(HOME, store, kit, crates, texts, why, jobs)
+    return build.Build(HOME, store, kit, crates, texts, build.Wishes(jobs, **flags)).run()
+
+
+def prove(flags):
+    """Proves and builds the program where it isn't proved yet, and compares it with a released one: the status."""
+    store = Store(default_folder())
+    crates, texts = crates_and_texts()
+    path = proved(store, keys.of_sources(texts))
+    if path:
+        say('proved and built already: {}'.format(path))
+    else:
+        path = proved_now(store, crates, texts, flags)
+    return compared(path, keys.of_sources(texts))
+
+
+def compared(path, sources):
+    """Says whether a program that was proved here has the bytes of the released one: the status."""
+    release = programs.release_of(HOME)
+    if not release:
+        return 0
+    same = keys.of_file(path) == release.sha256
+    if release.sources and release.sources != sources:
+        say('it isn\'t compared with the released program of commit {}, whose sources are others'.format(release.commit))
+        return 0
+    say('its bytes are {} of the released program of commit {}'.format('those' if same else 'NOT those', release.commit))
+    return 0 if same else 1
+
+
+def version():
+    """The version, as the newest heading of CHANGELOG.md has it."""
+    with open(os.path.join(HOME, 'CHANGELOG.md'), encoding='utf-8') as file:
+        found = re.search(r'^## (\d.*)$', file.read(), re.M)
+    return found[1] if found else 'unknown'
+
+
+def version_text():
+    """What --version answers. It proves nothing and writes nothing."""
+    from launcher import build
+
+    store = Store(default_folder())
+    kit = toolkit.find(store)
+    crates, texts = crates_and_texts()
+    found = store.program(keys.of_sources(texts), kit.identity if kit else None)
+    release = programs.release_of(HOME)
+    lines = ['yokeorange ' + version(), 'commit: ' + (build.commit(HOME) or 'unknown')]
+    lines.append('toolkit: ' + (toolkit.named(kit) if kit else 'none on the path'))
+    if found:
+        lines.append('program: {}, proved from these sources by {}'.format(found[0], found[1].get('line')))
+        lines.append('sha256: ' + found[1].get('sha256', ''))
+    else:
+        lines.append('program: not proved yet from these {}: ./editor --prove does it'.format(count(len(crates), 'crate')))
+    lines.append('release: ' + ('{}, commit {}'.format(release.version, release.commit) if release else 'none yet'))
+    return '\n'.join(lines) + '\n'
+
+
+def help_text():
+    """What --help answers."""
+    from launcher import build
+
+    crates = build.needed(HOME)
+    plan = build.plan(crates, words.jobs_wanted() or machine.processors())
+    seconds = plan.seconds_left(list(crates), set(), [])
+    largest = max(plan.need(it) for it in crates)
+    disk = build.DISK_OF_WORK + build.DISK_OF_LINE * sum(it.lines for it in crates.values())
+    return words.HELP.format(minutes=minutes(seconds), memory=gigabytes(max(largest, min(USUAL_MEMORY, plan.memory))),
+                             disk=gigabytes(disk), log=os.path.join(default_folder(), 'log', 'build.log'))

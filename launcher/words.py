@@ -1,0 +1,107 @@
+"""The words of the launcher's command line, and what it answers to them."""
+import os
+import re
+from dataclasses import dataclass, field
+
+from launcher.messages import Stop
+
+HELP = '''usage: ./editor [--max-objects N] [--max-file N] SCRIPT
+       ./editor --look SCRIPT
+       ./editor --prove
+
+Runs a script over OPL files (docs/GUIDE.md), and writes the replies and the data to standard output. The first time it
+proves the program's crates and builds the program. On this machine that takes {minutes}, as far as the sources
+tell, up to {memory} of memory, and {disk} of disk until it is done. It may be interrupted, and goes on later from what is
+proved. Then it starts at once, until the sources change.
+
+  --look SCRIPT    runs the script unproved, in about three minutes and 3 GB of memory, by the toolkit's `rt try`: at most 60
+                   seconds and 1 MiB of output, and nothing is kept
+  --prove          proves and builds the program, and runs nothing; also where a released program stands beside ./editor,
+                   and says whether its bytes are the same. Beside it:
+                     --keep     keeps the proved libraries for the next build
+                     --measure  writes to the log what memory each proof takes, with all of its processes
+                     --anyway   begins although memory or disk seem too small
+  -h, --help       this text
+  --version        the version, the commit, the toolkit, and whether the program is built
+
+JOBS=N ./editor    proves N crates at a time, with N jobs (as many as there are processors, where it isn't said)
+
+A script whose name begins with - stands after --. The exit status is the program's own (docs/REFUSALS.md, "Statuses"); 1 where
+it couldn't be proved or built, 127 where the Rattle toolkit is missing, 130 after Ctrl-C.
+The log is {log}.
+Read on: README.md, then docs/GUIDE.md.
+'''
+BRIEF = '''usage: ./editor [--max-objects N] [--max-file N] SCRIPT
+       ./editor --look SCRIPT      runs it unproved, in about three minutes
+       ./editor --help             says more
+'''
+FLAGS = {'--anyway': 'anyway', '--keep': 'keeps', '--measure': 'measures'}
+LIMITS = ('--max-objects', '--max-file')
+
+
+@dataclass
+class Words:
+    """What the user asked for: `action` is run, help, brief, version, look or prove; `rest` are the program's words."""
+
+    action: str
+    rest: list = field(default_factory=list)
+    flags: dict = field(default_factory=dict)
+
+
+def read(words):
+    """Reads the words of the command line. What the launcher doesn't know is left to the program."""
+    if not words:
+        return Words('brief')
+    if words[0] in ('-h', '--help'):
+        return Words('help')
+    if words[0] == '--version':
+        return Words('version')
+    if words[0] == '--look':
+        return Words('look', words[1:])
+    if words[0] == '--prove' or words[0] in FLAGS:
+        other = [it for it in words if it != '--prove' and it not in FLAGS]
+        if other or '--prove' not in words:
+            raise Stop('{} goes with --prove and no script: ./editor --help says more'.format(' '.join(words)), 2)
+        return Words('prove', [], {FLAGS[it]: True for it in words if it in FLAGS})
+    return Words('run', words)
+
+
+def script_in(words):
+    """The script among the program's words, or `Stop` where they can't be words of the program. The program reads them again
+    and has the last word: this keeps a slip from costing a build."""
+    names, ended, at = [], False, 0
+    while at < len(words):
+        word = words[at]
+        if not ended and word == '--':
+            ended = True
+        elif not ended and word in LIMITS:
+            at += 1
+        elif not ended and word.startswith('-') and word != '-':
+            if word.partition('=')[0] not in LIMITS:
+                raise Stop('there is no option {}: ./editor --help has those that there are'.format(word), 2)
+        else:
+            names.append(word)
+        at += 1
+    if len(names) != 1:
+        raise Stop('one script is wanted, and {} named: ./editor --help says more'.format(
+            'none is' if not names else '{} are'.format(len(names))), 2)
+    return names[0]
+
+
+def hold_to_script(words):
+    """Raises `Stop` where the words name no script that can be read."""
+    script = script_in(words)
+    if not os.path.exists(script):
+        raise Stop('there is no script {}'.format(script or 'of an empty name'), 3)
+    if os.path.isdir(script) or not os.access(script, os.R_OK):
+        raise Stop('the script {} can\'t be read'.format(script), 7)
+
+
+def jobs_wanted():
+    """How many jobs JOBS asks for, 0 where it doesn't say."""
+    text = os.environ.get('JOBS', '')
+    if not text:
+        return 0
+    if not re.fullmatch('[1-9][0-9]{0,2}', text):
+        raise Stop('JOBS is {!r}, and has to be a number from 1 to 999'.format(text), 2)
+    return int(text)
