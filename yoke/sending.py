@@ -1,0 +1,1 @@
+"""What is sent, and how nothing is sent twice. (The table of states comes here.)"""

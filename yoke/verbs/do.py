@@ -1,0 +1,78 @@
+"""`yoke do`: the lines of a script over the session."""
+import pathlib
+import re
+import sys
+
+from yoke import opl, words
+from yoke.program import BadLine
+from yoke.session import Session
+from yoke.trouble import Refused, Trouble
+
+SUMMARY = 'run a script over the session, and keep what it did if no step was refused'
+DETAILS = """The script has the lines of docs/GUIDE.md. Files that it names are seen from the folder where yoke runs.
+What yoke does itself stands in no script: save, resume, confirm, serve."""
+
+OURS = {
+    'save': 'the session is kept by itself', 'resume': 'the session is taken up by itself',
+    'confirm': 'yoke send does that', 'serve': 'a meeting runs by editor itself',
+}
+
+
+def add_arguments(parser):
+    parser.add_argument('script', metavar='SCRIPT', help='a file of lines; - is standard input')
+    parser.add_argument('--keep', action='store_true', help='keep what was done although steps were refused')
+
+
+def run(arguments):
+    name, lines = arguments.script, read(arguments.script)
+    session = Session.of(arguments)
+    check(name, lines, session.day.folder)
+    with session.day.locked():
+        try:
+            answer = session.edit('do', lines, allow_refused=True, keep_refused=arguments.keep)
+        except BadLine as bad:
+            raise BadLine('{}:{}: {}'.format(name, bad.line, bad), bad.line) from None
+    show(name, answer)
+    refused = answer.refused()
+    if refused and not arguments.keep:
+        raise Refused('nothing is kept: {} of {} steps {} refused'.format(len(refused), len(answer.replies) - 1, 'was' if len(refused) == 1 else 'were'))
+    print('kept as {}'.format(session.day.last().path))
+    return 1 if refused else 0
+
+
+def read(name):
+    """The lines of a script, without a byte order mark or carriage returns; Trouble where there is no such text."""
+    try:
+        text = sys.stdin.buffer.read() if name == '-' else pathlib.Path(name).read_bytes()
+        lines = text.decode('utf-8-sig').split('\n')
+    except FileNotFoundError:
+        raise Trouble('there is no script {}'.format(name)) from None
+    except UnicodeDecodeError as error:
+        raise Trouble('{} isn\'t UTF-8, from byte {} on'.format(name, error.start)) from None
+    return [line[:-1] if line.endswith('\r') else line for line in (lines[:-1] if lines[-1] == '' else lines)]
+
+
+def check(name, lines, folder):
+    """Refused where a line is one that yoke does itself, names a file of the day, or where a group has no end."""
+    begun = None
+    for number, line in enumerate(lines, 1):
+        verb, *rest = re.split('[ \t]+', line)
+        if verb in OURS:
+            raise Refused('{}:{}: {} stands in no script of yoke do: {}'.format(name, number, verb, OURS[verb]))
+        if verb in ('download', 'import') and rest and pathlib.Path(opl.unescape(rest[0])).resolve().parent == folder.resolve():
+            raise Refused('{}:{}: {} is a file of the day itself'.format(name, number, opl.unescape(rest[0])))
+        begun = number if verb == 'begin' and begun is None else None if verb == 'end' else begun
+    if begun is not None:
+        raise Refused('{}:{}: the group has no end'.format(name, begun))
+
+
+def show(name, answer):
+    """What the steps wrote and made, to standard output, and what was refused, in words."""
+    for reply in answer.replies:
+        if reply.word == 'refused':
+            print('{}:{}: refused: {}: {}'.format(name, reply.line, words.cut(reply.step), words.refusal(reply.rest)))
+        elif reply.made():
+            print('{}:{}: made {}'.format(name, reply.line, ','.join(reply.made())))
+        if reply.verb != 'save':
+            for text in reply.text:
+                print(text)
