@@ -6,22 +6,29 @@ Each call ends in one of three ways, and a caller can rely on which:
 - `ServerRefused`: the server answered with a 4xx, so it did nothing of it;
 - `NoAnswer`: anything else. A call that only looks was tried again before. Of one that writes nobody knows what became.
 
-A 429 was refused, and says how long to wait: the call waits, and asks again. Nothing else that writes is ever sent twice here.
+A 429 was refused, and says how long to wait: the call waits, and asks again. Nothing else that writes is ever sent twice
+here, but for the close of a changeset, which does no harm.
 """
 import http.client
+import os
+import pathlib
+import re
+import stat
 import time
 import urllib.error
 import urllib.parse
 import urllib.request
 from dataclasses import dataclass, field
 
-from yoke import VERSION, osc, words
+from yoke import VERSION, opl, osc, words
 from yoke.trouble import NoAnswer, ServerRefused, Trouble, Usage
 
-AGENT = 'yokeorange-yoke/' + VERSION
+AGENT = 'yokeorange-yoke/' + VERSION        # of each call
+CREATED_BY = 'yokeorange yoke ' + VERSION    # of each changeset
+TOKEN = re.compile('[!-~]+')
 LOOPBACK = ('localhost', '127.0.0.1', '::1')
 TIMEOUT = 300               # seconds without a byte; a large document takes its time
-TRIES = 4                   # of a call that only looks
+WAITS = (1, 5, 25)          # seconds before a call that does no harm is tried again
 PATIENCE = 900              # seconds that a 429 may make one call wait in all
 NOT_DONE = {400, 401, 403, 404, 405, 406, 409, 410, 411, 412, 413, 414, 415, 422, 428, 431, 451}
 AT_ONCE = 400               # objects of one multi-fetch, so that its address stays short
@@ -33,6 +40,35 @@ class Limits:
 
     changes: int
     writable: bool
+
+
+def add_arguments(parser):
+    """The words by which a verb names a server and an account."""
+    group = parser.add_argument_group('the server')
+    group.add_argument('--api', metavar='ADDRESS', help='its address, such as https://HOST/api/0.6; there is no other one by default')
+    group.add_argument('--token-file', metavar='FILE', help='a file that only you can read, with a token of your account (else $YOKE_TOKEN)')
+
+
+def server_of(arguments, note, writes=False):
+    """The Server that the words name; Usage where they name none, or where it is to be written to and there is no token."""
+    if not arguments.api:
+        raise Usage('--api ADDRESS names the server; the page docs/COMPANION.md names the one to try things with')
+    token = token_in(arguments.token_file) if arguments.token_file else os.environ.get('YOKE_TOKEN', '').strip()
+    if writes and not token:
+        raise Usage('a token of your account is wanted, in $YOKE_TOKEN or in a --token-file')
+    if token and not TOKEN.fullmatch(token):
+        raise Usage('the token has a blank or a sign in it that no token has')
+    return Server(arguments.api, token, note)
+
+
+def token_in(name):
+    """The token in a file; Trouble where others can read it."""
+    path = pathlib.Path(name)
+    if not path.is_file():
+        raise Trouble('there is no file {}'.format(name))
+    if path.stat().st_mode & (stat.S_IRWXG | stat.S_IRWXO):
+        raise Trouble('others can read {}: chmod 600 {}'.format(name, name))
+    return path.read_text(encoding='utf-8').strip()
 
 
 class NoRedirect(urllib.request.HTTPRedirectHandler):
@@ -85,9 +121,9 @@ class Server:
         return int(element.get('changes_count') or 0), element.get('open') == 'true'
 
     def close_changeset(self, number):
-        """Closes a changeset; one that is closed already is fine."""
+        """Closes a changeset; one that is closed already is fine, so it is asked again where no answer comes."""
         try:
-            self._ask('PUT', '/changeset/{}/close'.format(number))
+            self._patiently('PUT', '/changeset/{}/close'.format(number))
         except ServerRefused as refused:
             if refused.status != 409:
                 raise
@@ -107,7 +143,7 @@ class Server:
         """
         found = []
         for kind in ('node', 'way', 'relation'):
-            ids = [key[1:] for key in keys if opl_kind(key) == kind]
+            ids = [key[1:] for key in keys if opl.KINDS[key[0]] == kind]
             for at in range(0, len(ids), AT_ONCE):
                 found += self._things(kind, ids[at:at + AT_ONCE], missing)
         return found
@@ -128,14 +164,17 @@ class Server:
 
     def look(self, path, above=False):
         """The text of a GET, asked again a few times where no answer comes. `above` takes a path from the top of the server."""
-        for wait in (1, 5, 25, None)[-TRIES:]:
+        return self._patiently('GET', path, above)
+
+    def _patiently(self, method, path, above=False):
+        """A call that does no harm when it is done twice."""
+        for wait in WAITS:
             try:
-                return self._ask('GET', path, above=above)
+                return self._ask(method, path, above=above)
             except NoAnswer as silence:
-                if wait is None:
-                    raise
                 self.note('{}; asked again in {} s'.format(silence, wait))
                 self.pause(wait)
+        return self._ask(method, path, above=above)
 
     def _ask(self, method, path, document=None, above=False):
         waited = 0
@@ -143,7 +182,7 @@ class Server:
             try:
                 return self._once(method, path, document, above)
             except ServerRefused as refused:
-                if refused.status != 429 or waited + refused.wait > PATIENCE:
+                if refused.status not in (429, 509) or waited + refused.wait > PATIENCE:
                     raise
                 self.note('the server asks to wait {} s'.format(refused.wait))
                 self.pause(refused.wait)
@@ -161,26 +200,20 @@ class Server:
             with self.opener.open(request, timeout=self.timeout) as answer:
                 return answer.read().decode('utf-8')
         except urllib.error.HTTPError as error:
-            raise self._refused(error) from None
+            raise self._refused(error, method) from None
         except (OSError, http.client.HTTPException, UnicodeDecodeError) as error:
             raise NoAnswer('no answer from {}: {}'.format(self.address, reason(error))) from None
 
-    def _refused(self, error):
-        """What an answer with another status than 200 is."""
+    def _refused(self, error, method):
+        """What an answer with another status than 200 is. A 509 asks who looked at too much to wait, as a 429 does."""
         try:
             text = error.read().decode('utf-8', 'replace')
         except (OSError, http.client.HTTPException):
             text = ''
-        if error.code in NOT_DONE or error.code == 429 or 300 <= error.code < 400:
-            refused = ServerRefused(words.answer(error.code, text or error.headers.get('Error') or ''), error.code, text)
-            refused.wait = seconds(error.headers.get('Retry-After'))
-            return refused
+        if error.code in NOT_DONE or error.code == 429 or 300 <= error.code < 400 or error.code == 509 and method == 'GET':
+            text = text or error.headers.get('Error') or ''
+            return ServerRefused(words.answer(error.code, text), error.code, text, seconds(error.headers.get('Retry-After')))
         return NoAnswer('the server answers {}{}'.format(error.code, ': ' + words.cut(text) if text else ''))
-
-
-def opl_kind(key):
-    """`node`, `way` or `relation`."""
-    return {'n': 'node', 'w': 'way', 'r': 'relation'}[key[0]]
 
 
 def checked(address):

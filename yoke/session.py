@@ -11,7 +11,7 @@ from dataclasses import dataclass
 from yoke import opl, saved, words
 from yoke.day import Day
 from yoke.program import BadLine, Program
-from yoke.trouble import NoAnswer, Refused
+from yoke.trouble import Clash, NoAnswer, Refused, Trouble
 
 
 @dataclass(frozen=True)
@@ -44,6 +44,22 @@ class Session:
             self.day.keep(verb, answer.saved())
         return answer
 
+    def confirm(self, name, size):
+        """Takes in the answers of a server, which are a file of the day, and keeps the session after them as the work of `send`.
+
+        Answers with the Answer, whose last `upload` has what is left, in chunks of so many changes. Trouble where the
+        answers aren't those to what this session would send.
+        """
+        lines = ['confirm ' + opl.escape(os.path.abspath(self.day.path(name))), 'save', 'upload {}'.format(size)]
+        answer = self._run(self.day.last(), lines, allow_refused=True)
+        taken = answer.last('confirm')
+        if taken.word != 'ok':
+            raise Trouble('{}: {}'.format(self.day.path(name), words.refusal(taken.rest)))
+        self.day.keep('send', answer.saved())
+        if answer.refused():
+            raise_refused(answer)
+        return answer
+
     def _run(self, state, lines, allow_refused):
         """Replies carry the numbers of the lines given here, from 1."""
         try:
@@ -66,9 +82,9 @@ class Session:
 
 
 def raise_refused(answer):
-    """Raises the first refusal of an Answer."""
+    """Raises the first refusal of an Answer: Clash where it is for conflicts, else Refused."""
     reply = answer.refused()[0]
-    raise Refused('{}: {}'.format(words.refusal(reply.rest), words.cut(reply.step)))
+    raise (Clash if reply.number == 23 else Refused)('{}: {}'.format(words.refusal(reply.rest), words.cut(reply.step)))
 
 
 def resume(state):
