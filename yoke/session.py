@@ -37,12 +37,16 @@ class Session:
         and with `keep_refused` the other steps are kept too. NoAnswer where a document went out and its answer isn't known:
         the server may have taken what such an edit would change.
         """
-        if self.day.pending():
-            raise NoAnswer('it isn\'t known yet what the server took of {}: yoke send looks, and goes on'.format(self.day.pending()))
+        self.check_settled()
         answer = self._run(self.day.last(), list(lines) + ['save'], allow_refused)
         if keep_refused or not answer.refused():
             self.day.keep(verb, answer.saved())
         return answer
+
+    def check_settled(self):
+        """NoAnswer where a document went out, and it isn't known what the server took of it."""
+        if self.day.pending():
+            raise NoAnswer('it isn\'t known yet what the server took of {}: yoke send looks, and goes on'.format(self.day.path(self.day.pending())))
 
     def confirm(self, name, size):
         """Takes in the answers of a server, which are a file of the day, and keeps the session after them as the work of `send`.
