@@ -42,6 +42,11 @@ class Limits:
     writable: bool
 
 
+def pause(seconds):
+    """Waits."""
+    time.sleep(seconds)
+
+
 def add_arguments(parser):
     """The words by which a verb names a server and an account."""
     group = parser.add_argument_group('the server')
@@ -82,13 +87,12 @@ class NoRedirect(urllib.request.HTTPRedirectHandler):
 class Server:
     """A server of API 0.6: its address, as `https://HOST/api/0.6`, and perhaps a token of an account.
 
-    `note` is called with a line for the user where a call waits; `pause` waits so many seconds.
+    `note` is called with a line for the user where a call waits.
     """
 
     address: str
     token: str = ''
     note: object = print
-    pause: object = time.sleep
     timeout: float = TIMEOUT
     opener: object = field(default_factory=lambda: urllib.request.build_opener(NoRedirect))
 
@@ -173,7 +177,7 @@ class Server:
                 return self._ask(method, path, above=above)
             except NoAnswer as silence:
                 self.note('{}; asked again in {} s'.format(silence, wait))
-                self.pause(wait)
+                pause(wait)
         return self._ask(method, path, above=above)
 
     def _ask(self, method, path, document=None, above=False):
@@ -185,7 +189,7 @@ class Server:
                 if refused.status not in (429, 509) or waited + refused.wait > PATIENCE:
                     raise
                 self.note('the server asks to wait {} s'.format(refused.wait))
-                self.pause(refused.wait)
+                pause(refused.wait)
                 waited += refused.wait
 
     def _once(self, method, path, document, above):

@@ -107,9 +107,8 @@ class Answer:
 
         Of a `delete` the object has key and version alone. None where nothing is left; Trouble where the text is cut off.
         """
-        lines, found = self.text('upload'), []
-        size = self.upload_size()
-        if len(lines) != 1 + size + sum(line.startswith('chunk ') for line in lines):
+        lines, size, found = self.text('upload'), self.upload_size(), []
+        if lines and len(lines) != 1 + size + sum(line.startswith('chunk ') for line in lines):
             raise Trouble('the session wrote no whole `upload`')
         for text in lines[2:]:
             verb, rest = text.split(' ', 1)

@@ -34,7 +34,7 @@ import re
 from dataclasses import dataclass, field
 from typing import Dict, List, Optional
 
-from yoke import osc, words
+from yoke import api, osc, words
 from yoke.api import Limits, Server
 from yoke.session import Session
 from yoke.trouble import Clash, NoAnswer, Refused, ServerRefused, Trouble
@@ -107,7 +107,7 @@ class Sending:
                 silences += 1
                 if silences == SILENCES:
                     raise NoAnswer('no answer came to {} documents in a row, and none was taken; send again later'.format(silences))
-                self.server.pause(WAITS[silences - 1])
+                api.pause(WAITS[silences - 1])
             chunk = self._next_chunk()
         self._close()
 
@@ -277,7 +277,7 @@ def noted(day):
 
 def users(text):
     """The way on where a 412 names users that the session may not know."""
-    found = re.search('used by (node|way|relation)s ([0-9, ]+)', text)
+    found = re.search('used (?:by|in) (way|relation)s? ([0-9, ]+)', text)
     keys = ['{}{}'.format(found[1][0], number) for number in re.findall('[0-9]+', found[2])] if found else []
     return '; where it doesn\'t know them: yoke refresh ' + ' '.join(keys[:20]) if keys else ''
 
