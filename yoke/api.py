@@ -103,7 +103,7 @@ class Server:
 
     def limits(self):
         """The Limits; Trouble where the server doesn't speak API 0.6."""
-        root = osc.root_of(self.look('/api/capabilities', above=True), 'osm')
+        root = self._read(osc.root_of, self.look('/api/capabilities', above=True), 'osm')
         most = root.find('./api/changesets')
         state = root.find('./api/status')
         if most is None or not (most.get('maximum_elements') or '').isdigit():
@@ -119,7 +119,7 @@ class Server:
 
     def changeset(self, number):
         """How many changes a changeset has, and whether it is open."""
-        element = osc.root_of(self.look('/changeset/' + number), 'osm').find('changeset')
+        element = self._read(osc.root_of, self.look('/changeset/' + number), 'osm').find('changeset')
         if element is None:
             raise NoAnswer('{} says nothing of the changeset {}'.format(self.address, number))
         return int(element.get('changes_count') or 0), element.get('open') == 'true'
@@ -154,7 +154,7 @@ class Server:
 
     def _things(self, kind, ids, missing):
         try:
-            return osc.things(self.look('/{0}s?{0}s={1}'.format(kind, ','.join(ids))))
+            return self._read(osc.things, self.look('/{0}s?{0}s={1}'.format(kind, ','.join(ids))))
         except ServerRefused as refused:
             if refused.status != 404:
                 raise
@@ -163,6 +163,13 @@ class Server:
             return []
         half = len(ids) // 2
         return self._things(kind, ids[:half], missing) + self._things(kind, ids[half:], missing)
+
+    def _read(self, reader, text, *names):
+        """What a reader makes of an answer; NoAnswer where it is another document, as the page of a proxy."""
+        try:
+            return reader(text, *names)
+        except osc.NoXml as fault:
+            raise NoAnswer('{} answers something else: {}'.format(self.address, fault)) from None
 
     # ---- how ----
 
