@@ -32,8 +32,8 @@ def run(arguments):
             answer = session.edit('do', lines, allow_refused=True, keep_refused=arguments.keep)
         except BadLine as bad:
             raise BadLine('{}:{}: {}'.format(name, bad.line, bad), bad.line) from None
-    show(name, answer)
     refused = answer.refused()
+    show(name, answer, kept=arguments.keep or not refused)
     if refused and not arguments.keep:
         raise Refused('nothing is kept: {} of {} steps {} refused'.format(len(refused), len(answer.replies) - 1, 'was' if len(refused) == 1 else 'were'))
     print('kept as {}'.format(session.day.last().path))
@@ -66,13 +66,28 @@ def check(name, lines, folder):
         raise Refused('{}:{}: the group has no end'.format(name, begun))
 
 
-def show(name, answer):
-    """What the steps wrote and made, to standard output, and what was refused, in words."""
+def show(name, answer, kept):
+    """What the steps wrote, what was refused, in words, and what was made, if it is kept."""
+    gone = given_up(answer)
     for reply in answer.replies:
         if reply.word == 'refused':
             print('{}:{}: refused: {}: {}'.format(name, reply.line, words.cut(reply.step), words.refusal(reply.rest)))
-        elif reply.made():
+        elif kept and reply.made() and reply.line not in gone:
             print('{}:{}: made {}'.format(name, reply.line, ','.join(reply.made())))
         if reply.verb != 'save':
             for text in reply.text:
                 print(text)
+
+
+def given_up(answer):
+    """The numbers of the lines in groups that were taken back."""
+    found, group = set(), None
+    for reply in answer.replies:
+        if reply.verb == 'begin':
+            group = []
+        if group is not None:
+            group.append(reply)
+        if reply.verb == 'end':
+            found |= {one.line for one in group} if any(one.word == 'refused' for one in group) else set()
+            group = None
+    return found
