@@ -13,7 +13,7 @@ before the next call goes out, and each answer is on the disk before anything re
 
 From row to row, in this order, of which each line is one write or one call:
 
-    1 -> 2   PUT changeset/create; write changeset
+    1 -> 2   write server, the first time; PUT changeset/create; write changeset
     2 -> 3   write N.osc; POST changeset/C/upload
     3 -> 4   the answer is a diffResult of all changes: write N.answer
     3 -> 2   the answer is a 4xx: the document wasn't taken, and C doesn't have it: remove N.osc
@@ -91,10 +91,10 @@ class Sending:
 
         Raises Clash, NoAnswer, ServerRefused or Refused; what was taken before that is kept.
         """
+        check_server(self.day, self.server)
         self.limits = self.server.limits()
         if not self.limits.writable:
             raise NoAnswer('{} takes no edits at present; send again later'.format(self.server.address))
-        belongs(self.day, self.server)
         self._take_up()
         chunk, silences = self._next_chunk(), 0
         while chunk:
@@ -159,6 +159,7 @@ class Sending:
         return self.session.ask(['upload {}'.format(self._room())]).first_chunk()
 
     def _open(self):
+        note_server(self.day, self.server)
         number = self.server.open_changeset(self.tags)
         self.day.write('changeset', json.dumps({'number': number, 'tags': self.tags}) + '\n')
         self.changeset = Open(number, self.tags)
@@ -218,7 +219,10 @@ class Sending:
         """A 409 for the changeset itself: it is closed, or somebody works in it. A second new one in a row is another fault."""
         self.unusable = 0 if self.changeset.count else self.unusable + 1
         self.note('{}'.format(refused))
-        if self._settle():
+        if 'own that changeset' in refused.text:    # it was opened by another account
+            self._remove('osc')
+            self._drop()
+        elif self._settle():
             return Outcome.TAKEN
         if self.unusable > 1:
             raise refused
@@ -343,10 +347,14 @@ def users(text):
     return '; where it doesn\'t know them: yoke refresh ' + ' '.join(keys[:20]) if keys else ''
 
 
-def belongs(day, server):
-    """Notes the server that a day is of; Trouble where it is of another one."""
+def check_server(day, server):
+    """Trouble where a day is of another server."""
     before = (day.read('server') or '').strip()
     if before and before != server.address:
         raise Trouble('this day is of the server {}, and its ids mean nothing to another: start another --day for {}'.format(before, server.address))
-    if not before:
+
+
+def note_server(day, server):
+    """Notes the server that a day is of from now on."""
+    if not day.read('server'):
         day.write('server', server.address + '\n')
