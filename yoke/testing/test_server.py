@@ -481,6 +481,25 @@ class WithFaults(ServerTest):
             self.upload(self.node)
         self.assertEqual(self.taken(), 4)
 
+    def test_what_is_done_late(self):
+        self.server.faults.once('late-2')
+        number = self.opened()
+        with self.assertRaises(http.client.RemoteDisconnected):
+            self.upload(self.node, number)
+        seen = []
+        for _ in range(3):
+            seen.append(len(self.get('changeset/{}/download'.format(number)).root))
+        self.assertEqual(seen, [0, 1, 1])
+
+    def test_what_is_done_too_late(self):
+        self.server.faults.once('late-2')
+        number = self.opened()
+        with self.assertRaises(http.client.RemoteDisconnected):
+            self.upload(self.node, number)
+        self.ask('PUT', '/api/0.6/changeset/{}/close'.format(number))
+        self.assertEqual(len(self.get('changeset/{}/download'.format(number)).root), 0)
+        self.assertEqual(self.taken(), 0)
+
     def test_of_another_operation_and_after_some(self):
         self.server.faults.once('500-before', 'element', skip=1)
         self.assertEqual([self.get('node/1').status for _ in range(3)], [200, 500, 200])
@@ -534,6 +553,12 @@ class Others(ServerTest):
         self.server.after('upload', 1, lambda: seen.append(len(self.server.history)))
         self.upload('<modify><node id="4" C version="1" lat="1" lon="1"/></modify>')
         self.assertEqual(seen, [1])
+
+    def test_all_requests_are_watched(self):
+        seen = []
+        self.server.watch = lambda when, operation: seen.append((when, operation))
+        self.get('node/1')
+        self.assertEqual(seen, [('before', 'element'), ('after', 'element')])
 
     def test_who_made_what(self):
         node = '<create><node id="-1" C lat="1" lon="1"><tag k="a" v="b"/></node></create>'
