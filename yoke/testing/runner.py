@@ -29,7 +29,8 @@ class Runner:
         self.folder = os.path.abspath(folder)
 
     def __enter__(self) -> 'Runner':
-        self._stands_by = subprocess.Popen([sys.executable, '-B', os.path.abspath(__file__), self.folder], stdin=subprocess.PIPE, stdout=subprocess.PIPE)
+        self._stands_by = subprocess.Popen([sys.executable, '-B', os.path.abspath(__file__), self.folder], stdin=subprocess.PIPE,
+                                           stdout=subprocess.PIPE)
         return self
 
     def __exit__(self, *why) -> None:

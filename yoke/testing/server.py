@@ -192,7 +192,7 @@ def route_of(method: str, path: str) -> Tuple[Route, Tuple[str, ...]]:
 # ---- the server ----
 
 class StrictServer:
-    """The server, which runs in a thread of its own while it is used as a context.
+    """The server, which listens in a thread of its own while it is used as a context; without that its data can be used all the same.
 
     `users` are the users by their tokens. With `first_id` the next id of a new node, way or relation is this one, or the
     one after the highest that is there where that is higher.
@@ -208,10 +208,13 @@ class StrictServer:
         self.watch: Optional[Callable[[str, str], Any]] = None      # called with `before` or `after`, and the operation
         self._hooks: List[Hook] = []
         self._late: List[Late] = []
-        self._http = Listener(('127.0.0.1', port), self)
-        self._thread = threading.Thread(target=self._http.serve_forever, kwargs={'poll_interval': 0.02}, daemon=True)
+        self._port = port
+        self._http: Optional[Listener] = None
+        self._thread: Optional[threading.Thread] = None
 
     def __enter__(self) -> 'StrictServer':
+        self._http = Listener(('127.0.0.1', self._port), self)
+        self._thread = threading.Thread(target=self._http.serve_forever, kwargs={'poll_interval': 0.02}, daemon=True)
         self._thread.start()
         return self
 
@@ -222,7 +225,7 @@ class StrictServer:
 
     @property
     def address(self) -> str:
-        """The address without a path, such as `http://127.0.0.1:8080`."""
+        """The address without a path, such as `http://127.0.0.1:8080`, while it listens."""
         return 'http://127.0.0.1:{}'.format(self._http.server_address[1])
 
     @property
@@ -290,7 +293,8 @@ class StrictServer:
             lon, lat = (units(degree) for degree in place) if place is not None else (old.lon, old.lat)
             number = database.create_changeset(user, b'<osm><changeset/></osm>')
             new = Element(old.kind, old.number, old.version, True, number, '', 0, '', dict(old.tags if tags is None else tags), lon, lat,
-                          old.nodes if nodes is None else tuple(nodes), old.members if members is None else tuple(Member(*member) for member in members))
+                          old.nodes if nodes is None else tuple(nodes),
+                          old.members if members is None else tuple(Member(*member) for member in members))
             block = ElementTree.Element(verb)
             block.append(as_xml(new))
             database.upload(number, user, document('osmChange', [block]))
@@ -364,7 +368,8 @@ class StrictServer:
             return refused(too_fast(self.limits) if fault == '429-before' else too_much(self.limits))
         if fault.startswith('50'):
             phrase = HTTPStatus(int(fault[:3])).phrase
-            return Answer(int(fault[:3]), '<html><head><title>{0} {1}</title></head><body><h1>{1}</h1></body></html>\n'.format(fault[:3], phrase).encode(),
+            return Answer(int(fault[:3]),
+                          '<html><head><title>{0} {1}</title></head><body><h1>{1}</h1></body></html>\n'.format(fault[:3], phrase).encode(),
                           'text/html; charset=iso-8859-1')
         return Answer(200)
 
