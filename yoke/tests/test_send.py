@@ -412,12 +412,13 @@ class Silence(SendTest):
     def test_a_changeset_that_cannot_be_looked_into(self):
         """The version that a change would have made tells; of new objects the changeset alone."""
         self.chunk = '3'
-        for fault, skip in [('drop-after', 1), ('500-before', 1), ('500-before', 0)]:
-            with self.subTest(fault=fault, skip=skip):
+        for chunk, fault, skip in [('3', 'drop-after', 1), ('3', '500-before', 1), ('3', '500-before', 0), ('2', '500-before', 0)]:
+            with self.subTest(chunk=chunk, fault=fault, skip=skip):
                 self.again()
+                self.chunk = chunk
                 self.server.faults.once(fault, 'upload', skip)
                 self.server.faults.by_chance('504-before', 1.0, 0, 'download')
-                self.assertEqual(0 if skip else 0, self.send(), self.err)
+                self.assertEqual(0, self.send(), self.err)
                 self.is_all_there()
                 self.is_at_rest()
         self.again()
@@ -425,6 +426,15 @@ class Silence(SendTest):
         self.server.faults.by_chance('504-before', 1.0, 0, 'download')
         self.assertEqual(NoAnswer.code, self.send())
         self.assertEqual('000002.osc', self.day.pending())
+        self.goes_on()
+
+    def test_a_download_that_lags_behind(self):
+        """The changeset counts what the download doesn't show yet: nothing goes out again."""
+        self.server.faults.once('drop-after', 'upload')
+        with mock.patch.object(self.server.database, 'download', lambda number: b'<osmChange/>'):
+            self.assertEqual(NoAnswer.code, self.send())
+        self.assertIn('doesn\'t show them yet', self.err)
+        self.assertEqual((1, '000002.osc'), (self.server.requests.count('upload'), self.day.pending()))
         self.goes_on()
 
     def test_a_changeset_that_the_server_has_forgotten(self):

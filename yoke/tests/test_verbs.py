@@ -53,7 +53,7 @@ class Start(FolderTest):
 
     def test_without_osmium_other_formats_are_named(self):
         self.write('town.osm.pbf', 'x')
-        with mock.patch('shutil.which', return_value=None):
+        with mock.patch.dict(os.environ, PATH=''):
             self.assertEqual(Trouble.code, self.yoke('start', 'town.osm.pbf'))
         self.assertIn('osmium-tool', self.err)
 
