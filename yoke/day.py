@@ -145,6 +145,8 @@ class Day:
                 fcntl.flock(lock, fcntl.LOCK_EX | fcntl.LOCK_NB)
             except OSError:
                 raise Busy('another yoke works in {}'.format(self.folder)) from None
+            for path in self.folder.glob('*.new'):      # begun by one that was stopped; nothing rests on them
+                path.unlink()
             yield self
 
 

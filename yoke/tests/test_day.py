@@ -138,6 +138,11 @@ class Locks(DayTest):
         with self.day.locked():
             pass
 
+    def test_what_a_stopped_one_left_half_written_goes(self):
+        (self.folder / '000001-start.saved.new').write_text('half')
+        with self.day.locked():
+            self.assertEqual(['lock'], os.listdir(self.folder))
+
     def test_no_folder(self):
         with self.assertRaisesRegex(Trouble, 'yoke start'), Day(self.folder / 'none').locked():
             pass

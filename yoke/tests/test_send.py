@@ -313,7 +313,8 @@ class Silence(SendTest):
             with self.subTest(fault):
                 self.again()
                 self.server.faults.once(fault, 'upload')
-                self.server.faults.by_chance('500-before', 1.0, 0, 'download')
+                for operation in ('download', 'changeset'):
+                    self.server.faults.by_chance('500-before', 1.0, 0, operation)
                 self.assertEqual(NoAnswer.code, self.send())
                 self.assertEqual('000002.osc', self.day.pending())
                 self.assertEqual(taken, bool(self.server.history))

@@ -1,4 +1,5 @@
 """`yoke status`: where the day stands."""
+from yoke.sending import noted
 from yoke.session import Session
 
 SUMMARY = 'show where the day stands: what is edited, in conflict, sent, and what to do next'
@@ -16,6 +17,8 @@ def run(arguments):
     print('{nodes} nodes, {ways} ways, {relations} relations; {changed} edited, {conflicts} in conflict'.format(**counts))
     if day.read('server'):
         print('server {}'.format(day.read('server').strip()))
+    if noted(day):
+        print('changeset {} is open'.format(noted(day).number))
     print(advice(day, counts))
     return 0
 
