@@ -280,6 +280,13 @@ class StrictServer:
         """Calls something when the request of an operation with a number was done, before it is answered."""
         self._hooks.append(Hook('after', operation, number, call))
 
+    def close_idle(self) -> None:
+        """Closes all changesets that are open, as the live server does with those in which nothing came for an hour."""
+        with self.lock:
+            for changeset in self.database.changesets.values():
+                if changeset.closed_at is None:
+                    changeset.closed_at = self.database.clock()
+
     def edit(self, verb: str, key: str, user: User = SOMEBODY, tags: Optional[Dict[str, str]] = None, place: Optional[Tuple[str, str]] = None,
              nodes: Optional[Iterable[int]] = None, members: Optional[Iterable[Tuple[str, int, str]]] = None) -> str:
         """Changes the data as another user, in a changeset of its own, and gives the key; Refusal where the API doesn't let it.
