@@ -27,6 +27,7 @@ import socket
 import sys
 import threading
 import urllib.parse
+from collections import Counter
 from http import HTTPStatus
 from typing import Any, Callable, Dict, Iterable, List, NamedTuple, Optional, Tuple
 from xml.etree import ElementTree
@@ -204,6 +205,7 @@ class StrictServer:
         self.users = dict(USERS if users is None else users)
         self.faults = Faults()
         self.requests: List[str] = []           # the operations asked for, in their order
+        self.answers: Counter = Counter()       # how many answers of each status an operation has had, such as `upload 409`
         self.lock = threading.RLock()           # held while an operation is done, so that each is done whole
         self.watch: Optional[Callable[[str, str], Any]] = None      # called with `before` or `after`, and the operation
         self._hooks: List[Hook] = []
@@ -349,9 +351,11 @@ class StrictServer:
         """Does an operation, and gives its answer."""
         with self.lock:
             try:
-                return route.act(self.database, request)
+                answer = route.act(self.database, request)
             except Refusal as why:
-                return refused(why)
+                answer = refused(why)
+            self.answers['{} {}'.format(route.operation, answer.status)] += 1
+            return answer
 
     def _do_late(self) -> None:
         """Does what was to be done before this request."""

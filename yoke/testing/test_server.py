@@ -603,7 +603,9 @@ class Others(ServerTest):
     def test_operations_are_counted(self):
         self.upload('')
         self.get('node/1')
-        self.assertEqual(self.server.requests, ['create', 'upload', 'element'])
+        self.get('node/77')
+        self.assertEqual(self.server.requests, ['create', 'upload', 'element', 'element'])
+        self.assertEqual(self.server.answers, {'create 200': 1, 'upload 200': 1, 'element 200': 1, 'element 404': 1})
 
     def test_users_of_a_test(self):
         with StrictServer(users={'t': User(7, 'seven')}) as server:
