@@ -27,6 +27,7 @@ import socket
 import sys
 import threading
 import urllib.parse
+from collections import Counter
 from http import HTTPStatus
 from typing import Any, Callable, Dict, Iterable, List, NamedTuple, Optional, Tuple
 from xml.etree import ElementTree
@@ -204,6 +205,7 @@ class StrictServer:
         self.users = dict(USERS if users is None else users)
         self.faults = Faults()
         self.requests: List[str] = []           # the operations asked for, in their order
+        self.answers: Counter = Counter()       # how many answers of each status an operation has had, such as `upload 409`
         self.lock = threading.RLock()           # held while an operation is done, so that each is done whole
         self.watch: Optional[Callable[[str, str], Any]] = None      # called with `before` or `after`, and the operation
         self._hooks: List[Hook] = []
@@ -280,6 +282,13 @@ class StrictServer:
         """Calls something when the request of an operation with a number was done, before it is answered."""
         self._hooks.append(Hook('after', operation, number, call))
 
+    def close_idle(self) -> None:
+        """Closes all changesets that are open, as the live server does with those in which nothing came for an hour."""
+        with self.lock:
+            for changeset in self.database.changesets.values():
+                if changeset.closed_at is None:
+                    changeset.closed_at = self.database.clock()
+
     def edit(self, verb: str, key: str, user: User = SOMEBODY, tags: Optional[Dict[str, str]] = None, place: Optional[Tuple[str, str]] = None,
              nodes: Optional[Iterable[int]] = None, members: Optional[Iterable[Tuple[str, int, str]]] = None) -> str:
         """Changes the data as another user, in a changeset of its own, and gives the key; Refusal where the API doesn't let it.
@@ -342,9 +351,11 @@ class StrictServer:
         """Does an operation, and gives its answer."""
         with self.lock:
             try:
-                return route.act(self.database, request)
+                answer = route.act(self.database, request)
             except Refusal as why:
-                return refused(why)
+                answer = refused(why)
+            self.answers['{} {}'.format(route.operation, answer.status)] += 1
+            return answer
 
     def _do_late(self) -> None:
         """Does what was to be done before this request."""

@@ -576,6 +576,12 @@ class Others(ServerTest):
         self.upload('<modify><node id="4" C version="1" lat="1" lon="1"/></modify>')
         self.assertEqual(seen, [1])
 
+    def test_a_changeset_that_is_left_alone_is_closed(self):
+        number = self.opened()
+        self.server.close_idle()
+        self.assertEqual(self.get('changeset/{}'.format(number)).root[0].get('open'), 'false')
+        self.assertEqual(self.upload('', number).status, 409)
+
     def test_all_requests_are_watched(self):
         seen = []
         self.server.watch = lambda when, operation: seen.append((when, operation))
@@ -597,7 +603,9 @@ class Others(ServerTest):
     def test_operations_are_counted(self):
         self.upload('')
         self.get('node/1')
-        self.assertEqual(self.server.requests, ['create', 'upload', 'element'])
+        self.get('node/77')
+        self.assertEqual(self.server.requests, ['create', 'upload', 'element', 'element'])
+        self.assertEqual(self.server.answers, {'create 200': 1, 'upload 200': 1, 'element 200': 1, 'element 404': 1})
 
     def test_users_of_a_test(self):
         with StrictServer(users={'t': User(7, 'seven')}) as server:
