@@ -1,4 +1,5 @@
 """What the tests share: tables from a few lines, and sessions run by the program, or by the second editor where there is none."""
+import functools
 import os
 import pathlib
 import shutil
@@ -17,9 +18,13 @@ def program():
     return [found] if found else [sys.executable, str(TOP / 'bench' / 'model')]
 
 
+@functools.lru_cache(maxsize=None)
 def has_program():
-    """Whether the program itself is there, which alone knows which lines are none."""
-    return len(program()) == 1
+    """Whether the program itself is there, which alone knows which lines are none: the second editor takes them for granted."""
+    with tempfile.TemporaryDirectory(prefix='yoke-test-') as folder:
+        pathlib.Path(folder, 'bad.script').write_bytes(b'print\nundo 0\n')
+        done = subprocess.run(program() + ['bad.script'], cwd=folder, stdout=subprocess.PIPE, stderr=subprocess.PIPE)
+    return done.returncode == 4 and done.stderr == b'editor: bad script line 2\n'
 
 
 def ran(lines, **files):
