@@ -17,6 +17,7 @@ SLOTS = {
     'combine': ['KEYS'], 'fuse': ['KEYS'], 'squeeze': ['KEYS'], 'reverse': ['KEY'],
 }
 KEYS = re.compile('[nwr]-?[0-9]{1,19}(,[nwr]-?[0-9]{1,19})*,?')
+LIST = re.compile('[NM]?[nwr]-?[0-9]+([,@x]|$)|[NM]$')
 NUMBER = re.compile('[xy]?[-+]?([0-9]+[.,]?[0-9]*|[.,][0-9]+)([eE][-+]?[0-9]+)?', re.ASCII)
 OTHER_WORDS = {'add': 'node', 'remove': 'delete', 'rm': 'delete', 'merge': 'combine', 'join': 'combine', 'rename': 'tag', 'set': 'tag', 'load': 'download',
                'open': 'download', 'commit': 'end', 'list': 'print', 'show': 'print', 'search': 'find', 'query': 'find'}
@@ -115,11 +116,11 @@ def taken_number(left: List[str], slot: str) -> str:
 
 def taken_tags(left: List[str], slots: List[str]) -> str:
     """The words that are tags, with blanks between them: from the first that begins with T or has a =, up to another field."""
-    ends = [slot for slot in slots if slot in 'NM']
+    ends = 'N' in slots or 'M' in slots
     start = next((at for at, word in enumerate(left) if word[0] == 'T' or '=' in word), None)
     if start is None:
         return ''
-    end = next((at for at in range(start + 1, len(left)) if left[at][0] in ends and re.match('[NM]([nwr]-?[0-9]|$)', left[at])), len(left))
+    end = next((at for at in range(start + 1, len(left)) if ends and LIST.match(left[at])), len(left))
     text = ' '.join(left[start:end])
     del left[start:end]
     return text[1:] if text.startswith('T') else text
