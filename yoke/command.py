@@ -1,7 +1,7 @@
 """The command line: the words common to all verbs, the choice of a verb, and exit codes.
 
 A verb raises `Trouble` for whatever it can't do; here that becomes one line on the error stream and an exit code. The
-codes are those of `yoke/trouble.py`, with 0 for done and 130 where the user broke off.
+codes are those of `yoke/trouble.py`, with 0 for done, 130 where the user broke off, and 70 for a fault of `yoke` itself.
 """
 import argparse
 import os
@@ -60,6 +60,11 @@ def main(words=None):
     except KeyboardInterrupt:
         complain('broken off; the same command again goes on from what is kept')
         return 130
+    except Exception as fault:
+        if os.environ.get('YOKE_TRACE'):
+            raise
+        complain('a fault of yoke itself, which you may report with what $YOKE_TRACE=1 shows: {}: {}'.format(type(fault).__name__, fault))
+        return 70
 
 
 def complain(text):

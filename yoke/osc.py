@@ -11,7 +11,7 @@ from xml.sax.saxutils import quoteattr
 from yoke import opl
 
 VERBS = ('create', 'modify', 'delete')
-NO_XML = re.compile('[^\t\n\r -\ud7ff\ue000-\ufffd\U00010000-\U0010ffff]')
+NOT_CARRIED = re.compile('[^\t\n\r -~\x80-\ud7ff\ue000-\ufffd\U00010000-\U0010ffff]')     # of XML, and U+007F, which the API refuses
 
 
 class NotThere(ValueError):
@@ -25,7 +25,7 @@ class NoXml(ValueError):
 # ---- written ----
 
 def document(changes, changeset):
-    """The osmChange document of changes that go into a changeset, in their order. ValueError where XML can't carry a text."""
+    """The osmChange document of changes that go into a changeset, in their order. ValueError where the API doesn't take a text."""
     lines = ['<osmChange version="0.6" generator="yokeorange">']
     for verb, group in groupby(changes, key=lambda change: change[0]):
         lines.append('  <{}>'.format(verb))
@@ -50,10 +50,10 @@ def element_lines(thing, changeset, verb):
 
 
 def carried(thing):
-    """ValueError where a text of an object has a character that XML can't carry, such as U+0001."""
-    found = NO_XML.search(' '.join([*thing.tags, *thing.tags.values(), *(role for _, role in thing.members)]))
+    """ValueError where a text of an object has a character that the API doesn't take, such as U+0001."""
+    found = NOT_CARRIED.search(' '.join([*thing.tags, *thing.tags.values(), *(role for _, role in thing.members)]))
     if found:
-        raise ValueError('{}: a text has U+{:04X}, which XML can\'t carry: take it out by tag or members'.format(thing.key, ord(found[0])))
+        raise ValueError('{}: a text has U+{:04X}, which the API doesn\'t take: take it out by tag or members'.format(thing.key, ord(found[0])))
 
 
 def attribute(text):

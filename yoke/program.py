@@ -97,21 +97,25 @@ class Answer:
         """The keys of the last `find`."""
         return self.text('find')[1:]
 
-    def changes(self):
-        """The changes of the last `upload`, in its chunks: lists of pairs, a verb (`create`, `modify`, `delete`) and an Object.
+    def upload_size(self):
+        """How many changes the last `upload` has; 0 where it was refused."""
+        lines = self.text('upload')
+        return int(lines[0].split(' ')[2]) if lines else 0
+
+    def first_chunk(self):
+        """The changes of the first chunk of the last `upload`: pairs of a verb (`create`, `modify`, `delete`) and an Object.
 
         Of a `delete` the object has key and version alone. None where nothing is left; Trouble where the text is cut off.
         """
-        lines, chunks = self.text('upload'), []
-        for text in lines[1:]:
+        lines, size, found = self.text('upload'), self.upload_size(), []
+        if lines and len(lines) != 1 + size + sum(line.startswith('chunk ') for line in lines):
+            raise Trouble('the session wrote no whole `upload`')
+        for text in lines[2:]:
             verb, rest = text.split(' ', 1)
             if verb == 'chunk':
-                chunks.append([])
-            else:
-                chunks[-1].append((verb, opl.parse(rest)))
-        if lines and lines[0] != 'upload changes {} chunks {}'.format(sum(map(len, chunks)), len(chunks)):
-            raise Trouble('the session wrote no whole `upload`')
-        return chunks
+                break
+            found.append((verb, opl.parse(rest)))
+        return found
 
 
 @dataclass(frozen=True)

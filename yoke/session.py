@@ -11,7 +11,7 @@ from dataclasses import dataclass
 from yoke import opl, saved, words
 from yoke.day import Day
 from yoke.program import BadLine, Program
-from yoke.trouble import NoAnswer, Refused
+from yoke.trouble import Clash, NoAnswer, Refused, Trouble
 
 
 @dataclass(frozen=True)
@@ -37,11 +37,31 @@ class Session:
         and with `keep_refused` the other steps are kept too. NoAnswer where a document went out and its answer isn't known:
         the server may have taken what such an edit would change.
         """
-        if self.day.pending():
-            raise NoAnswer('it isn\'t known yet what the server took of {}: yoke send looks, and goes on'.format(self.day.pending()))
+        self.check_settled()
         answer = self._run(self.day.last(), list(lines) + ['save'], allow_refused)
         if keep_refused or not answer.refused():
             self.day.keep(verb, answer.saved())
+        return answer
+
+    def check_settled(self):
+        """NoAnswer where a document went out, and it isn't known what the server took of it."""
+        if self.day.pending():
+            raise NoAnswer('it isn\'t known yet what the server took of {}: yoke send looks, and goes on'.format(self.day.path(self.day.pending())))
+
+    def confirm(self, name, size):
+        """Takes in the answers of a server, which are a file of the day, and keeps the session after them as the work of `send`.
+
+        Answers with the Answer, whose last `upload` has what is left, in chunks of so many changes. Trouble where the
+        answers aren't those to what this session would send.
+        """
+        lines = ['confirm ' + opl.escape(os.path.abspath(self.day.path(name))), 'save', 'upload {}'.format(size)]
+        answer = self._run(self.day.last(), lines, allow_refused=True)
+        taken = answer.last('confirm')
+        if taken.word != 'ok':
+            raise Trouble('{}: {}'.format(self.day.path(name), words.refusal(taken.rest)))
+        self.day.keep('send', answer.saved())
+        if answer.refused():
+            raise_refused(answer)
         return answer
 
     def _run(self, state, lines, allow_refused):
@@ -66,9 +86,9 @@ class Session:
 
 
 def raise_refused(answer):
-    """Raises the first refusal of an Answer."""
+    """Raises the first refusal of an Answer: Clash where it is for conflicts, else Refused."""
     reply = answer.refused()[0]
-    raise Refused('{}: {}'.format(words.refusal(reply.rest), words.cut(reply.step)))
+    raise (Clash if reply.number == 23 else Refused)('{}: {}'.format(words.refusal(reply.rest), words.cut(reply.step)))
 
 
 def resume(state):

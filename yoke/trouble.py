@@ -35,13 +35,14 @@ class NoAnswer(Trouble):
 
 
 class ServerRefused(Trouble):
-    """The server answered with a 4xx: it did nothing of what it was asked. `status` and `text` are its answer."""
+    """The server answered with a 4xx: it did nothing of what it was asked. `status` and `text` are its answer, and `wait` is
+    how many seconds it asks to wait."""
 
     code = 6
 
-    def __init__(self, message, status=0, text=''):
+    def __init__(self, message, status=0, text='', wait=0):
         super().__init__(message)
-        self.status, self.text = status, text
+        self.status, self.text, self.wait = status, text, wait
 
 
 class Busy(Trouble):

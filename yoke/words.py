@@ -105,9 +105,16 @@ def bad_line(step):
     return 'no line of a script: {}; docs/REFUSALS.md, "Status 4", has what it mostly is'.format(cut(step))
 
 
+def is_version_mismatch(text):
+    """Whether the text of a 409 is about the version of an object, and not about the changeset."""
+    return text.startswith('Version mismatch')
+
+
 def answer(code, text):
     """A refusal of a server, with its own text."""
     cause, way = ANSWERS.get(code, ('it refuses', 'its text says why'))
+    if code == 409 and not is_version_mismatch(text):
+        cause, way = 'the changeset isn\'t open', 'another one is needed'
     said = cut(' '.join(text.split()), 300)
     return 'the server answers {}, {}{}; {}'.format(code, cause, ': ' + said if said else '', way)
 

@@ -49,7 +49,7 @@ def words(how, rest):
     if how == 'mix' and len(rest) == 2 and all(side in SIDES for side in rest):
         return 'mix {} {}'.format(*rest)
     if how == 'parts' and rest and rest[0] in SIDES:
-        return 'parts {} K{}'.format(rest[0], ','.join(map(opl.quote, rest[1:])))
+        return 'parts {} K{}'.format(rest[0], ','.join(map(opl.escape, rest[1:])))
     raise Usage('resolve KEY mine, KEY theirs, KEY mix SIDE SIDE, or KEY parts SIDE [TAG..], where a SIDE is mine or theirs')
 
 
