@@ -43,10 +43,15 @@ class Table:
 
 def read(text) -> Table:
     """The table of a saved session; Trouble where the text is none."""
+    number, things = next_new(text), saved.read(text)
+    start = len('incomplete ')
+    incomplete = {line[start:].rstrip('\r') for line in text.split('\n') if line.startswith('incomplete ')}
+    return Table(things, incomplete, number)
+
+
+def next_new(text) -> int:
+    """The number of the next new object of a saved session; Trouble where the text is none."""
     header = text.split('\n', 1)[0].rstrip('\r').split(' ')
     if len(header) != 3 or header[:2] != ['session', '1'] or not header[2].isdigit():
         raise Trouble('it is no saved session: it begins with {!r}'.format(' '.join(header)[:40]))
-    things = saved.read(text)
-    start = len('incomplete ')
-    incomplete = {line[start:].rstrip('\r') for line in text.split('\n') if line.startswith('incomplete ')}
-    return Table(things, incomplete, int(header[2]))
+    return int(header[2])

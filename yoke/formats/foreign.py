@@ -237,9 +237,12 @@ class _Planner:
 
     def _dropped(self):
         """New objects of the session that the document was written with, and that aren't in it any more, were deleted."""
-        if self.start is None:
-            return
         marked = {one.mark for one in self.told}
+        if self.start is None:
+            missing = [key for key in self.table.new() if key not in marked] if marked - {''} else []
+            if missing:
+                self.found.notes.append('{} new objects of the session aren\'t in it, and stay, as {}'.format(len(missing), missing[0]))
+            return
         for key in self.start.new():
             if key not in marked and key in self.table.things and self.table.things[key].base is None:
                 self._delete(Told(opl.Object(key), 'delete'), key)
@@ -249,7 +252,7 @@ class _Planner:
         unlike = [one.thing.key for one in self.told if not one.action and one.thing.key in self.table.things
                   and self.table.things[one.thing.key].base.version != one.thing.version]
         if unlike:
-            self.found.notes.append('{} objects that it doesn\'t change have another version there, as {}'.format(len(unlike), unlike[0]))
+            self.found.notes.append('{} objects that it doesn\'t change are there in another version, as {}'.format(len(unlike), unlike[0]))
 
 
 def _said(value: Optional[str]) -> str:

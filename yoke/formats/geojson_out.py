@@ -15,7 +15,7 @@ def document(table: Table) -> str:
     """
     features = [_feature(table, known) for known in table.things.values() if known.edit or known.conflict != 'none']
     lines = ',\n'.join(json.dumps(feature, ensure_ascii=False) for feature in features)
-    return '{"type": "FeatureCollection", "features": [\n' + lines + ('\n' if lines else '') + ']}\n'
+    return '{"type": "FeatureCollection", "generator": "yoke", "features": [\n' + lines + ('\n' if lines else '') + ']}\n'
 
 
 def _feature(table: Table, known):

@@ -5,7 +5,7 @@ JOSM marks what was done to an object by an attribute `action`. osmChange has th
 
 What `josm_lines` writes carries two marks that JOSM keeps when it saves a file again:
 
-- the `origin` of the `<bounds>` names the state of the session that was written, as `yoke state 5`;
+- the `origin` of the `<bounds>` names the state of the session that was written, as `yoke 5-0a1b2c3d`;
 - each new object of the session has a `user` such as `yoke n-1`, which is its key in the session. JOSM gives new objects
   other ids whenever it opens a file, so their ids tell nothing. The user of a new object is never sent to a server.
 """
@@ -21,7 +21,7 @@ from yoke.table import Table
 
 SEVENTH = Decimal('0.0000001')      # degrees: the finest step that the map has
 LIMITS = {'lon': 180, 'lat': 90}    # degrees
-ORIGIN = re.compile('yoke state ([0-9]{1,9})')
+ORIGIN = re.compile('yoke ([0-9a-z-]{1,40})')
 MARK = re.compile('yoke ([nwr]-[0-9]{1,19})')
 NO_XML = re.compile('[^\t\n\r -\ud7ff\ue000-\ufffd\U00010000-\U0010ffff]')
 
@@ -41,10 +41,10 @@ class Told:
 
 @dataclass(frozen=True)
 class Drawn:
-    """A document of JOSM: its objects, in its order, and the number of the session's state that it was drawn over, if any."""
+    """A document of JOSM: its objects, in its order, and the name of the session's state that it was drawn over, else empty."""
 
     told: Tuple[Told, ...]
-    state: Optional[int] = None
+    state: str = ''
 
 
 # ---- reading ----
@@ -52,11 +52,13 @@ class Drawn:
 def read_josm(data: bytes) -> Drawn:
     """The objects of a file that JOSM saved; ValueError where it is none."""
     root = _root(data, 'osm')
-    states = [int(found[1]) for found in (ORIGIN.fullmatch(box.get('origin') or '') for box in root.iter('bounds')) if found]
+    states = {found[1] for found in (ORIGIN.fullmatch(box.get('origin') or '') for box in root.iter('bounds')) if found}
+    if len(states) > 1:
+        raise ValueError('it was drawn over several states of a session: {}'.format(', '.join(sorted(states))))
     told = tuple(_josm_told(element) for element in root if element.tag in opl.LETTERS)
     _each_once([one.thing.key for one in told])
     _each_once([one.mark for one in told if one.mark])
-    return Drawn(told, max(states, default=None))
+    return Drawn(told, ''.join(states))
 
 
 def read_osc(data: bytes) -> List[Told]:
@@ -170,10 +172,10 @@ def _each_once(keys):
 
 # ---- writing ----
 
-def josm_lines(table: Table, state: int) -> Iterator[str]:
+def josm_lines(table: Table, state: str) -> Iterator[str]:
     """The lines of a file for JOSM: the session's data, with what was changed, made and deleted here marked as JOSM marks it.
 
-    `state` is the number of the session's state. The file says that it isn't to be uploaded from JOSM: the session sends
+    `state` is a name for the session's state, of small letters, digits and `-`. The file says that it isn't to be uploaded from JOSM: the session sends
     what it holds, and would not know what JOSM sent. ValueError where a text can't stand in XML.
     """
     yield "<?xml version='1.0' encoding='UTF-8'?>"
@@ -187,12 +189,12 @@ def josm_lines(table: Table, state: int) -> Iterator[str]:
     yield '</osm>'
 
 
-def _bounds(table: Table, state: int) -> Iterator[str]:
+def _bounds(table: Table, state: str) -> Iterator[str]:
     """The box of all nodes, the deleted ones too."""
     places = [(thing.lon, thing.lat) for known in table.things.values() for thing in (known.there, known.mine) if thing and thing.lon is not None]
     if places:
         lons, lats = zip(*places)
-        yield "  <bounds minlat='{}' minlon='{}' maxlat='{}' maxlon='{}' origin='yoke state {}' />".format(
+        yield "  <bounds minlat='{}' minlon='{}' maxlat='{}' maxlon='{}' origin='yoke {}' />".format(
             *map(opl.degrees, (min(lats), min(lons), max(lats), max(lons))), state)
 
 

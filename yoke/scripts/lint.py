@@ -21,10 +21,10 @@ class Finding:
     is_mend: bool = False
 
 
-def findings(text: str) -> List[Finding]:
-    """What is wrong with a script, line by line."""
+def findings(lines: List[str]) -> List[Finding]:
+    """What is wrong with the lines of a script, as `grammar.lines_of` has them."""
     found, place = [], grammar.Place()
-    for number, line in enumerate(grammar.lines_of(text), 1):
+    for number, line in enumerate(lines, 1):
         if not grammar.is_skipped(line):
             found += _line(number, line, place)
     return found

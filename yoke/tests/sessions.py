@@ -18,6 +18,11 @@ def program():
     return [found] if found else [sys.executable, str(TOP / 'bench' / 'model')]
 
 
+def executable():
+    """The program, or the second editor, as one file."""
+    return program()[-1]
+
+
 @functools.lru_cache(maxsize=None)
 def has_program():
     """Whether the program itself is there, which alone knows which lines are none: the second editor takes them for granted."""

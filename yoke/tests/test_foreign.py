@@ -68,7 +68,7 @@ def josm(text, data, start=None):
     return foreign.plan(osm_xml.read_josm(data).told, table.read(text), start and table.read(start))
 
 
-def written(text, state=1):
+def written(text, state='1-0a1b'):
     return '\n'.join(osm_xml.josm_lines(table.read(text), state)).encode()
 
 
@@ -152,7 +152,7 @@ class Josm(unittest.TestCase):
     def test_objects_that_it_leaves_alone_may_have_another_version(self):
         text = sessions.session(['download town.opl'], town_opl=TOWN.replace('n3 v1', 'n3 v2'))
         plan = josm(text, DRAWN)
-        self.assertEqual(plan.notes, ["1 objects that it doesn't change have another version there, as n3"])
+        self.assertEqual(plan.notes, ["1 objects that it doesn't change are there in another version, as n3"])
         after(text, plan)
 
     def test_relations_in_a_ring_are_made(self):
@@ -173,7 +173,8 @@ class Josm(unittest.TestCase):
                 (b"<osm><way id='1' action='move'/></osm>", "way 1 has the action 'move'"),
                 (b"<osm><relation id='1'><member type='area' ref='1'/></relation></osm>", "a member has the type 'area'"),
                 (b"<osm><way id='-1' user='yoke w-1'/><way id='-2' user='yoke w-1'/></osm>", 'w-1 stands twice'),
-                (b"<osm><way id='-1' user='yoke n-1'/></osm>", 'w-1 is marked as n-1')]:
+                (b"<osm><way id='-1' user='yoke n-1'/></osm>", 'w-1 is marked as n-1'),
+                (b"<osm><bounds origin='yoke 1-a'/><bounds origin='yoke 2-b'/></osm>", 'drawn over several states of a session: 1-a, 2-b')]:
             with self.assertRaisesRegex(ValueError, words):
                 osm_xml.read_josm(data)
 
@@ -204,13 +205,13 @@ class ThereAndBack(unittest.TestCase):
                     self.assertEqual(plan.lines, [])
 
     def test_the_file_says_what_was_done(self):
-        drawn = osm_xml.read_josm(written(town(*self.LINES), 42))
-        self.assertEqual(drawn.state, 42)
+        drawn = osm_xml.read_josm(written(town(*self.LINES), '42-c3d4'))
+        self.assertEqual(drawn.state, '42-c3d4')
         actions = {one.thing.key: one.action for one in drawn.told if one.action}
         self.assertEqual(actions, {'n1': 'modify', 'n4': 'modify', 'n11': 'delete', 'n13': 'delete', 'n14': 'delete', 'n-1': 'create', 'w10': 'modify',
                                    'w20': 'delete', 'w-2': 'create', 'r30': 'modify', 'r-3': 'create'})
         data = written(town(*self.LINES)).decode()
-        self.assertIn('<bounds minlat=\'-47.0000001\' minlon=\'-9.5\' maxlat=\'47.1409\' maxlon=\'9.5014\' origin=\'yoke state 1\' />', data)
+        self.assertIn('<bounds minlat=\'-47.0000001\' minlon=\'-9.5\' maxlat=\'47.1409\' maxlon=\'9.5014\' origin=\'yoke 1-0a1b\' />', data)
         self.assertIn('<node id="4" action="modify" timestamp="2024-05-11T12:00:00Z" uid="23" user="beat" visible="true" version="4" changeset="340" lat="47.1403"', data)
 
     def test_work_over_it_comes_in(self):
@@ -233,6 +234,11 @@ class ThereAndBack(unittest.TestCase):
         self.assertEqual((plan.problems, plan.lines), ([], ['delete n-1']))
         plan = josm(sessions.saved(sessions.goes_on(text, ['tag n-1 Tbackrest=yes'])), data, text)
         self.assertEqual(plan.problems, ['n-1 is deleted there, and was changed here'])
+
+    def test_without_the_state_what_isnt_there_stays(self):
+        text = town('node x9.5 y47.14 Tamenity=bench', 'node x9.51 y47.14 Tamenity=bench')
+        plan = josm(text, re.sub(b'  <node id="-1" .*?</node>\n', b'', written(text), flags=re.S))
+        self.assertEqual((plan.lines, plan.notes), ([], ["1 new objects of the session aren't in it, and stay, as n-1"]))
 
     def test_the_session_went_on_meanwhile(self):
         text = town(*self.LINES)
@@ -266,7 +272,7 @@ class ThereAndBack(unittest.TestCase):
                 self.assertEqual((plan.problems, plan.lines), ([], []))
             done = table.read(sessions.saved(sessions.ran(['resume s.saved'] + list(some_steps(dice, 6)) + ['save'], s_saved=text)))
             fresh = {key for key in done.new() if int(key[2:]) >= table.read(text).next_new}
-            data = '\n'.join(osm_xml.josm_lines(done, 1))
+            data = '\n'.join(osm_xml.josm_lines(done, '1-0a1b'))
             for key in fresh:
                 data = data.replace(' user="yoke {}"'.format(key), '')
             plan = foreign.plan(osm_xml.read_josm(data.encode()).told, table.read(text), table.read(text))

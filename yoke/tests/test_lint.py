@@ -145,7 +145,7 @@ def bytes_of(text):
 
 
 def first_bad(data):
-    found = lint.findings(grammar.text_of(data))
+    found = lint.findings(grammar.lines_of(grammar.text_of(data)))
     return found[0].line if found else 0
 
 
@@ -189,18 +189,18 @@ class Grammar(unittest.TestCase):
 class Mends(unittest.TestCase):
     def test_what_is_written_and_what_is_right(self):
         for written, right in TABLE:
-            found, = lint.findings(written)
+            found, = lint.findings([written])
             self.assertEqual((found.right, found.is_mend), (right, True), written)
 
     def test_what_cant_be_guessed_has_its_form(self):
         for written, right in FORM:
-            found, = lint.findings(written)
+            found, = lint.findings([written])
             self.assertEqual((found.right, found.is_mend), (right, False), written)
 
     def test_a_mend_is_a_line(self):
         dice, program, mended = random.Random(22), Program(self), 0
         for line in mutations(dice, 1500):
-            for found in lint.findings(line):
+            for found in lint.findings([line]):
                 if found.is_mend:
                     mended += 1
                     self.assertIn(grammar.check_line(found.right), grammar.FORMS)
@@ -210,12 +210,12 @@ class Mends(unittest.TestCase):
 
     def test_all_bad_lines_are_named_with_their_causes(self):
         script = 'download town.opl\ntag n1 ref=7\n# a comment\nbegin\nundo 1\nprnt\nbegin\nend\nend\nnode x181 y0 T\nserve a\nsend 1\n'
-        self.assertEqual([(found.line, found.cause) for found in lint.findings(script)], [
+        self.assertEqual([(found.line, found.cause) for found in lint.findings(grammar.lines_of(script))], [
             (2, 'ref=7 has no T before it: tags are Tkey=value, or T alone'), (5, 'in a group stands no undo'), (6, 'there is no line prnt'),
             (7, 'in a group stands no begin: the one before has no end'), (9, 'there is no group to end'),
             (10, '181 is off the map: a longitude is from -180 to 180'), (11, 'serve is the first step of a script, or none'),
             (12, 'send stands only in a script that begins with serve')])
-        self.assertEqual(lint.report('a.script', lint.findings('tag n1 ref=7')), 'a.script:1: ref=7 has no T before it: tags are Tkey=value, or T alone\n'
+        self.assertEqual(lint.report('a.script', lint.findings(['tag n1 ref=7'])), 'a.script:1: ref=7 has no T before it: tags are Tkey=value, or T alone\n'
                          '    written  tag n1 ref=7\n    right    tag n1 Tref=7\n')
 
     def test_causes(self):
@@ -231,7 +231,7 @@ class Mends(unittest.TestCase):
                 ('find highway=path', 'highway=path is no word of a query where it stands'), ('download', 'FILE is missing'),
                 ('download a B1,2,3', 'B1,2,3 is no box: it has west, south, east and north'), ('resolve n1 ours', 'ours is no choice: mine, theirs, mix or parts'),
                 ('tag n1 Tname=\udcff', "the value ? has bytes that aren't UTF-8"), ('print x', 'nothing stands behind print, and here is x')]:
-            found, = lint.findings(line)
+            found, = lint.findings([line])
             self.assertEqual(found.cause, cause)
 
 
