@@ -140,6 +140,16 @@ class Server:
         """What a changeset has, as the text of an osmChange document."""
         return self.look('/changeset/{}/download'.format(number))
 
+    def version(self, key, number):
+        """A version of an object; None where there is none."""
+        try:
+            found = self._read(osc.things, self.look('/{}/{}/{}'.format(opl.KINDS[key[0]], key[1:], number)))
+        except ServerRefused as refused:
+            if refused.status != 404:
+                raise
+            return None
+        return found[0] if found else None
+
     def things(self, keys, missing):
         """The objects with these keys as they are now, the deleted ones too.
 

@@ -8,6 +8,7 @@ import os
 import sys
 
 from yoke import VERSION, verbs
+from yoke.progress import note
 from yoke.trouble import Trouble
 
 CODES = """exit codes:
@@ -68,5 +69,5 @@ def main(words=None):
 
 
 def complain(text):
-    """One line on the error stream."""
-    print('yoke: ' + ' '.join(str(text).split('\n')), file=sys.stderr)
+    """One line on the error stream, after what was written before."""
+    note(' '.join(str(text).split('\n')))

@@ -153,6 +153,15 @@ def answer(verb, one, result):
     return 'create {} {} v1'.format(one.key, key) if verb == 'create' else 'modify {} v{}'.format(key, version)
 
 
+def result(sent):
+    """The diffResult of changes and deletions that were taken, made here where the server's own never came."""
+    lines = ['<diffResult version="0.6" generator="yoke">']
+    for verb, one in sent:
+        new = '' if verb == 'delete' else ' new_id="{}" new_version="{}"'.format(one.key[1:], one.version + 1)
+        lines.append('  <{} old_id="{}"{}/>'.format(one.kind, one.key[1:], new))
+    return '\n'.join(lines + ['</diffResult>']) + '\n'
+
+
 def looked_up(sent, text, given=()):
     """The lines of an answer file, of what a changeset has (`GET changeset/ID/download`), where no diffResult came.
 

@@ -8,7 +8,7 @@ before the next call goes out, and each answer is on the disk before anything re
 |---|---|---|---|---|---|
 | 1 | | | | nothing is under way. A changeset may be open at the server that nobody noted: its answer was lost. It is empty, and closes by itself | what is left to send goes into a new changeset |
 | 2 | C | | | C was opened, and nothing is on its way | asks whether C is open, and how full it is, and goes on in it; else closes it, and row 1 |
-| 3 | C | for C | | the document may be unsent, on its way, refused or taken: nobody knows | looks into C. Has C all of its changes: row 4. Has it none: closes C, looks again, and has C still none, the document was never taken and never will be. It goes, then the note of C: row 1 |
+| 3 | C | for C | | the document may be unsent, on its way, refused or taken: nobody knows | looks into C. Has C all of its changes: row 4. Has it none: closes C until the server says that it is closed, looks again, and has C still none, the document was never taken and never will be. It goes, then the note of C: row 1 |
 | 4 | C | for C | yes | the document was taken, and this is how | makes `N.answers`, confirms them, and keeps session N + 1: row 2, of N + 1 |
 
 From row to row, in this order, of which each line is one write or one call:
@@ -24,6 +24,7 @@ From row to row, in this order, of which each line is one write or one call:
 Row 3 rests on two things that API 0.6 has: a document is taken whole or not at all, and nothing is taken into a changeset
 that is closed. The close is the fence: a document still at work at the server either ends before it, and then the second
 look sees it, or finds the changeset closed. So the same changes never go out again while the first time may still count.
+The look is at `changeset/C/download`; where that doesn't come, at the version that one of the changes would have made.
 
 A new object has no version that would guard it, so row 3 is where another sender would make it twice; a change that names
 a version can't be taken twice at all.
@@ -42,8 +43,8 @@ from yoke.trouble import Clash, NoAnswer, Refused, ServerRefused, Trouble
 CHUNK = 1000                # changes in a document, if not told otherwise
 SILENCES = 3                # documents in a row that got no answer and weren't taken, before a send ends
 WAITS = (10, 60)            # seconds between them
+FENCE_WAITS = (5, 15, 60)   # seconds in which a changeset that is closed may still be at work
 CLASHES = (409, 410, 412)   # somebody was faster
-NEW = re.compile('create [nwr]-[0-9]+ ([nwr][0-9]+) v1')
 
 
 class Outcome(enum.Enum):
@@ -122,11 +123,20 @@ class Sending:
             if self._read('answer') is not None or self._settle():
                 self._confirm()
         if self.changeset:
-            self.changeset.count, is_open = self.server.changeset(self.changeset.number)
+            self.changeset.count, is_open = self._looked_at()
             if not is_open:
                 self._drop()
             elif self.changeset.tags != self.tags or self.changeset.count >= self.limits.changes:
                 self._close()
+
+    def _looked_at(self):
+        """How many changes the changeset has, and whether it is open; one that the server doesn't know isn't."""
+        try:
+            return self.server.changeset(self.changeset.number)
+        except ServerRefused as refused:
+            if refused.status != 404:
+                raise
+            return 0, False
 
     def _read(self, ending):
         return self.day.read(self.day.beside(self.day.last(), ending))
@@ -218,42 +228,93 @@ class Sending:
         """Whether the document that is out was taken. If not it never will be: its changeset is closed, and both are gone here."""
         if self._found():
             return True
-        self.server.close_changeset(self.changeset.number)
+        self._fence()
         if self._found():
             return True
         self._remove('osc')
         self._drop()
         return False
 
+    def _fence(self):
+        """Closes the changeset until it is closed: a close may be refused while a document is at work in it.
+
+        NoAnswer where that takes too long, and Trouble where it has changes that aren't this day's and aren't those looked for.
+        """
+        number, waits = self.changeset.number, list(FENCE_WAITS)
+        while True:
+            self.server.close_changeset(number)
+            count, is_open = self.server.changeset(number)
+            if not is_open:
+                break
+            if not waits:
+                raise NoAnswer('the changeset {} is still at work at the server'.format(number))
+            self.note('the changeset {} is still at work; asked again in {} s'.format(number, waits[0]))
+            api.pause(waits.pop(0))
+        earlier = self._earlier()
+        if count not in (len(earlier), len(earlier) + len(self._sent())):
+            raise Trouble('the changeset {} has {} changes, and {} were confirmed: look what they are before anything is sent again'.format(
+                number, count, len(earlier)))
+
+    def _sent(self):
+        """The changes of the document that is out."""
+        return osc.changes(self._read('osc'))
+
     def _found(self):
-        """Looks whether the changeset has the document that is out; keeps what it has as the answer."""
-        sent = osc.changes(self._read('osc'))
-        text = self.server.download(self.changeset.number)
+        """Looks whether the server has the document that is out; keeps what says so as the answer."""
+        sent = self._sent()
+        try:
+            text = self.server.download(self.changeset.number)
+        except (NoAnswer, ServerRefused) as silence:
+            return self._found_by_version(sent, silence)
         try:
             osc.looked_up(sent, text, self._given())
         except osc.NotThere:
             return False
         except osc.NoXml as fault:
-            raise NoAnswer('the changeset {} can\'t be read: {}'.format(self.changeset.number, fault)) from None
+            return self._found_by_version(sent, NoAnswer('the changeset {} can\'t be read: {}'.format(self.changeset.number, fault)))
         except ValueError as fault:
             raise Trouble('the changeset {} isn\'t what API 0.6 makes of {}: {}'.format(
                 self.changeset.number, self.day.path(self.day.pending()), fault)) from None
         self._write('answer', text)
         return True
 
+    def _found_by_version(self, sent, silence):
+        """The same where the changeset itself can't be looked into, by the version that a change or deletion made.
+
+        The silence is raised where there is neither, or where new objects were taken, whose ids the changeset alone tells.
+        """
+        one = next((thing for verb, thing in sent if verb != 'create'), None)
+        if one is None:
+            raise silence
+        made = self.server.version(one.key, one.version + 1)
+        if made is None or str(made.changeset) != self.changeset.number:
+            return False
+        if any(verb == 'create' for verb, _ in sent):
+            raise silence
+        self._write('answer', osc.result(sent))
+        return True
+
     def _given(self):
-        """The keys that were given to new objects by the answers to all sessions before this one."""
-        mine = self.day.beside(self.day.last(), 'answers')
-        texts = (path.read_text(encoding='utf-8') for path in self.day.folder.glob('*.answers') if path.name != mine)
-        return {key for text in texts for key in NEW.findall(text)}
+        """The keys that this changeset gave to new objects before: they answer nothing of what is out."""
+        return {line.split(' ')[2] for line in self._earlier() if line.startswith('create ')}
+
+    def _earlier(self):
+        """The lines of all answers that were confirmed before, of documents in the changeset that is open."""
+        lines = []
+        for path in sorted(self.day.folder.glob('*.answers')):
+            document = self.day.read(path.name.replace('.answers', '.osc'))
+            if path.name != self.day.beside(self.day.last(), 'answers') and document and osc.changeset_of(document) == self.changeset.number:
+                lines += path.read_text(encoding='utf-8').splitlines()
+        return lines
 
     # ---- row 4 ----
 
     def _confirm(self):
         """Takes the answer in, keeps the session after it, and answers with the next chunk."""
-        sent, text = osc.changes(self._read('osc')), self._read('answer')
+        sent, text = self._sent(), self._read('answer')
         try:
-            lines = osc.answers(sent, text) if '<diffResult' in text else osc.looked_up(sent, text, self._given())
+            lines = osc.answers(sent, text) if '<diffResult' in text else osc.looked_up(
+                sent, text, self._given())
         except ValueError as fault:
             raise Trouble('{} doesn\'t answer {}: {}'.format(
                 self.day.path(self.day.beside(self.day.last(), 'answer')), self.day.path(self.day.pending()), fault)) from None

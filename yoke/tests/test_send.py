@@ -11,6 +11,8 @@ from unittest import mock
 
 from yoke import opl, saved
 from yoke.sending import SILENCES
+from yoke.testing.database import Refusal
+from yoke.testing.server import MAPPER
 from yoke.tests.stops import Stopped, stop_at
 from yoke.tests.support import ServerTest, program
 from yoke.trouble import Busy, Clash, NoAnswer, Refused, ServerRefused, Trouble, Usage
@@ -346,6 +348,71 @@ class Silence(SendTest):
         self.assertEqual(0, self.send(), self.err)
         with self.assertRaisesRegex(Exception, 'was closed'):
             act(*late.pop())
+        self.is_all_there()
+
+    def test_a_close_that_is_refused_while_a_document_is_at_work(self):
+        """The server answers 409 to the close, which isn't the 409 of a closed changeset, and takes the document after that."""
+        database = self.server.database
+        act, close, late = database.upload, database.close_changeset, []
+
+        def upload(number, user, text):
+            late.append(lambda: act(number, user, text))
+            raise ConnectionError()
+
+        def refuse(number, user):
+            if late:
+                if len(self.waited) == 2:
+                    late.pop()()
+                raise Refusal(409, 'Changeset {} is locked by another process'.format(number))
+            close(number, user)
+        database.upload, database.close_changeset = upload, refuse
+        self.server.after('close', 3, lambda: setattr(database, 'upload', act))
+        self.assertEqual(0, self.send(), self.err)
+        self.assertEqual([5, 15], self.waited[:2])
+        self.is_all_there()
+        self.is_at_rest()
+
+    def test_a_changeset_that_stays_at_work(self):
+        self.server.faults.once('500-before', 'upload')
+        with mock.patch.object(self.server.database, 'close_changeset', side_effect=Refusal(409, 'Changeset 1 is locked by another process')):
+            self.assertEqual(NoAnswer.code, self.send())
+        self.assertIn('still at work', self.err)
+        self.assertEqual('000002.osc', self.day.pending())
+        self.goes_on()
+
+    def test_a_changeset_with_changes_of_somebody_else(self):
+        self.server.faults.once('500-before', 'upload')
+
+        def other():
+            self.server.database.upload(1, MAPPER, b'<osmChange><create><node id="-1" lat="3" lon="3" changeset="1"/></create></osmChange>')
+        self.server.before('upload', 1, other)
+        self.assertEqual(Trouble.code, self.send())
+        self.assertIn('has 1 changes, and 0 were confirmed', self.err)
+        self.assertEqual('000002.osc', self.day.pending())
+
+    def test_a_changeset_that_cannot_be_looked_into(self):
+        """The version that a change would have made tells; of new objects the changeset alone."""
+        self.chunk = '3'
+        for fault, skip in [('drop-after', 1), ('500-before', 1), ('500-before', 0)]:
+            with self.subTest(fault=fault, skip=skip):
+                self.again()
+                self.server.faults.once(fault, 'upload', skip)
+                self.server.faults.by_chance('504-before', 1.0, 0, 'download')
+                self.assertEqual(0 if skip else 0, self.send(), self.err)
+                self.is_all_there()
+                self.is_at_rest()
+        self.again()
+        self.server.faults.once('drop-after', 'upload')
+        self.server.faults.by_chance('504-before', 1.0, 0, 'download')
+        self.assertEqual(NoAnswer.code, self.send())
+        self.assertEqual('000002.osc', self.day.pending())
+        self.goes_on()
+
+    def test_a_changeset_that_the_server_has_forgotten(self):
+        self.server.before('upload', 2, lambda: self.server.database.changesets.clear())
+        self.assertEqual(ServerRefused.code, self.send())
+        self.assertIsNotNone(self.day.read('changeset'))
+        self.assertEqual(0, self.send(), self.err)
         self.is_all_there()
 
     def test_a_proxy_that_sends_a_document_twice(self):

@@ -1,7 +1,6 @@
 """`yoke refresh`: what the server has by now of all that the edits rest on."""
-import sys
-
 from yoke import api, opl
+from yoke.progress import note
 from yoke.sending import belongs
 from yoke.session import Session
 from yoke.trouble import Clash, Trouble, Usage
@@ -42,11 +41,6 @@ def run(arguments):
     if left:
         print('{} in conflict'.format(len(left)))
     return Clash.code if left or never else 0
-
-
-def note(line):
-    """Progress goes to the error stream."""
-    print('yoke: ' + line, file=sys.stderr, flush=True)
 
 
 def fetch(server, keys):

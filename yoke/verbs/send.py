@@ -1,7 +1,6 @@
 """`yoke send`: the edits go to a server."""
-import sys
-
 from yoke import api, opl, sending
+from yoke.progress import note
 from yoke.sending import Sending
 from yoke.session import Session
 from yoke.trouble import NoAnswer, Usage
@@ -38,11 +37,6 @@ def run(arguments):
     print('{} changes sent{}'.format(one.sent, ' in ' + ', '.join('changeset ' + number for number in one.used) if one.used else ''))
     print('nothing is left to send')
     return 0
-
-
-def note(line):
-    """Progress goes to the error stream."""
-    print('yoke: ' + line, file=sys.stderr, flush=True)
 
 
 def tags_of(arguments):
