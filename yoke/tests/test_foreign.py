@@ -75,10 +75,9 @@ def written(text, state='1-0a1b'):
 def after(text, plan):
     """The table behind the steps of a plan, of which each has to be taken."""
     output = sessions.goes_on(text, plan.lines)
-    refused = [reply for reply in sessions.replies(output) if ' ok' not in reply]
-    if refused:
-        raise AssertionError((refused, plan.lines))
-    return table.read(sessions.saved(output))
+    if output.refused():
+        raise AssertionError((output.refused(), plan.lines))
+    return table.read(output.saved())
 
 
 def contents(found):
@@ -108,7 +107,7 @@ class Josm(unittest.TestCase):
     def test_the_same_drawing_again_changes_nothing_that_it_changed(self):
         drawn = re.sub(b"  <(node|way) id='-.*?</\\1>\n", b'', DRAWN, flags=re.S)
         drawn = drawn.replace(b"<nd ref='-101752' />", b'').replace(b"    <member type='way' ref='-101754' role='' />\n", b'')
-        text = sessions.saved(sessions.goes_on(town(), josm(town(), drawn).lines))
+        text = sessions.goes_on(town(), josm(town(), drawn).lines).saved()
         plan = josm(text, drawn)
         self.assertEqual((plan.lines, plan.problems), ([], []))
 
@@ -229,10 +228,10 @@ class ThereAndBack(unittest.TestCase):
         text = town('node x9.5 y47.14 Tamenity=bench', 'node x9.51 y47.14 Tamenity=bench')
         data = re.sub(b'  <node id="-1" .*?</node>\n', b'', written(text), flags=re.S)
         self.assertEqual(josm(text, data, text).lines, ['delete n-1'])
-        later = sessions.saved(sessions.goes_on(text, ['node x9.52 y47.14 T', 'tag n-2 Tbackrest=yes']))
+        later = sessions.goes_on(text, ['node x9.52 y47.14 T', 'tag n-2 Tbackrest=yes']).saved()
         plan = josm(later, data, text)
         self.assertEqual((plan.problems, plan.lines), ([], ['delete n-1']))
-        plan = josm(sessions.saved(sessions.goes_on(text, ['tag n-1 Tbackrest=yes'])), data, text)
+        plan = josm(sessions.goes_on(text, ['tag n-1 Tbackrest=yes']).saved(), data, text)
         self.assertEqual(plan.problems, ['n-1 is deleted there, and was changed here'])
 
     def test_without_the_state_what_isnt_there_stays(self):
@@ -242,7 +241,7 @@ class ThereAndBack(unittest.TestCase):
 
     def test_the_session_went_on_meanwhile(self):
         text = town(*self.LINES)
-        later = sessions.saved(sessions.goes_on(text, ['tag n-1 Tbackrest=yes', 'tag w10 Tname=Lane']))
+        later = sessions.goes_on(text, ['tag n-1 Tbackrest=yes', 'tag w10 Tname=Lane']).saved()
         plan = josm(later, written(text).replace(b'v="bench"', b'v="waste_basket"'), text)
         self.assertEqual((plan.problems, plan.lines), ([], ['tag n-1 Tamenity=waste_basket']))
 
@@ -254,7 +253,7 @@ class ThereAndBack(unittest.TestCase):
 
     def test_an_upload_lies_between(self):
         text = town(*self.LINES)
-        sent = sessions.saved(sessions.ran(['resume s.saved', 'upload 1', 'confirm answers.txt', 'save'], s_saved=text, answers_txt='create n-1 n901 v1\n'))
+        sent = sessions.ran(['resume s.saved', 'upload 1', 'confirm answers.txt', 'save'], s_saved=text, answers_txt='create n-1 n901 v1\n').saved()
         self.assertEqual(josm(sent, written(text).replace(b'v="bench"', b'v="waste_basket"'), text).problems[:1], [
             "n-1 isn't new in this session: the document was written from another one, or before an upload"])
 
@@ -265,12 +264,12 @@ class ThereAndBack(unittest.TestCase):
     def test_random_sessions(self):
         dice = random.Random(7)
         for _ in range(12):
-            text = sessions.saved(sessions.ran(['download town.opl'] + list(some_steps(dice, 12)) + ['save'], town_opl=TOWN))
+            text = sessions.ran(['download town.opl'] + list(some_steps(dice, 12)) + ['save'], town_opl=TOWN).saved()
             data = written(text)
             for data in (data, renumbered(data)):
                 plan = josm(text, data, text)
                 self.assertEqual((plan.problems, plan.lines), ([], []))
-            done = table.read(sessions.saved(sessions.ran(['resume s.saved'] + list(some_steps(dice, 6)) + ['save'], s_saved=text)))
+            done = table.read(sessions.ran(['resume s.saved'] + list(some_steps(dice, 6)) + ['save'], s_saved=text).saved())
             fresh = {key for key in done.new() if int(key[2:]) >= table.read(text).next_new}
             data = '\n'.join(osm_xml.josm_lines(done, '1-0a1b'))
             for key in fresh:

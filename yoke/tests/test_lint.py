@@ -8,7 +8,7 @@ import tempfile
 import unittest
 
 from yoke.scripts import grammar, lint, mends
-from yoke.tests import sessions
+from yoke.tests import sessions, support
 
 GOOD = """\
 download town.opl
@@ -132,7 +132,7 @@ class Program:
     def first_bad(self, data):
         path = pathlib.Path(self.folder.name, 'a.script')
         path.write_bytes(data)
-        done = subprocess.run(sessions.program() + ['--max-objects', '20', path.name], cwd=self.folder.name, stdout=subprocess.DEVNULL, stderr=subprocess.PIPE)
+        done = subprocess.run([support.program().path, '--max-objects', '20', path.name], cwd=self.folder.name, stdout=subprocess.DEVNULL, stderr=subprocess.PIPE)
         found = re.fullmatch(b'editor: bad script line ([0-9]+)\n', done.stderr)
         if (done.returncode == 4) != bool(found) or done.returncode not in (0, 4, 7):
             raise AssertionError((done.returncode, done.stderr, data))

@@ -40,14 +40,14 @@ class Names(unittest.TestCase):
         found = expand(script, table.read(text).next_new, lambda name: names.new_objects('n-5 x1 y1\n# n-6\nn1 v1 x1 y1\nn-7 dD v1\nw-1 Nn-5 Ta=dD\r\n'))
         self.assertEqual(found.names, {'a': 'n-3', 'b': 'r-6'})
         output = sessions.ran(['resume s.saved'] + found.lines + ['save'], s_saved=text, new_opl='n-5 x1 y1\n# n-6\nn1 v1 x1 y1\nn-7 dD v1\nw-1 Nn-5 Ta=dD\r\n')
-        self.assertEqual([line for line in sessions.replies(output) if ' ok' not in line], [])
-        self.assertEqual(table.read(sessions.saved(output)).mine('n-3').tags, {'ref': '8'})
+        self.assertEqual(output.refused(), [])
+        self.assertEqual(table.read(output.saved()).mine('n-3').tags, {'ref': '8'})
 
     def test_a_refused_addition_gives_all_of_it_up(self):
         for bad in ('way T Nn99', 'node x1 y1 Ta=' + 'x' * 256, 'way T N'):
             script = ['tag n4 Tref=1', bad, 'node x1 y1 T as a', 'node x2 y2 T', 'tag a Tref=7', 'tag n1 Tref=2']
             output = sessions.ran(['download town.opl'] + expand(script).lines + ['save'], town_opl=TOWN)
-            found = table.read(sessions.saved(output))
+            found = table.read(output.saved())
             self.assertEqual((found.new(), found.mine('n4').tags['ref'], found.mine('n1').tags), ([], '1', {'ref': '2'}))
 
     def test_groups_are_taken_in(self):
