@@ -10,7 +10,7 @@ number that the session gives next.
 """
 from collections import Counter
 from dataclasses import dataclass, field
-from typing import Dict, List, Optional, Tuple
+from typing import Dict, List, Optional, Set, Tuple
 
 from yoke import opl
 from yoke.formats.osm_xml import Told
@@ -50,6 +50,7 @@ class _Planner:
     start: Optional[Table]
     found: Plan = field(default_factory=Plan)
     names: Dict[str, str] = field(default_factory=dict)         # the session's keys by those of the document
+    fresh: Set[str] = field(default_factory=set)                # the session's keys of what the document makes
     created: List[str] = field(default_factory=list)            # lines
     places: List[str] = field(default_factory=list)
     lists: List[str] = field(default_factory=list)
@@ -61,9 +62,11 @@ class _Planner:
         self._name([one for one in edits if one.action == 'create'])
         for one in edits:
             key = self.names.get(one.thing.key, one.thing.key)
-            if not one.mark and (one.action == 'create' or one.thing.key[1] == '-'):
+            if one.action == 'create' and not one.mark:
                 continue
-            if self._is_known(one, key):
+            if key[1] == '-' and not one.mark:
+                self._problem('{} is changed there, and not made there', key)
+            elif self._is_known(one, key):
                 if one.action == 'delete':
                     self._delete(one, key)
                 else:
@@ -96,6 +99,7 @@ class _Planner:
         self.names.update({one.thing.key: one.mark for one in self.told if one.mark})
         for number, key in enumerate(fresh, self.table.next_new):
             self.names[key] = self.found.made[key] = '{}-{}'.format(key[0], number)
+        self.fresh.update(self.found.made.values())
 
     def _create(self, creates: List[Told]):
         """A line for each new object, nodes first; a relation that refers to a later one gets its members when all are made."""
@@ -105,7 +109,7 @@ class _Planner:
             if key is None:
                 self._problem('{} is made with an id of a server: what a server did comes in by `download`', thing.key)
                 continue
-            if not (self._fit(key, thing.tags, thing.members) and self._may_refer(key, thing.references)):
+            if not (self._fit(key, thing.tags, thing.members) and self._may_refer(key, self._named(thing.references))):
                 continue
             words = [CREATES[key[0]]] + self._words(thing, all(ref in seen or ref not in self.found.made for ref in thing.references))
             seen.add(thing.key)
@@ -138,12 +142,10 @@ class _Planner:
         return True
 
     def _may_refer(self, key: str, references) -> bool:
-        """Whether all that an object refers to is there, only referred to, or made here."""
+        """Whether all that an object refers to is there, only referred to, or made by the document."""
         for ref in references:
-            mine = self.names.get(ref, ref)
-            if ref not in self.found.made and not self.table.refers(mine):
-                deleted = mine in self.table.things
-                self._problem('{} refers to {}, which {}', key, mine, 'is deleted here' if deleted else 'the session doesn\'t know: download it')
+            if ref not in self.fresh and not self.table.refers(ref):
+                self._problem('{} refers to {}, which {}', key, ref, 'is deleted here' if ref in self.table.things else 'the session doesn\'t know: download it')
                 return False
         return True
 
@@ -224,14 +226,10 @@ class _Planner:
         self.found.counts[part] += 1
         if part == 'place':
             self.places.append('place {} x{} y{}'.format(key, *map(opl.degrees, told)))
-        elif part == 'nodes' and self._may_have(key, told):
+        elif part == 'nodes' and self._may_refer(key, told):
             self.lists.append('nodes {} N{}'.format(key, ','.join(told)))
-        elif part == 'members' and self._may_have(key, [member for member, _ in told]) and self._fit(key, {}, told):
+        elif part == 'members' and self._may_refer(key, [member for member, _ in told]) and self._fit(key, {}, told):
             self.lists.append('members {} M{}'.format(key, opl.members(told)))
-
-    def _may_have(self, key: str, references) -> bool:
-        made = set(self.found.made.values())
-        return self._may_refer(key, [ref for ref in references if ref not in made])
 
     # ---- what the document doesn't say ----
 

@@ -55,7 +55,7 @@ def read_josm(data: bytes) -> Drawn:
     states = {found[1] for found in (ORIGIN.fullmatch(box.get('origin') or '') for box in root.iter('bounds')) if found}
     if len(states) > 1:
         raise ValueError('it was drawn over several states of a session: {}'.format(', '.join(sorted(states))))
-    told = tuple(_josm_told(element) for element in root if element.tag in opl.LETTERS)
+    told = tuple(one for one in (_josm_told(element) for element in root if element.tag in opl.LETTERS) if not _came_and_went(one))
     _each_once([one.thing.key for one in told])
     _each_once([one.mark for one in told if one.mark])
     return Drawn(told, ''.join(states))
@@ -96,6 +96,11 @@ def _josm_told(element) -> Told:
         raise ValueError('{} is marked as {}'.format(thing.key, mark[1]))
     is_new = thing.key[1] == '-'
     return Told(thing, 'create' if is_new and action != 'delete' else action, mark[1] if mark and is_new else '')
+
+
+def _came_and_went(told: Told) -> bool:
+    """Whether an object was made in JOSM and deleted there again."""
+    return told.action == 'delete' and told.thing.key[1] == '-' and not told.mark
 
 
 def _root(data: bytes, name: str):

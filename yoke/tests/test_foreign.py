@@ -160,6 +160,10 @@ class Josm(unittest.TestCase):
         found = after(town(), josm(town(), data))
         self.assertEqual([found.mine(key).members for key in ('r-1', 'r-2')], [(('r-2', 'a'),), (('r-1', 'b'), ('r-2', ''))])
 
+    def test_what_came_and_went(self):
+        plan = josm(town(), b"<osm><node id='-5' action='delete' lat='1' lon='1'/></osm>")
+        self.assertEqual((plan.problems, plan.lines), ([], []))
+
     def test_no_file_of_josm(self):
         for data, words in [
                 (b'', 'it is no XML'), (b'<osm', 'it is no XML'), (b'<gpx/>', 'begins with <gpx>, and <osm> is wanted'),
@@ -320,6 +324,11 @@ class OsmChange(unittest.TestCase):
         data = b'<osmChange><create><node id="5" version="1" lat="1" lon="1"/></create></osmChange>'
         plan = foreign.plan(osm_xml.read_osc(data), table.read(town()))
         self.assertEqual(plan.problems, ['n5 is made with an id of a server: what a server did comes in by `download`'])
+
+    def test_a_new_object_that_it_doesnt_make(self):
+        for action in ('modify', 'delete'):
+            data = '<osmChange><{0}><node id="-5" version="1" lat="1" lon="1"/></{0}></osmChange>'.format(action).encode()
+            self.assertEqual(foreign.plan(osm_xml.read_osc(data), table.read(town())).problems, ['n-5 is changed there, and not made there'])
 
     def test_no_osmchange(self):
         for data, words in [(b'<osm/>', '<osmChange> is wanted'), (b'<osmChange><change/></osmChange>', '<change> is no part'),
