@@ -144,12 +144,12 @@ class Verbs(FolderTest):
         self.assertIn("c.script:2: a undo can't stand here", self.yoke('do', 'c.script', code=1))
 
     def test_do_strict(self):
-        self.write('a.script', 'tag n1 Tref=1\nbegin\ntag n2 Tref=1\ntag n99 Tref=1\nend\ntag n3 Tref=1\ntag n98 T\n')
+        self.write('a.script', 'tag n1 Tref=1\nbegin\ntag n2 Tref=1\nnode x1 y1 T\ntag n99 Tref=1\nend\ntag n3 Tref=1\ntag n98 T\n')
         said = self.yoke('do', 'a.script', '--strict', code=1)
-        self.assertIn('a.script:4: refused', said)
+        self.assertIn('a.script:5: refused', said)
         self.assertNotIn('n98', said)
         self.assertEqual(self.states(), 1)
-        self.yoke('do', 'a.script', '--strict', '--keep', code=1)
+        self.assertNotIn('made', self.yoke('do', 'a.script', '--strict', '--keep', code=1))
         self.assertEqual([self.table().mine(key).tags.get('ref') for key in ('n1', 'n2', 'n3')], ['1', None, None])
         self.done('undo')
         self.yoke('do', 'a.script', '--keep', code=1)

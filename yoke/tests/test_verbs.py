@@ -100,9 +100,12 @@ class Do(FolderTest):
         self.assertEqual({'ref': '7'}, self.session.known()['n1'].mine.tags)
 
     def test_a_group_that_is_given_up(self):
-        self.write('a.script', 'begin\ntag n1 Tref=7\ntag n9 Tref=7\nend\n')
+        self.write('a.script', 'begin\ntag n1 Tref=7\nnode x1 y1 T\ntag n9 Tref=7\nend\nbegin\nnode x2 y2 T\nend\n')
+        self.assertEqual(Refused.code, self.yoke('do', 'a.script'))
+        self.assertNotIn('made', self.out)
         self.assertEqual(Refused.code, self.yoke('do', 'a.script', '--keep'))
-        self.assertIsNone(self.session.known()['n1'].edit)
+        self.assertEqual(['a.script:7: made n-1'], [line for line in self.out.splitlines() if 'made' in line])
+        self.assertEqual(['new'], [known.edit for known in self.session.known().values() if known.edit])
 
     def test_a_bad_line(self):
         self.write('a.script', '\ufefftag n1 Tref=7\nplace n1\n')

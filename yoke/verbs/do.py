@@ -32,24 +32,31 @@ def run(arguments):
     check(name, lines, session.day.folder)
     with session.day.locked():
         expanded = expand.expand(name, lines, table.next_new(session.day.last().text()))
-        try:
-            answer = session.edit('do', expanded.lines, allow_refused=True, keep_refused=arguments.keep and not arguments.strict)
-        except BadLine as bad:
-            number = expanded.numbers[bad.line - 1]
-            raise BadLine('{}:{}: {}'.format(name, number, cause(expanded.lines, bad)), number) from None
-        refused = answer.refused()
-        if refused and arguments.strict:
-            answer.replies = [reply for reply in answer.replies if reply.line <= refused[0].line]
-            if arguments.keep:
-                session.edit('do', before(expanded.lines, refused[0].line))
-    for reply in answer.replies:
-        reply.line = expanded.numbers[reply.line - 1] if reply.line <= len(expanded.numbers) else reply.line
-    show(name, answer)
+        answer = perform(session, name, expanded, arguments)
+    refused = answer.refused()
+    show(name, answer, kept=arguments.keep or not refused)
     if refused and not arguments.keep:
         raise Refused('nothing is kept: {} of {} steps {} refused'.format(len(refused), len(answer.replies) - 1, 'was' if len(refused) == 1 else 'were')
                       if not arguments.strict else 'nothing is kept: it ended at line {}'.format(refused[0].line))
     print('kept as {}'.format(session.day.last().path))
     return 1 if refused else 0
+
+
+def perform(session, name, expanded, arguments):
+    """The Answer to the steps, with the numbers of the script's own lines; with --strict no further than the first refused one."""
+    try:
+        answer = session.edit('do', expanded.lines, allow_refused=True, keep_refused=arguments.keep and not arguments.strict)
+    except BadLine as bad:
+        number = expanded.numbers[bad.line - 1]
+        raise BadLine('{}:{}: {}'.format(name, number, cause(expanded.lines, bad)), number) from None
+    refused = answer.refused()
+    if refused and arguments.strict:
+        answer.replies = [reply for reply in answer.replies if reply.line <= refused[0].line]
+        if arguments.keep:
+            session.edit('do', before(expanded.lines, refused[0].line))
+    for reply in answer.replies:
+        reply.line = expanded.numbers[reply.line - 1] if reply.line <= len(expanded.numbers) else reply.line
+    return answer
 
 
 def cause(lines, bad):
@@ -93,13 +100,28 @@ def check(name, lines, folder):
         raise Refused('{}:{}: the group has no end'.format(name, begun))
 
 
-def show(name, answer):
-    """What the steps wrote and made, to standard output, and what was refused, in words."""
+def show(name, answer, kept):
+    """What the steps wrote, what was refused, in words, and what was made, if it is kept."""
+    gone = given_up(answer)
     for reply in answer.replies:
         if reply.word == 'refused':
             print('{}:{}: refused: {}: {}'.format(name, reply.line, words.cut(reply.step), words.refusal(reply.rest)))
-        elif reply.made():
+        elif kept and reply.made() and reply.line not in gone:
             print('{}:{}: made {}'.format(name, reply.line, ','.join(reply.made())))
         if reply.verb != 'save':
             for text in reply.text:
                 print(text)
+
+
+def given_up(answer):
+    """The numbers of the lines in groups that were taken back; the last group may have no end, where the replies end at a refusal."""
+    groups, group = [], None
+    for reply in answer.replies:
+        if reply.verb == 'begin':
+            group = []
+            groups.append(group)
+        if group is not None:
+            group.append(reply)
+        if reply.verb == 'end':
+            group = None
+    return {one.line for group in groups if any(one.word == 'refused' for one in group) for one in group}
