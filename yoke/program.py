@@ -139,6 +139,8 @@ class Program:
 
         Raises BadLine where a line is none, and Trouble where the session didn't run to its end for another reason.
         """
+        if any('\n' in line for line in lines):
+            raise ValueError('a line of a script with a line feed in it')
         options = ['--max-file={}'.format(LARGEST_FILE)] + (['--max-objects={}'.format(self.max_objects)] if self.max_objects else [])
         with tempfile.TemporaryDirectory(prefix='yoke-') as folder:
             path = os.path.join(folder, 'script')

@@ -8,12 +8,12 @@ before the next call goes out, and each answer is on the disk before anything re
 |---|---|---|---|---|---|
 | 1 | | | | nothing is under way. A changeset may be open at the server that nobody noted: its answer was lost. It is empty, and closes by itself | what is left to send goes into a new changeset |
 | 2 | C | | | C was opened, and nothing is on its way | asks whether C is open, and how full it is, and goes on in it; else closes it, and row 1 |
-| 3 | C | for C | | the document may be unsent, on its way, refused or taken: nobody knows | looks into C. Has C all of its changes: row 4. Has it none: closes C until the server says that it is closed, looks again, and has C still none, the document was never taken and never will be. It goes, then the note of C: row 1 |
+| 3 | C | for C | | the document may be unsent, on its way, refused or taken: nobody knows | looks into C. Has C all of its changes: row 4. Has it none: closes C until the server says that it is closed, and looks again. Has C still none, and counts no more changes than were confirmed, the document was never taken and never will be: it goes, then the note of C, row 1 |
 | 4 | C | for C | yes | the document was taken, and this is how | makes `N.answers`, confirms them, and keeps session N + 1: row 2, of N + 1 |
 
 From row to row, in this order, of which each line is one write or one call:
 
-    1 -> 2   PUT changeset/create; write changeset
+    1 -> 2   write server, the first time; PUT changeset/create; write changeset
     2 -> 3   write N.osc; POST changeset/C/upload
     3 -> 4   the answer is a diffResult of all changes: write N.answer
     3 -> 2   the answer is a 4xx: the document wasn't taken, and C doesn't have it: remove N.osc
@@ -24,7 +24,8 @@ From row to row, in this order, of which each line is one write or one call:
 Row 3 rests on two things that API 0.6 has: a document is taken whole or not at all, and nothing is taken into a changeset
 that is closed. The close is the fence: a document still at work at the server either ends before it, and then the second
 look sees it, or finds the changeset closed. So the same changes never go out again while the first time may still count.
-The look is at `changeset/C/download`; where that doesn't come, at the version that one of the changes would have made.
+The look is at `changeset/C/download`; where that doesn't come, at the version that one of the changes would have made. How
+many changes a closed changeset counts says the same once more, and where the two don't agree nothing goes out.
 
 A new object has no version that would guard it, so row 3 is where another sender would make it twice; a change that names
 a version can't be taken twice at all.
@@ -91,10 +92,10 @@ class Sending:
 
         Raises Clash, NoAnswer, ServerRefused or Refused; what was taken before that is kept.
         """
+        check_server(self.day, self.server)
         self.limits = self.server.limits()
         if not self.limits.writable:
             raise NoAnswer('{} takes no edits at present; send again later'.format(self.server.address))
-        belongs(self.day, self.server)
         self._take_up()
         chunk, silences = self._next_chunk(), 0
         while chunk:
@@ -159,6 +160,7 @@ class Sending:
         return self.session.ask(['upload {}'.format(self._room())]).first_chunk()
 
     def _open(self):
+        note_server(self.day, self.server)
         number = self.server.open_changeset(self.tags)
         self.day.write('changeset', json.dumps({'number': number, 'tags': self.tags}) + '\n')
         self.changeset = Open(number, self.tags)
@@ -218,27 +220,45 @@ class Sending:
         """A 409 for the changeset itself: it is closed, or somebody works in it. A second new one in a row is another fault."""
         self.unusable = 0 if self.changeset.count else self.unusable + 1
         self.note('{}'.format(refused))
-        if self._settle():
+        if 'own that changeset' in refused.text:    # it was opened by another account
+            self._remove('osc')
+            self._drop()
+        elif self._settle():
             return Outcome.TAKEN
         if self.unusable > 1:
             raise refused
         return Outcome.AGAIN
 
     def _settle(self):
-        """Whether the document that is out was taken. If not it never will be: its changeset is closed, and both are gone here."""
-        if self._found():
+        """Whether the document that is out was taken. If not it never will be: its changeset is closed, and both are gone here.
+
+        NoAnswer where that can't be told yet.
+        """
+        if self._look() is True:
             return True
-        self._fence()
-        if self._found():
+        counted, found = self._fence(), self._look()
+        if found:
             return True
+        if counted:
+            raise NoAnswer('the changeset {} counts the changes of {}, and doesn\'t show them yet'.format(
+                self.changeset.number, self.day.path(self.day.pending())))
         self._remove('osc')
         self._drop()
         return False
 
-    def _fence(self):
-        """Closes the changeset until it is closed: a close may be refused while a document is at work in it.
+    def _look(self):
+        """Whether the document that is out is found; None where no answer tells."""
+        try:
+            return self._found()
+        except (NoAnswer, ServerRefused) as silence:
+            self.note('{}'.format(silence))
+            return None
 
-        NoAnswer where that takes too long, and Trouble where it has changes that aren't this day's and aren't those looked for.
+    def _fence(self):
+        """Closes the changeset until it is closed; answers whether it counts the changes of the document that is out.
+
+        A close may be refused while a document is at work in it: NoAnswer where that takes too long. Trouble where it counts
+        changes that are neither this day's nor those that are out.
         """
         number, waits = self.changeset.number, list(FENCE_WAITS)
         while True:
@@ -250,10 +270,11 @@ class Sending:
                 raise NoAnswer('the changeset {} is still at work at the server'.format(number))
             self.note('the changeset {} is still at work; asked again in {} s'.format(number, waits[0]))
             api.pause(waits.pop(0))
-        earlier = self._earlier()
-        if count not in (len(earlier), len(earlier) + len(self._sent())):
+        confirmed, out = len(self._earlier()), len(self._sent())
+        if count not in (confirmed, confirmed + out):
             raise Trouble('the changeset {} has {} changes, and {} were confirmed: look what they are before anything is sent again'.format(
-                number, count, len(earlier)))
+                number, count, confirmed))
+        return count == confirmed + out
 
     def _sent(self):
         """The changes of the document that is out."""
@@ -313,8 +334,7 @@ class Sending:
         """Takes the answer in, keeps the session after it, and answers with the next chunk."""
         sent, text = self._sent(), self._read('answer')
         try:
-            lines = osc.answers(sent, text) if '<diffResult' in text else osc.looked_up(
-                sent, text, self._given())
+            lines = osc.answers(sent, text) if '<diffResult' in text else osc.looked_up(sent, text, self._given())
         except ValueError as fault:
             raise Trouble('{} doesn\'t answer {}: {}'.format(
                 self.day.path(self.day.beside(self.day.last(), 'answer')), self.day.path(self.day.pending()), fault)) from None
@@ -343,10 +363,14 @@ def users(text):
     return '; where it doesn\'t know them: yoke refresh ' + ' '.join(keys[:20]) if keys else ''
 
 
-def belongs(day, server):
-    """Notes the server that a day is of; Trouble where it is of another one."""
+def check_server(day, server):
+    """Trouble where a day is of another server."""
     before = (day.read('server') or '').strip()
     if before and before != server.address:
         raise Trouble('this day is of the server {}, and its ids mean nothing to another: start another --day for {}'.format(before, server.address))
-    if not before:
+
+
+def note_server(day, server):
+    """Notes the server that a day is of from now on."""
+    if not day.read('server'):
         day.write('server', server.address + '\n')

@@ -347,7 +347,8 @@ class Database:
         inside = {key for key, versions in self.versions.items() if key[0] == 'n' and versions[-1].visible
                   and west <= versions[-1].lon <= east and south <= versions[-1].lat <= north}
         if len(inside) > self.limits.map_nodes:
-            raise Refusal(400, 'You requested too many nodes (limit is {}). Either request a smaller area, or use planet.osm'.format(self.limits.map_nodes))
+            raise Refusal(400, 'You requested too many nodes (limit is {}). Either request a smaller area, or use planet.osm'.format(
+                self.limits.map_nodes))
         ways = {user for key in inside for user in self.users_of.get(key, ()) if user[0] == 'w'}
         keys = inside | ways | {node for way in ways for node in self.current(way).references}
         relations = {user for key in keys for user in self.users_of.get(key, ()) if user[0] == 'r'}
@@ -371,7 +372,8 @@ class Database:
         except ValueError:
             raise Refusal(400, 'The parameter bbox is required, and must be of the form min_lon,min_lat,max_lon,max_lat')
         if not (-180 * UNITS <= west < east <= 180 * UNITS and -90 * UNITS <= south < north <= 90 * UNITS):
-            raise Refusal(400, 'The latitudes must be between -90 and 90, longitudes between -180 and 180 and the minima must be less than the maxima.')
+            raise Refusal(400,
+                          'The latitudes must be between -90 and 90, longitudes between -180 and 180 and the minima must be less than the maxima.')
         if (east - west) * (north - south) > Decimal(self.limits.area) * UNITS * UNITS:
             raise Refusal(400, 'The maximum bbox size is {}, and your request was too large. Either request a smaller area, or use planet.osm'.format(
                 self.limits.area))
@@ -391,7 +393,8 @@ class Database:
 
 def bad_xml(model: str, xml: ElementTree.Element, why: str) -> Refusal:
     """The refusal of an element of a document that isn't as it has to be."""
-    return Refusal(400, 'Cannot parse valid {} from xml string {}. {}'.format(model.lower(), ElementTree.tostring(xml, encoding='unicode').strip(), why))
+    return Refusal(400,
+                   'Cannot parse valid {} from xml string {}. {}'.format(model.lower(), ElementTree.tostring(xml, encoding='unicode').strip(), why))
 
 
 class Upload:
@@ -495,7 +498,8 @@ class Upload:
     @staticmethod
     def _check_version(provided: int, old: Element) -> None:
         if provided != old.version:
-            raise Refusal(409, 'Version mismatch: Provided {}, server had: {} of {} {}'.format(provided, old.version, old.kind.capitalize(), old.number))
+            raise Refusal(409,
+                          'Version mismatch: Provided {}, server had: {} of {} {}'.format(provided, old.version, old.kind.capitalize(), old.number))
 
     def _read(self, xml: ElementTree.Element, old_id: int) -> Element:
         """What a change makes of an element, with the ids of what it refers to; 400 where the server doesn't take it."""
@@ -536,7 +540,8 @@ class Upload:
             return number
         if kind[0] + str(number) not in self.names:
             what = kind if user == 'way' else kind.capitalize()
-            raise Refusal(400, 'Placeholder {} not found for reference {} in {} {}{}'.format(what, number, user, old_id, '' if user == 'way' else '.'))
+            raise Refusal(400,
+                          'Placeholder {} not found for reference {} in {} {}{}'.format(what, number, user, old_id, '' if user == 'way' else '.'))
         return self.names[kind[0] + str(number)]
 
     def _check_references(self, new: Element, old: Optional[Element], number: int) -> None:
@@ -555,7 +560,8 @@ class Upload:
                 number, ','.join(key[1:] for key in missing)))
         if missing:
             first = next(member for member in new.members if member.kind[0] + str(member.number) in missing)
-            raise unmet('Relation {} requires the {} with id {}, which either does not exist, or is not visible.'.format(number, first.kind, first.number))
+            raise unmet('Relation {} requires the {} with id {}, which either does not exist, or is not visible.'.format(number,
+                                                                                                                         first.kind, first.number))
 
     def _put(self, verb: str, element: Element, old_id: int) -> None:
         """Takes a change, in the name of the changeset's user."""

@@ -67,6 +67,13 @@ class Hook(NamedTuple):
     call: Callable[[], Any]
 
 
+class Late:
+    """A request that is done later, although its connection is closed, and how many requests come before that."""
+
+    def __init__(self, route: 'Route', request: Request, requests: int):
+        self.route, self.request, self.requests = route, request, requests
+
+
 def xml(body: bytes) -> Answer:
     """An answer that is a document."""
     return Answer(200, body, 'application/xml; charset=utf-8')
@@ -185,7 +192,7 @@ def route_of(method: str, path: str) -> Tuple[Route, Tuple[str, ...]]:
 # ---- the server ----
 
 class StrictServer:
-    """The server, which runs in a thread of its own while it is used as a context.
+    """The server, which listens in a thread of its own while it is used as a context; without that its data can be used all the same.
 
     `users` are the users by their tokens. With `first_id` the next id of a new node, way or relation is this one, or the
     one after the highest that is there where that is higher.
@@ -198,11 +205,16 @@ class StrictServer:
         self.faults = Faults()
         self.requests: List[str] = []           # the operations asked for, in their order
         self.lock = threading.RLock()           # held while an operation is done, so that each is done whole
+        self.watch: Optional[Callable[[str, str], Any]] = None      # called with `before` or `after`, and the operation
         self._hooks: List[Hook] = []
-        self._http = Listener(('127.0.0.1', port), self)
-        self._thread = threading.Thread(target=self._http.serve_forever, kwargs={'poll_interval': 0.02}, daemon=True)
+        self._late: List[Late] = []
+        self._port = port
+        self._http: Optional[Listener] = None
+        self._thread: Optional[threading.Thread] = None
 
     def __enter__(self) -> 'StrictServer':
+        self._http = Listener(('127.0.0.1', self._port), self)
+        self._thread = threading.Thread(target=self._http.serve_forever, kwargs={'poll_interval': 0.02}, daemon=True)
         self._thread.start()
         return self
 
@@ -213,7 +225,7 @@ class StrictServer:
 
     @property
     def address(self) -> str:
-        """The address without a path, such as `http://127.0.0.1:8080`."""
+        """The address without a path, such as `http://127.0.0.1:8080`, while it listens."""
         return 'http://127.0.0.1:{}'.format(self._http.server_address[1])
 
     @property
@@ -281,7 +293,8 @@ class StrictServer:
             lon, lat = (units(degree) for degree in place) if place is not None else (old.lon, old.lat)
             number = database.create_changeset(user, b'<osm><changeset/></osm>')
             new = Element(old.kind, old.number, old.version, True, number, '', 0, '', dict(old.tags if tags is None else tags), lon, lat,
-                          old.nodes if nodes is None else tuple(nodes), old.members if members is None else tuple(Member(*member) for member in members))
+                          old.nodes if nodes is None else tuple(nodes),
+                          old.members if members is None else tuple(Member(*member) for member in members))
             block = ElementTree.Element(verb)
             block.append(as_xml(new))
             database.upload(number, user, document('osmChange', [block]))
@@ -313,21 +326,38 @@ class StrictServer:
         """Does an operation, but where a fault comes before, and gives that fault and the answer."""
         fault = self.faults.next(route.operation)
         with self.lock:
+            self._do_late()
             self.requests.append(route.operation)
             number = self.requests.count(route.operation)
         self._call('before', route.operation, number)
-        if fault.endswith('-before'):
+        if fault.startswith('late-'):
+            self._late.append(Late(route, request, int(fault[len('late-'):])))
+        if fault.startswith('late-') or fault.endswith('-before'):
             return fault, self._faulty(fault)
-        with self.lock:
-            try:
-                answer = route.act(self.database, request)
-            except Refusal as why:
-                answer = refused(why)
+        answer = self._act(route, request)
         self._call('after', route.operation, number)
         return fault, self._faulty(fault) if fault in ('500-after', '504-after') else answer
 
+    def _act(self, route: Route, request: Request) -> Answer:
+        """Does an operation, and gives its answer."""
+        with self.lock:
+            try:
+                return route.act(self.database, request)
+            except Refusal as why:
+                return refused(why)
+
+    def _do_late(self) -> None:
+        """Does what was to be done before this request."""
+        for late in list(self._late):
+            late.requests -= 1
+            if late.requests == 0:
+                self._late.remove(late)
+                self._act(late.route, late.request)
+
     def _call(self, when: str, operation: str, number: int) -> None:
         """Calls the hooks of a request."""
+        if self.watch is not None:
+            self.watch(when, operation)
         for hook in list(self._hooks):
             if hook[:3] == (when, operation, number):
                 hook.call()
@@ -338,7 +368,8 @@ class StrictServer:
             return refused(too_fast(self.limits) if fault == '429-before' else too_much(self.limits))
         if fault.startswith('50'):
             phrase = HTTPStatus(int(fault[:3])).phrase
-            return Answer(int(fault[:3]), '<html><head><title>{0} {1}</title></head><body><h1>{1}</h1></body></html>\n'.format(fault[:3], phrase).encode(),
+            return Answer(int(fault[:3]),
+                          '<html><head><title>{0} {1}</title></head><body><h1>{1}</h1></body></html>\n'.format(fault[:3], phrase).encode(),
                           'text/html; charset=iso-8859-1')
         return Answer(200)
 
@@ -416,7 +447,7 @@ class Handler(http.server.BaseHTTPRequestHandler):
         if body is None:
             return
         fault, answer = self.server.owner.answer(self.command, self.path, self.headers, body)
-        if fault in ('close-before', 'drop-after'):
+        if fault in ('close-before', 'drop-after') or fault.startswith('late-'):
             self._hang_up()
         else:
             self._send(answer, half=fault == 'half-after')

@@ -136,13 +136,17 @@ class Changesets(ServerTest):
         self.assert_refused(self.upload('', 99), 404)
 
     def test_a_download(self):
-        self.upload('<create><node id="-1" C lat="1.5" lon="2.5"><tag k="a" v="b"/></node></create><modify><way id="1" C version="1"><nd ref="-1"/><nd ref="2"/></way></modify>'
+        self.upload('<create><node id="-1" C lat="1.5" lon="2.5"><tag k="a" v="b"/></node></create>'
+                    '<modify><way id="1" C version="1"><nd ref="-1"/><nd ref="2"/></way></modify>'
                     '<delete><relation id="2" C version="1"/></delete>')
         found = self.get('changeset/{}/download'.format(self.number)).root
-        self.assertEqual((found.tag, sorted((block.tag, block[0].tag, block[0].get('id'), block[0].get('version'), block[0].get('visible')) for block in found)),
-                         ('osmChange', [('create', 'node', '100', '1', 'true'), ('delete', 'relation', '2', '2', 'false'), ('modify', 'way', '1', '2', 'true')]))
+        self.assertEqual((found.tag,
+                          sorted((block.tag, block[0].tag, block[0].get('id'), block[0].get('version'), block[0].get('visible')) for block in found)),
+                         ('osmChange',
+                          [('create', 'node', '100', '1', 'true'), ('delete', 'relation', '2', '2', 'false'), ('modify', 'way', '1', '2', 'true')]))
         made = found.find('create/node')
-        self.assertEqual((made.get('lat'), made.get('lon'), made.get('changeset'), made.get('user')), ('1.5000000', '2.5000000', str(self.number), 'mapper'))
+        self.assertEqual((made.get('lat'), made.get('lon'), made.get('changeset'), made.get('user')),
+                         ('1.5000000', '2.5000000', str(self.number), 'mapper'))
         self.assertEqual([node.get('ref') for node in found.find('modify/way')], ['100', '2'])
         box = self.get('changeset/{}'.format(self.number)).root[0]
         self.assertEqual((box.get('min_lon'), box.get('max_lat'), box.get('changes_count')), ('2.5000000', '1.5000000', '3'))
@@ -216,7 +220,8 @@ class Uploads(ServerTest):
         self.assertEqual(self.get('node/5').root[0].get('version'), '5')
 
     def test_if_unused(self):
-        answer = self.upload('<delete if-unused="true"><node id="2" C version="2"/><node id="5" C version="3"/><relation id="2" C version="1"/></delete>')
+        answer = self.upload('<delete if-unused="true"><node id="2" C version="2"/><node id="5" C version="3"/>'
+                             '<relation id="2" C version="1"/></delete>')
         self.assertEqual([line.attrib for line in answer.root],
                          [{'old_id': '2', 'new_id': '2', 'new_version': '2'}, {'old_id': '5', 'new_id': '5', 'new_version': '4'}, {'old_id': '2'}])
         self.assert_not_taken('<delete if-unused="true"><node id="4" C version="9"/></delete>', 409,
@@ -232,7 +237,8 @@ class Uploads(ServerTest):
 class Refusals(ServerTest):
 
     def test_versions(self):
-        self.assert_not_taken('<modify><node id="3" C version="1" lat="1" lon="1"/></modify>', 409, 'Version mismatch: Provided 1, server had: 3 of Node 3')
+        self.assert_not_taken('<modify><node id="3" C version="1" lat="1" lon="1"/></modify>', 409,
+                              'Version mismatch: Provided 1, server had: 3 of Node 3')
         self.assert_not_taken('<delete><way id="1" C version="2"/></delete>', 409, 'Version mismatch: Provided 2, server had: 1 of Way 1')
         self.assert_not_taken('<modify><relation id="1" C version="7"/></modify>', 409, 'Version mismatch: Provided 7, server had: 1 of Relation 1')
 
@@ -248,7 +254,8 @@ class Refusals(ServerTest):
 
     def test_what_is_deleted(self):
         self.assert_not_taken('<delete><node id="5" C version="4"/></delete>', 410, 'The node with the id 5 has already been deleted')
-        self.assert_not_taken('<modify><node id="5" C version="3" lat="1" lon="1"/></modify>', 409, 'Version mismatch: Provided 3, server had: 4 of Node 5')
+        self.assert_not_taken('<modify><node id="5" C version="3" lat="1" lon="1"/></modify>', 409,
+                              'Version mismatch: Provided 3, server had: 4 of Node 5')
 
     def test_what_is_used(self):
         self.assert_not_taken('<delete><node id="1" C version="1"/></delete>', 412, 'Precondition failed: Node 1 is still used by ways 1.')
@@ -258,23 +265,27 @@ class Refusals(ServerTest):
 
     def test_all_ways_that_use_a_node_are_named(self):
         self.server.edit('create', 'w-1', nodes=[3, 4])
-        self.assert_refused(self.upload('<delete><node id="3" C version="3"/></delete>'), 412, 'Precondition failed: Node 3 is still used by ways 2,100.')
+        self.assert_refused(self.upload('<delete><node id="3" C version="3"/></delete>'), 412,
+                            'Precondition failed: Node 3 is still used by ways 2,100.')
 
     def test_what_is_required(self):
         wanted = 'Precondition failed: Way {} requires the nodes with id in ({}), which either do not exist, or are not visible.'
-        self.assert_not_taken('<modify><way id="1" C version="1"><nd ref="1"/><nd ref="88"/><nd ref="5"/><nd ref="88"/></way></modify>', 412, wanted.format(1, '5,88'))
+        self.assert_not_taken('<modify><way id="1" C version="1"><nd ref="1"/><nd ref="88"/><nd ref="5"/><nd ref="88"/></way></modify>',
+                              412, wanted.format(1, '5,88'))
         self.assert_not_taken('<create><way id="-3" C><nd ref="88"/></way></create>', 412, wanted.format(-3, 88))
         member = '<modify><relation id="2" C version="1"><member type="{}" ref="{}" role=""/></relation></modify>'
         for kind, number in [('node', 5), ('way', 88), ('relation', 88)]:
             self.assert_not_taken(member.format(kind, number), 412,
-                                  'Precondition failed: Relation 2 requires the {} with id {}, which either does not exist, or is not visible.'.format(kind, number))
+                                  'Precondition failed: Relation 2 requires the {} with id {}, which either does not exist, or is not visible.'.format(
+                                      kind, number))
 
     def test_ways_without_nodes(self):
         self.assert_not_taken('<create><way id="-3" C/></create>', 412, 'Precondition failed: Cannot create way: data is invalid.')
         self.assert_not_taken('<modify><way id="1" C version="1"/></modify>', 412, 'Precondition failed: Cannot update way 1: data is invalid.')
 
     def test_placeholders_that_stand_for_nothing(self):
-        self.assert_not_taken('<modify><way id="1" C version="1"><nd ref="-4"/></way></modify>', 400, 'Placeholder node not found for reference -4 in way 1')
+        self.assert_not_taken('<modify><way id="1" C version="1"><nd ref="-4"/></way></modify>', 400,
+                              'Placeholder node not found for reference -4 in way 1')
         self.assert_not_taken('<create><relation id="-2" C><member type="way" ref="-4"/></relation></create>', 400,
                               'Placeholder Way not found for reference -4 in relation -2.')
         self.assert_not_taken('<create><node id="-4" C lat="1" lon="1"/><node id="-4" C lat="1" lon="1"/></create>', 400,
@@ -291,10 +302,12 @@ class Refusals(ServerTest):
         for lat, lon in [('90.0000001', '1'), ('-91', '1'), ('1', '180.0000001'), ('1', '-181')]:
             self.assert_not_taken('<create><node id="-1" C lat="{}" lon="{}"/></create>'.format(lat, lon), 400, 'The node is outside this world')
         self.assertEqual(self.upload('<create><node id="-1" C lat="-90" lon="180"/></create>').status, 200)
-        for words, why in [('lat="1"', 'lon missing'), ('lon="1"', 'lat missing'), ('lat="a" lon="1"', 'lat not a number'), ('lat="1" lon="nan"', 'lon not a number')]:
+        for words, why in [('lat="1"', 'lon missing'), ('lon="1"', 'lat missing'), ('lat="a" lon="1"', 'lat not a number'),
+                           ('lat="1" lon="nan"', 'lon not a number')]:
             answer = self.upload('<create><node id="-1" C {}/></create>'.format(words))
             self.assertEqual(answer.status, 400)
-            self.assertTrue(answer.text.startswith('Cannot parse valid node from xml string <node ') and answer.text.endswith('. ' + why), answer.text)
+            self.assertTrue(answer.text.startswith('Cannot parse valid node from xml string <node ') and answer.text.endswith('. ' + why),
+                            answer.text)
 
     def test_places_are_rounded_to_seven_digits(self):
         self.upload('<create><node id="-1" C lat="1.00000005" lon="-1.00000005"/></create>')
@@ -319,7 +332,8 @@ class Refusals(ServerTest):
         self.assertEqual(self.upload('<create>').status, 400)
         answer = self.ask('POST', '/api/0.6/changeset/{}/upload'.format(self.opened()), '<osm/>')
         self.assert_refused(answer, 400, 'Document element should be \'osmChange\'.')
-        self.assert_not_taken('<update><node id="1" C version="1" lat="1" lon="1"/></update>', 400, 'Unknown action update, choices are create, modify, delete')
+        self.assert_not_taken('<update><node id="1" C version="1" lat="1" lon="1"/></update>', 400,
+                              'Unknown action update, choices are create, modify, delete')
         self.assert_not_taken('<update/>', 400, 'Unknown action update, choices are create, modify, delete')
         self.assert_not_taken('<create><area id="-1" C/></create>', 400, 'Unexpected element type area, expected node, way or relation.')
         for words, why in [('C lat="1" lon="1"', 'ID is required'), ('id="4" C lat="1" lon="1"', 'Version is required when updating')]:
@@ -365,12 +379,14 @@ class TooMuch(ServerTest):
         answer = self.get('map?bbox=13.55,-0.1,13.65,0.05')
         self.assert_refused(answer, 509, 'You have downloaded too much data. Please try again in 17 seconds.')
         self.assertEqual(answer.headers['Retry-After'], '17')
-        self.assert_refused(self.get('map?bbox=13.4,-0.1,13.9,0.2'), 400, 'You requested too many nodes (limit is 2). Either request a smaller area, or use planet.osm')
+        self.assert_refused(self.get('map?bbox=13.4,-0.1,13.9,0.2'), 400,
+                            'You requested too many nodes (limit is 2). Either request a smaller area, or use planet.osm')
 
     def test_capabilities_tell_the_limits(self):
         for path in ('/api/capabilities', '/api/0.6/capabilities'):
             api = self.ask('GET', path, token=NO_TOKEN).root.find('api')
-            self.assertEqual((api.find('waynodes').get('maximum'), api.find('relationmembers').get('maximum'), api.find('changesets').get('maximum_elements'),
+            self.assertEqual((api.find('waynodes').get('maximum'), api.find('relationmembers').get('maximum'),
+                              api.find('changesets').get('maximum_elements'),
                               api.find('area').get('maximum'), api.find('version').get('maximum')), ('3', '2', '10000', '0.25', '0.6'))
 
 
@@ -379,7 +395,8 @@ class Reading(ServerTest):
     def test_an_element(self):
         answer = self.get('node/1')
         node = answer.root.find('node')
-        self.assertEqual(node.attrib, {'id': '1', 'visible': 'true', 'version': '1', 'changeset': '7', 'timestamp': '2024-02-29T12:00:00Z', 'user': 'A B', 'uid': '5',
+        self.assertEqual(node.attrib, {'id': '1', 'visible': 'true', 'version': '1', 'changeset': '7', 'timestamp': '2024-02-29T12:00:00Z',
+                                       'user': 'A B', 'uid': '5',
                                        'lat': '-0.0000001', 'lon': '13.5000000'})
         self.assertEqual(answer.root.get('version'), '0.6')
         self.assertTrue(answer.headers['Content-Type'].startswith('application/xml'))
@@ -401,7 +418,8 @@ class Reading(ServerTest):
 
     def test_many(self):
         answer = self.get('nodes?nodes=5,1,1,3')
-        self.assertEqual([(xml.get('id'), xml.get('visible'), xml.get('version')) for xml in answer.root], [('1', 'true', '1'), ('3', 'true', '3'), ('5', 'false', '4')])
+        self.assertEqual([(xml.get('id'), xml.get('visible'), xml.get('version')) for xml in answer.root],
+                         [('1', 'true', '1'), ('3', 'true', '3'), ('5', 'false', '4')])
         self.assertIsNone(answer.root[2].get('lat'))
         self.assert_refused(self.get('nodes?nodes=1,77'), 404)
         self.assertEqual(self.get('ways?ways=1,2').keys(), ['w1', 'w2'])
@@ -411,7 +429,8 @@ class Reading(ServerTest):
 
     def test_many_with_versions(self):
         self.server.edit('modify', 'n1', tags={})
-        self.assertEqual([(xml.get('id'), xml.get('version')) for xml in self.get('nodes?nodes=1v1,1,3v3').root], [('1', '1'), ('1', '2'), ('3', '3')])
+        self.assertEqual([(xml.get('id'), xml.get('version')) for xml in self.get('nodes?nodes=1v1,1,3v3').root],
+                         [('1', '1'), ('1', '2'), ('3', '3')])
         self.assert_refused(self.get('nodes?nodes=1v7'), 404)
 
     def test_full(self):
@@ -440,10 +459,12 @@ class Reading(ServerTest):
 
     def test_boxes(self):
         for words in ('', '?bbox=1,2,3', '?bbox=1,2,3,a'):
-            self.assert_refused(self.get('map' + words), 400, 'The parameter bbox is required, and must be of the form min_lon,min_lat,max_lon,max_lat')
+            self.assert_refused(self.get('map' + words), 400,
+                                'The parameter bbox is required, and must be of the form min_lon,min_lat,max_lon,max_lat')
         for words in ('2,1,1,2', '1,2,2,1', '-181,1,-180,2', '1,89,2,91'):
             self.assert_refused(self.get('map?bbox=' + words), 400,
-                                'The latitudes must be between -90 and 90, longitudes between -180 and 180 and the minima must be less than the maxima.')
+                                'The latitudes must be between -90 and 90, longitudes between -180 and 180 '
+                                'and the minima must be less than the maxima.')
         self.assert_refused(self.get('map?bbox=0,0,0.5,0.50001'), 400, 'The maximum bbox size is 0.25, and your request was too large. '
                                                                       'Either request a smaller area, or use planet.osm')
         self.assertEqual(self.get('map?bbox=0,0,0.5,0.5').status, 200)
@@ -466,7 +487,8 @@ class WithFaults(ServerTest):
             self.upload(self.node)
         self.assertEqual(self.taken(), 0)
         self.assertEqual(self.upload(self.node).status, 200)
-        self.assertEqual(self.server.faults.met, ['500-before upload', '504-before upload', '429-before upload', '509-before upload', 'close-before upload'])
+        self.assertEqual(self.server.faults.met,
+                         ['500-before upload', '504-before upload', '429-before upload', '509-before upload', 'close-before upload'])
 
     def test_those_after_a_commit(self):
         for count, (fault, status) in enumerate([('500-after', 500), ('504-after', 504)], 1):
@@ -480,6 +502,25 @@ class WithFaults(ServerTest):
         with self.assertRaises(http.client.IncompleteRead):
             self.upload(self.node)
         self.assertEqual(self.taken(), 4)
+
+    def test_what_is_done_late(self):
+        self.server.faults.once('late-2')
+        number = self.opened()
+        with self.assertRaises(http.client.RemoteDisconnected):
+            self.upload(self.node, number)
+        seen = []
+        for _ in range(3):
+            seen.append(len(self.get('changeset/{}/download'.format(number)).root))
+        self.assertEqual(seen, [0, 1, 1])
+
+    def test_what_is_done_too_late(self):
+        self.server.faults.once('late-2')
+        number = self.opened()
+        with self.assertRaises(http.client.RemoteDisconnected):
+            self.upload(self.node, number)
+        self.ask('PUT', '/api/0.6/changeset/{}/close'.format(number))
+        self.assertEqual(len(self.get('changeset/{}/download'.format(number)).root), 0)
+        self.assertEqual(self.taken(), 0)
 
     def test_of_another_operation_and_after_some(self):
         self.server.faults.once('500-before', 'element', skip=1)
@@ -535,6 +576,12 @@ class Others(ServerTest):
         self.upload('<modify><node id="4" C version="1" lat="1" lon="1"/></modify>')
         self.assertEqual(seen, [1])
 
+    def test_all_requests_are_watched(self):
+        seen = []
+        self.server.watch = lambda when, operation: seen.append((when, operation))
+        self.get('node/1')
+        self.assertEqual(seen, [('before', 'element'), ('after', 'element')])
+
     def test_who_made_what(self):
         node = '<create><node id="-1" C lat="1" lon="1"><tag k="a" v="b"/></node></create>'
         self.upload(node)
@@ -581,7 +628,8 @@ class Control(ServerTest):
         self.assertEqual(self.control('POST', 'edit', verb='modify', key='n1', tags={'a': 'b'}).text, 'n1')
         self.assertEqual(self.control('POST', 'edit', before_upload=1, verb='modify', key='n4', tags={'a': 'b'}).status, 200)
         self.assertEqual(self.upload('<modify><node id="4" C version="1" lat="1" lon="1"/></modify>').status, 409)
-        self.assertEqual([(change['key'], change['verb'], change['user'], change['version']) for change in json.loads(self.control('GET', 'history').text)],
+        self.assertEqual([(change['key'], change['verb'], change['user'],
+                           change['version']) for change in json.loads(self.control('GET', 'history').text)],
                          [('n1', 'modify', 'somebody', 2), ('n4', 'modify', 'somebody', 2)])
 
     def test_limits(self):
@@ -606,7 +654,8 @@ class Files(unittest.TestCase):
     def test_osm_xml(self):
         with tempfile.TemporaryDirectory() as place:
             path = pathlib.Path(place) / 'a.osm'
-            path.write_text('<osm version="0.6"><bounds/><node id="1" version="2" lat="1" lon="2"/><way id="3" version="1"><nd ref="1"/><tag k="a" v="b"/></way>'
+            path.write_text('<osm version="0.6"><bounds/><node id="1" version="2" lat="1" lon="2"/>'
+                            '<way id="3" version="1"><nd ref="1"/><tag k="a" v="b"/></way>'
                             '<relation id="4" version="1" visible="false"/></osm>', encoding='utf-8')
             self.assertEqual([opl(element) for element in read_file(path)],
                              ['n1 v2 dV c0 t i0 u T x2.0000000 y1.0000000', 'w3 v1 dV c0 t i0 u Ta=b Nn1', 'r4 v1 dD c0 t i0 u T M'])
@@ -615,7 +664,8 @@ class Files(unittest.TestCase):
         with tempfile.TemporaryDirectory() as place:
             path = pathlib.Path(place) / 'town.opl'
             path.write_text(TOWN, encoding='utf-8')
-            served = subprocess.Popen([sys.executable, '-m', 'yoke.testing.server', '--changeset-elements', '7', str(path)], cwd=TOP, stdout=subprocess.PIPE, text=True)
+            served = subprocess.Popen([sys.executable, '-m', 'yoke.testing.server', '--changeset-elements', '7', str(path)], cwd=TOP,
+                                      stdout=subprocess.PIPE, text=True)
             try:
                 found = urllib.parse.urlsplit(served.stdout.readline().strip())
                 self.assertEqual(found.hostname, '127.0.0.1')

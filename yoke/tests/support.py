@@ -24,6 +24,7 @@ from yoke.testing.elements import lines_of_opl
 from yoke.testing.server import TOKEN, Limits, StrictServer
 
 TOP = pathlib.Path(__file__).resolve().parent.parent.parent
+MEMORY = '/dev/shm' if os.access('/dev/shm', os.W_OK) else None      # a folder in memory, where there is one
 TOWN = '''n1 v1 x13.001 y52
 n2 v1 x13.002 y52
 n3 v1 x13.003 y52
@@ -67,16 +68,16 @@ def program():
 
 
 class FolderTest(unittest.TestCase):
-    """A folder of its own for each test, in which it runs, without waits."""
+    """A folder of its own for each test, in which it runs, without waits, and without waiting for the disk (test_day does)."""
 
     def setUp(self):
-        holder = tempfile.TemporaryDirectory(prefix='yoke-test-')
+        holder = tempfile.TemporaryDirectory(prefix='yoke-test-', dir=MEMORY)
         self.addCleanup(holder.cleanup)
         self.folder = pathlib.Path(holder.name)
         self.addCleanup(os.chdir, os.getcwd())
         os.chdir(self.folder)
         self.waited = []
-        for patch in (mock.patch('yoke.api.pause', self.waited.append), mock.patch('yoke.program.Program.of', lambda arguments: program()),
+        for patch in (mock.patch('yoke.api.pause', self.waited.append), mock.patch('os.fsync', lambda handle: None), mock.patch('yoke.program.Program.of', lambda arguments: program()),
                       mock.patch.dict(os.environ, {'YOKE_TOKEN': TOKEN, 'no_proxy': '127.0.0.1'})):
             patch.start()
             self.addCleanup(patch.stop)

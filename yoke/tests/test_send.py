@@ -12,7 +12,7 @@ from unittest import mock
 from yoke import opl, saved
 from yoke.sending import SILENCES
 from yoke.testing.database import Refusal
-from yoke.testing.server import MAPPER
+from yoke.testing.server import MAPPER, User
 from yoke.tests.stops import Stopped, stop_at
 from yoke.tests.support import ServerTest, program
 from yoke.trouble import Busy, Clash, NoAnswer, Refused, ServerRefused, Trouble, Usage
@@ -118,7 +118,16 @@ class Whole(SendTest):
         self.do('tag n1 Tref=7')
         self.assertEqual(Trouble.code, self.yoke('send', '-m', 'x', '--api', other.api))
         self.assertIn(self.server.api, self.err)
-        self.assertEqual([], other.requests[1:])
+        self.assertEqual([], other.requests)
+        self.assertEqual(Trouble.code, self.yoke('refresh', '--api', other.api))
+        self.assertEqual([], other.requests)
+
+    def test_a_server_that_nothing_was_sent_to_does_not_bind_the_day(self):
+        other = self.serve()
+        other.faults.by_chance('500-before', 1.0, 0, 'capabilities')
+        self.assertEqual(NoAnswer.code, self.yoke('send', '-m', 'x', '--api', other.api))
+        self.assertEqual(0, self.yoke('refresh', '--api', other.api), self.err)
+        self.goes_on()
 
     def test_a_text_that_the_api_does_not_take(self):
         self.do('tag n1 Tnote=a%1%b')
@@ -162,6 +171,16 @@ class Changesets(SendTest):
         self.server.before('upload', 1, lambda: setattr(self.server.limits, 'changeset_elements', 1))
         self.assertEqual(0, self.send(), self.err)
         self.is_all_there()
+
+    def test_one_of_another_account_is_left_alone(self):
+        self.server.before('upload', 2, lambda: setattr(self.server, 'users', {}))
+        self.assertEqual(ServerRefused.code, self.send())
+        self.server.users = {'another': User(7, 'another')}
+        with mock.patch.dict(os.environ, YOKE_TOKEN='another'):
+            self.assertEqual(0, self.send(), self.err)
+        self.assertEqual(['mapper', 'another'], [changeset.user.name for changeset in self.server.database.changesets.values()])
+        self.assertEqual(5, len(self.server.history))
+        self.assertIsNone(self.day.read('changeset'))
 
     def test_another_comment_opens_another_one(self):
         self.server.edit('modify', 'n8', tags={'amenity': 'bench', 'backrest': 'no'})
@@ -393,12 +412,13 @@ class Silence(SendTest):
     def test_a_changeset_that_cannot_be_looked_into(self):
         """The version that a change would have made tells; of new objects the changeset alone."""
         self.chunk = '3'
-        for fault, skip in [('drop-after', 1), ('500-before', 1), ('500-before', 0)]:
-            with self.subTest(fault=fault, skip=skip):
+        for chunk, fault, skip in [('3', 'drop-after', 1), ('3', '500-before', 1), ('3', '500-before', 0), ('2', '500-before', 0)]:
+            with self.subTest(chunk=chunk, fault=fault, skip=skip):
                 self.again()
+                self.chunk = chunk
                 self.server.faults.once(fault, 'upload', skip)
                 self.server.faults.by_chance('504-before', 1.0, 0, 'download')
-                self.assertEqual(0 if skip else 0, self.send(), self.err)
+                self.assertEqual(0, self.send(), self.err)
                 self.is_all_there()
                 self.is_at_rest()
         self.again()
@@ -406,6 +426,15 @@ class Silence(SendTest):
         self.server.faults.by_chance('504-before', 1.0, 0, 'download')
         self.assertEqual(NoAnswer.code, self.send())
         self.assertEqual('000002.osc', self.day.pending())
+        self.goes_on()
+
+    def test_a_download_that_lags_behind(self):
+        """The changeset counts what the download doesn't show yet: nothing goes out again."""
+        self.server.faults.once('drop-after', 'upload')
+        with mock.patch.object(self.server.database, 'download', lambda number: b'<osmChange/>'):
+            self.assertEqual(NoAnswer.code, self.send())
+        self.assertIn('doesn\'t show them yet', self.err)
+        self.assertEqual((1, '000002.osc'), (self.server.requests.count('upload'), self.day.pending()))
         self.goes_on()
 
     def test_a_changeset_that_the_server_has_forgotten(self):

@@ -53,7 +53,7 @@ class Start(FolderTest):
 
     def test_without_osmium_other_formats_are_named(self):
         self.write('town.osm.pbf', 'x')
-        with mock.patch('shutil.which', return_value=None):
+        with mock.patch.dict(os.environ, PATH=''):
             self.assertEqual(Trouble.code, self.yoke('start', 'town.osm.pbf'))
         self.assertIn('osmium-tool', self.err)
 
@@ -235,7 +235,7 @@ n8 amenity=bench: both sides changed it
         for words, code, said in [(['n3', 'mine'], Refused.code, 'still used by w5'), (['n1', 'mine'], Refused.code, 'isn\'t in conflict'), (['n99', 'mine'], Refused.code, 'no n99'),
                                   (['n8', 'parts', 'mine', 'amenity'], Refused.code, 'amenity'), (['n3,n8', 'mine'], Refused.code, 'n3'),
                                   (['n8', 'mix', 'mine'], Usage.code, 'SIDE'), (['n8', 'mine', 'x'], Usage.code, 'SIDE'), (['n8', 'parts', 'x'], Usage.code, 'SIDE'),
-                                  (['x', 'mine'], BadLine.code, 'x')]:
+                                  (['x', 'mine'], Usage.code, 'x'), (['n8 mine\nsave', 'mine'], Usage.code, 'key')]:
             last = self.day.last().number
             self.assertEqual(code, self.yoke('resolve', *words), words)
             self.assertIn(said, self.err)

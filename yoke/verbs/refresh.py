@@ -1,7 +1,7 @@
 """`yoke refresh`: what the server has by now of all that the edits rest on."""
 from yoke import api, opl
 from yoke.progress import note
-from yoke.sending import belongs
+from yoke.sending import check_server, note_server
 from yoke.session import Session
 from yoke.trouble import Clash, Trouble, Usage
 from yoke.verbs import conflicts
@@ -27,10 +27,10 @@ def run(arguments):
     server, session = api.server_of(arguments, note), Session.of(arguments)
     with session.day.locked():
         session.check_settled()
-        belongs(session.day, server)
+        check_server(session.day, server)
         keys = session.ask(['find ' + NEEDED]).found()
         things, never = fetch(server, sorted({*keys, *arguments.keys}, key=opl.rank))
-        count = merge(session, things)
+        count = merge(session, server, things)
         known = session.known()
     left = [one for one in known.values() if one.conflict != 'none']
     print('{} objects asked for, {} newer ones merged'.format(len(things) + len(never), count))
@@ -54,11 +54,12 @@ def fetch(server, keys):
     return server.things(keys, missing), never
 
 
-def merge(session, things):
+def merge(session, server, things):
     """Merges objects into the session, as a download does, and keeps it where that changed it; answers with how many were newer."""
     before = session.known()
     newer = [thing for thing in things if is_news(before.get(thing.key), thing)]
     if newer:
+        note_server(session.day, server)
         session.day.write('fresh.opl', ''.join(opl.line(thing) + '\n' for thing in newer))
         session.edit('refresh', ['download ' + opl.escape(str(session.day.path('fresh.opl').resolve()))])
         session.day.remove('fresh.opl')

@@ -24,10 +24,14 @@ def add_arguments(parser):
 
 def run(arguments):
     step = words(arguments.how, arguments.words)
+    named = [] if arguments.key == 'all' else arguments.key.split(',')
+    for key in named:
+        if not opl.KEY.fullmatch(key):
+            raise Usage('a key is n, w or r and a number, as w5, and not {}'.format(key))
     session = Session.of(arguments)
     with session.day.locked():
         known = session.known()
-        keys = [key for key, one in known.items() if one.conflict != 'none'] if arguments.key == 'all' else arguments.key.split(',')
+        keys = named or [key for key, one in known.items() if one.conflict != 'none']
         if not keys:
             raise Refused('nothing is in conflict')
         for key in keys:
