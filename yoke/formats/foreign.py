@@ -62,7 +62,7 @@ class _Planner:
         self._name([one for one in edits if one.action == 'create'])
         for one in edits:
             key = self.names.get(one.thing.key, one.thing.key)
-            if one.action == 'create' and not one.mark:
+            if one.action == 'create' and not one.mark or self._left_alone(one, key):
                 continue
             if key[1] == '-' and not one.mark:
                 self._problem('{} is changed there, and not made there', key)
@@ -77,6 +77,13 @@ class _Planner:
         if not self.found.problems:
             self.found.lines = self._steps()
         return self.found
+
+    def _left_alone(self, one: Told, key: str) -> bool:
+        """Whether the tool did nothing to an object, or what was done here too; its version is of no account then."""
+        if one.action != 'delete':
+            began = self._began(key)
+            return began is not None and began.content == self._translated(one.thing).content
+        return any(key in table.things and table.mine(key) is None for table in (self.table, self.start) if table)
 
     def _went_back(self, one: Told) -> bool:
         """Whether an object that was written as changed or deleted stands there as the server has it."""
@@ -176,9 +183,7 @@ class _Planner:
 
     def _delete(self, one: Told, key: str):
         began, mine = self._began(key), self.table.mine(key)
-        if mine is None:
-            return
-        if began is None or began.content != mine.content:
+        if began is None or mine is None or began.content != mine.content:
             self._problem('{} is deleted there, and was changed here', key)
             return
         self.gone.append(key)
@@ -186,8 +191,6 @@ class _Planner:
 
     def _change(self, one: Told, key: str):
         began, mine, thing = self._began(key), self.table.mine(key), self._translated(one.thing)
-        if began is not None and began.content == thing.content:
-            return
         if began is None or mine is None:
             self._problem('{} is deleted here, and was changed there', key)
             return
@@ -242,7 +245,7 @@ class _Planner:
                 self.found.notes.append('{} new objects of the session aren\'t in it, and stay, as {}'.format(len(missing), missing[0]))
             return
         for key in self.start.new():
-            if key not in marked and key in self.table.things and self.table.things[key].base is None:
+            if key not in marked and self.table.mine(key) is not None:
                 self._delete(Told(opl.Object(key), 'delete'), key)
 
     def _others(self):

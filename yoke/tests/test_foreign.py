@@ -255,9 +255,19 @@ class ThereAndBack(unittest.TestCase):
         self.assertEqual(josm(text, data, text).lines, ['nodes w10 Nn1,n2,n3'])
         self.assertEqual(josm(text, data).lines, [])
 
+    def test_a_refresh_lies_between(self):
+        text = town('tag n4 Tbackrest=yes', 'erase w20')
+        later = 'n4 v5 Tamenity=bench,material=wood x9.5007 y47.1403\nw10 v3 Thighway=residential,name=Mill%20%Lane,lit=yes Nn1,n2,n3\n'
+        merged = sessions.ran(['resume s.saved', 'download later.opl', 'save'], s_saved=text, later_opl=later).saved()
+        self.assertEqual((josm(merged, written(text), text).problems, josm(merged, written(text), text).lines), ([], []))
+        plan = josm(merged, written(text).replace(b'v="bench"', b'v="waste_basket"').replace(b'v="Mill Lane"', b'v="Lane"').replace(b'<way id="10"', b'<way id="10" action="modify"'), text)
+        self.assertEqual(plan.problems, ['n4 has version 4 there, and the session began from version 5', 'w10 has version 2 there, and the session began from version 3'])
+
     def test_an_upload_lies_between(self):
         text = town(*self.LINES)
         sent = sessions.ran(['resume s.saved', 'upload 1', 'confirm answers.txt', 'save'], s_saved=text, answers_txt='create n-1 n901 v1\n').saved()
+        self.assertEqual((josm(sent, written(text), text).problems, josm(sent, written(text), text).lines), ([], []))
+        self.assertEqual(josm(sent, written(text).replace(b'v="Mill Lane"', b'v="Lane"'), text).lines, ['tag w10 Tname=Lane'])
         self.assertEqual(josm(sent, written(text).replace(b'v="bench"', b'v="waste_basket"'), text).problems[:1], [
             "n-1 isn't new in this session: the document was written from another one, or before an upload"])
 

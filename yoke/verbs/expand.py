@@ -23,9 +23,12 @@ def add_arguments(parser):
 
 
 def run(arguments):
-    lines = grammar.lines_of(files.data_of(arguments.script).decode('utf-8-sig', 'surrogateescape'))
+    try:
+        lines = grammar.lines_of(files.data_of(arguments.script).decode('utf-8-sig'))
+    except UnicodeDecodeError as error:
+        raise Trouble('{} isn\'t UTF-8, from byte {} on'.format(arguments.script, error.start)) from None
     expanded = expand(arguments.script, lines, arguments.next or first_number(lines))
-    print(''.join(line + '\n' for line in expanded.lines).encode('utf-8', 'surrogateescape').decode('utf-8', 'replace'), end='')
+    print(''.join(line + '\n' for line in expanded.lines), end='')
     return 0
 
 
