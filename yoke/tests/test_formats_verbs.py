@@ -158,7 +158,7 @@ class Verbs(FolderTest):
     @unittest.skipUnless(sessions.has_program(), 'the program itself knows which lines are none')
     def test_do_says_what_is_wrong_with_a_line(self):
         self.write('a.script', 'print\ntag n1 ref=7\n')
-        self.assertIn('a.script:2: ref=7 has no T before it: tags are Tkey=value, or T alone; right is: tag n1 Tref=7; yoke lint', self.yoke('do', 'a.script', code=1))
+        self.assertIn('a.script:2: no line of a script: tag n1 ref=7: ref=7 has no T before it: tags are Tkey=value, or T alone; right: tag n1 Tref=7 (yoke lint', self.yoke('do', 'a.script', code=1))
 
     def test_expand(self):
         self.write('a.script', 'node x1 y1 T as a\ntag a T\n')

@@ -62,7 +62,9 @@ def perform(session, name, expanded, arguments):
 def cause(lines, bad):
     """What is wrong with a bad line, and what is right."""
     found = next((one for one in lint.findings(lines) if one.line == bad.line), None)
-    return '{}; right is: {}; yoke lint names all such lines'.format(found.cause, words.cut(found.right)) if found else str(bad)
+    if found is None:
+        return str(bad)
+    return 'no line of a script: {}: {}; right: {} (yoke lint names all)'.format(words.cut(lines[bad.line - 1]), found.cause, words.cut(found.right))
 
 
 def before(lines, number):
