@@ -1,4 +1,4 @@
-"""The grammar of scripts agrees with the program on every line, and bad lines are mended as docs/REFUSALS.md has it."""
+"""The grammar of scripts agrees with the program and its definitions on every line; bad lines are mended as docs/REFUSALS.md has it."""
 import os
 import pathlib
 import random
@@ -8,7 +8,7 @@ import tempfile
 import unittest
 
 from yoke.scripts import grammar, lint, mends
-from yoke.tests import sessions, support
+from yoke.tests import definitions, sessions, support
 
 GOOD = """\
 download town.opl
@@ -154,34 +154,44 @@ class Grammar(unittest.TestCase):
         for line in GOOD[:-1] + MEETING:
             self.assertTrue(grammar.is_skipped(line) or grammar.check_line(line) in grammar.FORMS, line)
 
-    @unittest.skipUnless(sessions.has_program(), 'the program itself knows which lines are none')
-    def test_agrees_with_the_program_line_by_line(self):
-        dice, program, bad = random.Random(20), Program(self), 0
-        for line in GOOD + list(mutations(dice, int(os.environ.get('YOKE_LINES', '2500')))):
-            for before in ([''] if line not in MEETING else ['serve a\n', '']):
+    def line_by_line(self, want, number):
+        """Good lines and mutations of them, each alone and some in a meeting: the first bad line is the one that is wanted."""
+        bad = 0
+        for line in GOOD + list(mutations(random.Random(20), number)):
+            for before in ['', 'serve a\n']:
                 data = bytes_of(before + line)
-                want = program.first_bad(data)
-                self.assertEqual((first_bad(data), data), (want, data))
-                bad += want > 0
-        self.assertGreater(bad, 500)
+                expected = want(data)
+                self.assertEqual((first_bad(data), data), (expected, data))
+                bad += expected > 0
+        self.assertGreater(bad, number // 3)
 
-    @unittest.skipUnless(sessions.has_program(), 'the program itself knows which lines are none')
-    def test_agrees_with_the_program_on_where_lines_stand(self):
-        dice, program, bad = random.Random(21), Program(self), 0
+    def where_they_stand(self, want, number):
+        """Scripts of good lines, some of which may not stand where they do."""
+        dice, bad = random.Random(21), 0
         lines = [line for line in GOOD if not line.startswith('find')] + MEETING * 2 + ['begin', 'end', 'begin', 'end'] * 3
-        for _ in range(400):
+        for _ in range(number):
             script = ['serve a'] * dice.randrange(2) + [dice.choice(lines) for _ in range(dice.randint(1, 7))]
             data = bytes_of(dice.choice(['\n', '\r\n']).join(script) + dice.choice(['', '\n']))
-            want = program.first_bad(data)
-            self.assertEqual((first_bad(data), data), (want, data))
-            bad += want > 0
-        self.assertGreater(bad, 100)
+            expected = want(data)
+            self.assertEqual((first_bad(data), data), (expected, data))
+            bad += expected > 0
+        self.assertGreater(bad, number // 4)
+
+    def test_agrees_with_the_definitions(self):
+        self.line_by_line(definitions.first_bad, 2500)
+        self.where_they_stand(definitions.first_bad, 500)
+
+    @unittest.skipUnless(sessions.has_program(), 'the program itself isn\'t there')
+    def test_agrees_with_the_program(self):
+        program = Program(self)
+        self.line_by_line(program.first_bad, int(os.environ.get('YOKE_LINES', '1200')))
+        self.where_they_stand(program.first_bad, 400)
 
     def test_queries_of_many_words(self):
         for words, is_good in [(['not'] * 64 + ['way'], True), (['not'] * 65 + ['way'], False), (['('] * 64 + ['way'] + [')'] * 64, True),
                                (['way', 'and'] * 499 + ['way'], True), (['way', 'and'] * 500 + ['way'], False), (['not', 'way', 'and'] * 100 + ['way'], True)]:
             data = ('find ' + ' '.join(words)).encode()
-            self.assertEqual(first_bad(data) == 0, is_good)
+            self.assertEqual((first_bad(data) == 0, definitions.first_bad(data) == 0), (is_good, is_good))
             if sessions.has_program():
                 self.assertEqual(Program(self).first_bad(data) == 0, is_good)
 
