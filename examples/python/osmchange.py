@@ -4,7 +4,7 @@
 OUTPUT is what a session wrote, of which the last `upload` counts; CHUNK is the number of one of its chunks, from 1 on;
 CHANGESET is the id of the changeset that the chunk is to go into. The changes keep the order that `upload` gave them,
 and new objects their placeholders. Nothing is sent. Where there is no such chunk, or where a text has a character that
-XML can't carry, it says so and ends with 1.
+XML or the API can't carry, it says so and ends with 1.
 """
 import re
 import sys
@@ -13,15 +13,15 @@ from itertools import groupby
 from changes import element
 from session import parse_chunks, upload_lines
 
-NO_XML = re.compile('[^\t\n\r -\ud7ff\ue000-\ufffd\U00010000-\U0010ffff]')
+NOT_CARRIED = re.compile('[^\t\n\r -~\x80-\ud7ff\ue000-\ufffd\U00010000-\U0010ffff]')      # by XML, and U+007F, which the API refuses
 
 
 def carried(changes):
-    """The pairs of verb and object themselves; ValueError where a text of theirs has a character that XML can't carry."""
+    """The pairs of verb and object themselves; ValueError where a text of theirs has a character that XML or the API can't carry."""
     for verb, thing in changes:
-        found = NO_XML.search(' '.join([*thing.tags, *thing.tags.values(), *(role for _, role in thing.members)]))
+        found = NOT_CARRIED.search(' '.join([*thing.tags, *thing.tags.values(), *(role for _, role in thing.members)]))
         if found:
-            raise ValueError('{} {}: a text has U+{:04X}, which XML can\'t carry'.format(verb, thing.key, ord(found[0])))
+            raise ValueError('{} {}: a text has U+{:04X}, which XML or the API can\'t carry'.format(verb, thing.key, ord(found[0])))
     return changes
 
 

@@ -347,6 +347,7 @@ class Uploads(unittest.TestCase):
                 (['tag n1 Tname=a', 'upload 10'], 2, 'no chunk 2, only 1'),
                 (['tag n1 Tname=a%1%', 'upload 10'], 1, r'modify n1: .* U\+0001'),
                 (['tag n1 Ta%fffe%=a', 'upload 10'], 1, r'modify n1: .* U\+FFFE'),
+                (['tag n1 Ta=b%7f%', 'upload 10'], 1, r'modify n1: .* U\+007F'),
                 (['relation T Mn1@%1f%', 'upload 10'], 1, r'create r-1: .* U\+001F')]:
             script = Script()
             script.download('monday.opl')

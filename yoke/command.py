@@ -1,0 +1,73 @@
+"""The command line: the words common to all verbs, the choice of a verb, and exit codes.
+
+A verb raises `Trouble` for whatever it can't do; here that becomes one line on the error stream and an exit code. The
+codes are those of `yoke/trouble.py`, with 0 for done, 130 where the user broke off, and 70 for a fault of `yoke` itself.
+"""
+import argparse
+import os
+import sys
+
+from yoke import VERSION, verbs
+from yoke.progress import note
+from yoke.trouble import Trouble
+
+CODES = """exit codes:
+  0 done   1 refused, nothing was kept   2 wrong words   3 a file, a folder or the program   4 somebody was faster, or a
+  conflict stands   5 no answer of the server: run it again   6 the server refuses   7 another yoke works in the folder
+docs/COMPANION.md tells of each verb, and what to do at each fault."""
+
+
+def parser():
+    """The parser of all words: each verb adds its own."""
+    top = argparse.ArgumentParser(prog='yoke', description='A mapper\'s day with editor, from extracts to what is sent.',
+                                  epilog=CODES, formatter_class=argparse.RawDescriptionHelpFormatter)
+    top.add_argument('--version', action='version', version='yoke ' + VERSION)
+    chosen = top.add_subparsers(dest='verb', metavar='VERB', required=True)
+    for name in verbs.NAMES:
+        verb = verbs.load(name)
+        one = chosen.add_parser(name, help=verb.SUMMARY, description=verb.SUMMARY[0].upper() + verb.SUMMARY[1:] + '.',
+                                epilog=getattr(verb, 'DETAILS', None), formatter_class=argparse.RawDescriptionHelpFormatter)
+        common(one)
+        verb.add_arguments(one)
+        one.set_defaults(run=verb.run)
+    return top
+
+
+def common(one):
+    """The options that each verb has."""
+    group = one.add_argument_group('the day and the program')
+    group.add_argument('--day', metavar='FOLDER', default=os.environ.get('YOKE_DAY') or 'day',
+                       help='the folder of the day ($YOKE_DAY, else day)')
+    group.add_argument('--program', metavar='PROGRAM', help='the program editor ($YOKE_EDITOR, else yokeorange on the path)')
+    group.add_argument('--max-objects', metavar='N', type=int, help='as the option of editor: objects in the session')
+
+
+def main(words=None):
+    """Runs a verb; answers with the exit code."""
+    arguments = parser().parse_args(words)
+    try:
+        code = arguments.run(arguments)
+        sys.stdout.flush()
+        return code
+    except Trouble as trouble:
+        complain(trouble)
+        return trouble.code
+    except BrokenPipeError:
+        os.dup2(os.open(os.devnull, os.O_WRONLY), sys.stdout.fileno())     # so that nothing is flushed into it at the end
+        return 3
+    except OSError as error:
+        complain(error)
+        return 3
+    except KeyboardInterrupt:
+        complain('broken off; the same command again goes on from what is kept')
+        return 130
+    except Exception as fault:
+        if os.environ.get('YOKE_TRACE'):
+            raise
+        complain('a fault of yoke itself, which you may report with what $YOKE_TRACE=1 shows: {}: {}'.format(type(fault).__name__, fault))
+        return 70
+
+
+def complain(text):
+    """One line on the error stream, after what was written before."""
+    note(' '.join(str(text).split('\n')))

@@ -1,0 +1,171 @@
+"""The folder of a day: kept sessions, what was sent and answered, and one `yoke` at a time.
+
+| file | what it is |
+|---|---|
+| `N-VERB.saved` | the N-th session kept, by the verb that made it; the one with the highest number is the session |
+| `N-VERB.undone` | one that `yoke undo` took back |
+| `N.osc` | what was sent, or is about to be sent, of session N: written before it goes out |
+| `N.answer` | what the server answered to it; `N.answers` is the same for `confirm` |
+| `changeset` | the changeset that is open |
+| `server` | the address of the server that this day belongs to |
+| `lock` | held by the `yoke` that works here |
+
+Each file appears whole or not at all: it is written under another name, brought to the disk, and then renamed, and the
+folder is brought to the disk after that. So what a later step rests on is there after a loss of power too.
+"""
+import contextlib
+import fcntl
+import os
+import pathlib
+import re
+from dataclasses import dataclass
+
+from yoke.trouble import Busy, Refused, Trouble
+
+NAME = re.compile('([0-9]+)-([a-z-]+)\\.(saved|undone)')
+LAST = 3        # sessions that are kept of those that nothing goes back to any more
+BACK = 20       # sessions to which `undo` can go back, counted from the last
+
+
+@dataclass(frozen=True)
+class State:
+    """A session that was kept: its number, the verb that made it, and its file."""
+
+    number: int
+    verb: str
+    path: pathlib.Path
+
+    def text(self):
+        """The saved session."""
+        return self.path.read_text(encoding='utf-8')
+
+
+class Day:
+    """The folder of a day. Looking needs no lock; whatever writes stands in `with day.locked():`."""
+
+    def __init__(self, folder):
+        self.folder = pathlib.Path(folder)
+
+    # ---- sessions ----
+
+    def states(self, ending='saved'):
+        """The kept sessions by number, or with the ending `undone` those that were taken back."""
+        found = (NAME.fullmatch(path.name) for path in self.folder.glob('*.' + ending))
+        return sorted((State(int(name[1]), name[2], self.folder / name[0]) for name in found if name), key=lambda state: state.number)
+
+    def last(self):
+        """The session as it is now; Trouble where there is none."""
+        states = self.states()
+        if not states:
+            raise Trouble('there is no session in {}: yoke start EXTRACT begins one'.format(self.folder))
+        return states[-1]
+
+    def keep(self, verb, text):
+        """Keeps a session as the last one; answers with its State."""
+        number = max((state.number for state in self.states() + self.states('undone')), default=0) + 1
+        state = State(number, verb, self.folder / '{:06}-{}.saved'.format(number, verb))
+        self.write(state.path.name, text)
+        self._forget()
+        return state
+
+    def take_back(self):
+        """Takes the last session back; answers with it. Refused where nothing lies before, or where it was sent."""
+        states = self.states()
+        if len(states) < 2:
+            raise Refused('there is nothing to take back: this session is the first')
+        if states[-1].verb == 'send':
+            raise Refused('the last session was kept after the server took a chunk; that can\'t be taken back here, only by new edits')
+        if self.pending():
+            raise Refused('it isn\'t known yet what the server took of {}: yoke send looks'.format(self.pending()))
+        last = states[-1]
+        os.rename(last.path, last.path.with_suffix('.undone'))
+        self._sync()
+        return last
+
+    def _forget(self):
+        """Removes sessions to which nothing goes back: all but the first, the last ones, and those since a chunk was sent."""
+        states = self.states()
+        sent = max((at for at, state in enumerate(states) if state.verb == 'send'), default=0)
+        first = max(min(sent, len(states) - LAST), len(states) - BACK)
+        for state in states[1:first] + self.states('undone')[:-LAST]:
+            state.path.unlink()
+
+    # ---- what is sent ----
+
+    def path(self, name):
+        """The path of a file of this folder."""
+        return self.folder / name
+
+    def beside(self, state, ending):
+        """The name of a file that belongs to a session: `osc`, `answer` or `answers`."""
+        return '{:06}.{}'.format(state.number, ending)
+
+    def pending(self):
+        """The name of the document of which it isn't known whether the server took it; None where there is none."""
+        states = self.states()
+        name = self.beside(states[-1], 'osc') if states else None
+        return name if name and self.path(name).exists() else None
+
+    # ---- files ----
+
+    def read(self, name):
+        """The text of a file of this folder; None where there is none."""
+        try:
+            return self.path(name).read_text(encoding='utf-8')
+        except FileNotFoundError:
+            return None
+
+    def write(self, name, text):
+        """Writes a file of this folder, whole or not at all; when this returns it is on the disk."""
+        write_whole(self.path(name), text)
+
+    def remove(self, name):
+        """Removes a file of this folder, if it is there; when this returns it is gone from the disk."""
+        with contextlib.suppress(FileNotFoundError):
+            self.path(name).unlink()
+        self._sync()
+
+    def rename(self, name, other):
+        """Gives a file of this folder another name; when this returns it is so on the disk."""
+        os.rename(self.path(name), self.path(other))
+        self._sync()
+
+    def _sync(self):
+        sync_folder(self.folder)
+
+    @contextlib.contextmanager
+    def locked(self, make=False):
+        """Holds the folder for this process alone; Busy where another one does. `make` makes the folder where it isn't there."""
+        if make:
+            self.folder.mkdir(parents=True, exist_ok=True)
+        if not self.folder.is_dir():
+            raise Trouble('there is no folder {}: yoke start EXTRACT makes it'.format(self.folder))
+        with open(self.path('lock'), 'a') as lock:
+            try:
+                fcntl.flock(lock, fcntl.LOCK_EX | fcntl.LOCK_NB)
+            except OSError:
+                raise Busy('another yoke works in {}'.format(self.folder)) from None
+            for path in self.folder.glob('*.new'):      # begun by one that was stopped; nothing rests on them
+                path.unlink()
+            yield self
+
+
+def write_whole(path, text):
+    """Writes a file whole or not at all: what stood there before stands there until the new text is on the disk."""
+    path = pathlib.Path(path)
+    new = path.with_name(path.name + '.new')
+    with open(new, 'w', encoding='utf-8', newline='\n') as file:
+        file.write(text)
+        file.flush()
+        os.fsync(file.fileno())
+    os.replace(new, path)
+    sync_folder(path.parent)
+
+
+def sync_folder(folder):
+    """Brings the names in a folder to the disk."""
+    handle = os.open(folder, os.O_RDONLY | os.O_DIRECTORY)
+    try:
+        os.fsync(handle)
+    finally:
+        os.close(handle)

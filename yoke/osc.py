@@ -1,0 +1,201 @@
+"""The XML of API 0.6: osmChange documents, what a server answers to them, and its elements as objects.
+
+A change is a pair of a verb (`create`, `modify` or `delete`) and an `opl.Object`; of a `delete` only key and version count.
+"""
+import re
+from decimal import Decimal, InvalidOperation
+from itertools import groupby
+from xml.etree import ElementTree
+from xml.sax.saxutils import quoteattr
+
+from yoke import opl
+
+VERBS = ('create', 'modify', 'delete')
+NOT_CARRIED = re.compile('[^\t\n\r -~\x80-\ud7ff\ue000-\ufffd\U00010000-\U0010ffff]')     # of XML, and U+007F, which the API refuses
+
+
+class NotThere(ValueError):
+    """A changeset has none of the changes: they weren't taken."""
+
+
+class NoXml(ValueError):
+    """A text isn't the document that it is taken for: cut off, or another one."""
+
+
+# ---- written ----
+
+def document(changes, changeset):
+    """The osmChange document of changes that go into a changeset, in their order. ValueError where the API doesn't take a text."""
+    lines = ['<osmChange version="0.6" generator="yokeorange">']
+    for verb, group in groupby(changes, key=lambda change: change[0]):
+        lines.append('  <{}>'.format(verb))
+        for _, thing in group:
+            lines += element_lines(thing, changeset, verb)
+        lines.append('  </{}>'.format(verb))
+    return '\n'.join(lines + ['</osmChange>']) + '\n'
+
+
+def element_lines(thing, changeset, verb):
+    """The lines of an object in an osmChange document."""
+    carried(thing)
+    words = ['id="{}"'.format(thing.key[1:]), 'version="{}"'.format(thing.version), 'changeset="{}"'.format(changeset)]
+    if verb == 'delete':
+        return ['    <{} {}/>'.format(thing.kind, ' '.join(words))]
+    if thing.lon is not None:
+        words += ['lat="{}"'.format(opl.degrees(thing.lat)), 'lon="{}"'.format(opl.degrees(thing.lon))]
+    inner = ['      <nd ref="{}"/>'.format(node[1:]) for node in thing.nodes]
+    inner += ['      <member type="{}" ref="{}" role={}/>'.format(opl.KINDS[key[0]], key[1:], attribute(role)) for key, role in thing.members]
+    inner += ['      <tag k={} v={}/>'.format(attribute(key), attribute(value)) for key, value in thing.tags.items()]
+    return ['    <{} {}>'.format(thing.kind, ' '.join(words))] + inner + ['    </{}>'.format(thing.kind)]
+
+
+def carried(thing):
+    """ValueError where a text of an object has a character that the API doesn't take, such as U+0001."""
+    found = NOT_CARRIED.search(' '.join([*thing.tags, *thing.tags.values(), *(role for _, role in thing.members)]))
+    if found:
+        raise ValueError('{}: a text has U+{:04X}, which the API doesn\'t take: take it out by tag or members'.format(thing.key, ord(found[0])))
+
+
+def attribute(text):
+    """A text as the value of an attribute, in quotes; line feeds and tabs stay what they are."""
+    return quoteattr(text, {'\n': '&#10;', '\r': '&#13;', '\t': '&#9;'})
+
+
+def changeset(tags):
+    """The document that opens a changeset with these tags."""
+    inner = ['    <tag k={} v={}/>'.format(attribute(key), attribute(value)) for key, value in tags.items()]
+    return '\n'.join(['<osm>', '  <changeset>'] + inner + ['  </changeset>', '</osm>']) + '\n'
+
+
+# ---- read ----
+
+def root_of(text, *names):
+    """The root element of a document, whose name has to be one of these; NoXml where it isn't."""
+    try:
+        root = ElementTree.fromstring(text)
+    except ElementTree.ParseError:
+        raise NoXml('it is no whole XML: ' + ' '.join(text[:80].split())) from None
+    if root.tag not in names:
+        raise NoXml('it is <{}>, and no <{}>'.format(root.tag, '> or <'.join(names)))
+    return root
+
+
+def thing(element):
+    """The object of an element `<node>`, `<way>` or `<relation>`; NoXml where it is none. Places have seven digits after the point."""
+    try:
+        key = opl.LETTERS[element.tag] + element.get('id')
+        deleted = element.get('visible') == 'false'
+        place = [None, None] if deleted or element.tag != 'node' or element.get('lon') is None else [
+            Decimal(opl.degrees(Decimal(element.get(name)))) for name in ('lon', 'lat')]
+        return opl.Object(
+            key, int(element.get('version') or 0), deleted, int(element.get('changeset') or 0), element.get('timestamp') or '',
+            int(element.get('uid') or 0), element.get('user') or '', {tag.get('k'): tag.get('v') for tag in element.iter('tag')}, *place,
+            tuple('n' + node.get('ref') for node in element.iter('nd')),
+            tuple((opl.LETTERS[member.get('type')] + member.get('ref'), member.get('role') or '') for member in element.iter('member')))
+    except (KeyError, TypeError, ValueError, InvalidOperation):
+        raise NoXml('<{} id="{}"> is no object'.format(element.tag, element.get('id'))) from None
+
+
+def things(text):
+    """The objects of an `<osm>` document, deleted ones too, in its order."""
+    return [thing(element) for element in root_of(text, 'osm') if element.tag in opl.LETTERS]
+
+
+def changes(text):
+    """The changes of an osmChange document, in its order."""
+    found = []
+    for part in root_of(text, 'osmChange'):
+        if part.tag not in VERBS:
+            raise NoXml('<{}> is no change'.format(part.tag))
+        found += [(part.tag, thing(element)) for element in part]
+    return found
+
+
+def changeset_of(text):
+    """The id of the changeset that an osmChange document of ours is made for."""
+    found = re.search(' changeset="([0-9]+)"', text)
+    if not found:
+        raise NoXml('it names no changeset')
+    return found[1]
+
+
+# ---- answers ----
+
+def answers(sent, text):
+    """The lines of an answer file for `confirm`, of the diffResult that a server answered to changes.
+
+    ValueError where it doesn't answer each of them, in its own version, and no other.
+    """
+    results = {}
+    for line in root_of(text, 'diffResult'):
+        place = opl.LETTERS.get(line.tag, '?') + (line.get('old_id') or ''), line.get('new_id') is None
+        if place[0][0] == '?' or place in results:
+            raise NoXml('<{} old_id="{}"> is the result of no change, or a second one'.format(line.tag, line.get('old_id')))
+        results[place] = line
+    lines = []
+    for verb, one in sent:
+        result = results.pop((one.key, verb == 'delete'), None)
+        if result is None:
+            raise NoXml('{} {} has no result'.format(verb, one.key))
+        lines.append(answer(verb, one, result))
+    if results:
+        raise NoXml('{} has a result, and isn\'t among what was sent'.format(next(iter(results))[0]))
+    return lines
+
+
+def answer(verb, one, result):
+    """The answer to one change, of its line in a diffResult."""
+    if verb == 'delete':
+        return 'delete {} v{}'.format(one.key, one.version + 1)
+    key, version = one.key[0] + (result.get('new_id') or ''), result.get('new_version')
+    if version != str(one.version + 1) or not re.fullmatch('[nwr][1-9][0-9]*', key) or verb == 'modify' and key != one.key:
+        raise NoXml('{} {} is {} in version {} now'.format(verb, one.key, key, version))
+    return 'create {} {} v1'.format(one.key, key) if verb == 'create' else 'modify {} v{}'.format(key, version)
+
+
+def result(sent):
+    """The diffResult of changes and deletions that were taken, made here where the server's own never came."""
+    lines = ['<diffResult version="0.6" generator="yoke">']
+    for verb, one in sent:
+        new = '' if verb == 'delete' else ' new_id="{}" new_version="{}"'.format(one.key[1:], one.version + 1)
+        lines.append('  <{} old_id="{}"{}/>'.format(one.kind, one.key[1:], new))
+    return '\n'.join(lines + ['</diffResult>']) + '\n'
+
+
+def looked_up(sent, text, given=()):
+    """The lines of an answer file, of what a changeset has (`GET changeset/ID/download`), where no diffResult came.
+
+    `given` are keys that the changeset gave to earlier changes: they answer none of these. A new object is the one with the
+    same tags and the same place, nodes or members; of several alike the first gets the first id. NotThere where the
+    changeset has none of the changes, ValueError where it has some of them alone, which no server does.
+    """
+    there, made = {}, {}
+    for verb, one in changes(text):
+        if verb == 'create' and one.key not in given:
+            made.setdefault(body(one, {}), []).append(one.key)
+        there[verb, one.key, one.version] = one
+    for keys in made.values():
+        keys.sort(key=opl.rank, reverse=True)
+    lines, missing, names = [], [], {}
+    for verb, one in sent:
+        if verb == 'create':
+            keys = made.get(body(one, names))
+            line = keys and 'create {} {} v1'.format(one.key, keys[-1])
+            if keys:
+                names[one.key] = keys.pop()
+        else:
+            found = there.get((verb, one.key, one.version + 1))
+            alike = found is not None and (verb == 'delete' or body(found, {}) == body(one, names))
+            line = alike and '{} {} v{}'.format(verb, one.key, one.version + 1)
+        (lines if line else missing).append(line or '{} {}'.format(verb, one.key))
+    if missing and lines:
+        raise ValueError('it has some of the changes and not others: not {}, and {}'.format(missing[0], lines[0]))
+    if missing:
+        raise NotThere('it has none of the changes')
+    return lines
+
+
+def body(one, names):
+    """What an object has but for its id, as something to compare; `names` are the keys that new objects got."""
+    return (one.key[0], tuple(sorted(one.tags.items())), one.lon, one.lat,
+            tuple(names.get(key, key) for key in one.nodes), tuple((names.get(key, key), role) for key, role in one.members))

@@ -1,0 +1,163 @@
+"""Runs the program `editor` over the lines of a script, and reads what it writes.
+
+    answer = Program.of(arguments).run(['download town.opl', 'tag n1 Tref=7', 'save'])
+    for reply in answer.refused(): ...
+    text = answer.saved()
+
+The program is `--program`, else $YOKE_EDITOR, else `yokeorange` on the path.
+"""
+import os
+import re
+import shutil
+import subprocess
+import tempfile
+from dataclasses import dataclass, field
+from typing import List
+
+from yoke import opl, words
+from yoke.trouble import Trouble
+
+LARGEST_FILE = 1073741824       # bytes: the most that editor allows, since a saved session is longer than its extract
+REPLY = re.compile('([0-9]+) (ok|refused|skipped)(?: (.*))?')
+
+
+class BadLine(Trouble):
+    """The script has a line that is none, so nothing was run (status 4 of editor). `line` is its number, from 1."""
+
+    code = 1
+
+    def __init__(self, message, line):
+        super().__init__(message)
+        self.line = line
+
+
+@dataclass
+class Reply:
+    """The reply to a step: the number of its line, `ok`, `refused` or `skipped`, what follows, and the lines of text after it."""
+
+    line: int
+    word: str
+    rest: str
+    step: str
+    text: List[str] = field(default_factory=list)
+
+    @property
+    def number(self):
+        """The number of a refusal."""
+        return int(self.rest.split(' ')[0])
+
+    @property
+    def verb(self):
+        """The word with which the step begins."""
+        return re.split('[ \t]', self.step, maxsplit=1)[0]
+
+    def made(self):
+        """The keys of the objects that an accepted step made."""
+        return self.rest.split(',') if self.word == 'ok' and self.rest else []
+
+
+class Answer:
+    """The replies to a script, in order."""
+
+    def __init__(self, output, lines):
+        self.replies = []
+        for text in output.split('\n')[:-1]:
+            found = REPLY.fullmatch(text) if text[:1].isdigit() else None
+            if found:
+                self.replies.append(Reply(int(found[1]), found[2], found[3] or '', lines[int(found[1]) - 1]))
+            else:
+                self.replies[-1].text.append(text)
+
+    def refused(self):
+        """The replies of refused steps. Steps of a group that were skipped aren't among them."""
+        return [reply for reply in self.replies if reply.word == 'refused']
+
+    def last(self, verb):
+        """The reply to the last step with this verb; None where there is none."""
+        return next((reply for reply in reversed(self.replies) if reply.verb == verb), None)
+
+    def text(self, verb):
+        """The lines that the last step with this verb wrote; none where it was refused."""
+        reply = self.last(verb)
+        return reply.text if reply else []
+
+    def saved(self):
+        """The text of the last `save`, as a file for `resume` has it; Trouble where it isn't whole."""
+        lines = self.text('save')
+        if not lines or lines[-1] != 'session end':
+            raise Trouble('the session wrote no whole `save`')
+        return '\n'.join(lines) + '\n'
+
+    def counts(self):
+        """The numbers of the last `count` by their names, such as `changed`."""
+        found = ' '.join(self.text('count')).split(' ')[1:]
+        return dict(zip(found[::2], map(int, found[1::2])))
+
+    def found(self):
+        """The keys of the last `find`."""
+        return self.text('find')[1:]
+
+    def upload_size(self):
+        """How many changes the last `upload` has; 0 where it was refused."""
+        lines = self.text('upload')
+        return int(lines[0].split(' ')[2]) if lines else 0
+
+    def first_chunk(self):
+        """The changes of the first chunk of the last `upload`: pairs of a verb (`create`, `modify`, `delete`) and an Object.
+
+        Of a `delete` the object has key and version alone. None where nothing is left; Trouble where the text is cut off.
+        """
+        lines, size, found = self.text('upload'), self.upload_size(), []
+        if lines and len(lines) != 1 + size + sum(line.startswith('chunk ') for line in lines):
+            raise Trouble('the session wrote no whole `upload`')
+        for text in lines[2:]:
+            verb, rest = text.split(' ', 1)
+            if verb == 'chunk':
+                break
+            found.append((verb, opl.parse(rest)))
+        return found
+
+
+@dataclass(frozen=True)
+class Program:
+    """The program `editor`, by the path of its file."""
+
+    path: str
+    max_objects: int = 0
+
+    @classmethod
+    def of(cls, arguments):
+        """The program that the words of a command line name; Trouble where there is none."""
+        name = arguments.program or os.environ.get('YOKE_EDITOR') or 'yokeorange'
+        found = shutil.which(name)
+        if found is None:
+            raise Trouble('there is no program {}: name it by --program or $YOKE_EDITOR, or put it on the path as yokeorange'.format(name))
+        return cls(os.path.abspath(found), arguments.max_objects or 0)
+
+    def run(self, lines):
+        """The Answer to a script, with its refusals in it. File names in it are seen from the folder where Python runs.
+
+        Raises BadLine where a line is none, and Trouble where the session didn't run to its end for another reason.
+        """
+        if any('\n' in line for line in lines):
+            raise ValueError('a line of a script with a line feed in it')
+        options = ['--max-file={}'.format(LARGEST_FILE)] + (['--max-objects={}'.format(self.max_objects)] if self.max_objects else [])
+        with tempfile.TemporaryDirectory(prefix='yoke-') as folder:
+            path = os.path.join(folder, 'script')
+            with open(path, 'w', encoding='utf-8', newline='\n') as script:
+                script.writelines(line + '\n' for line in lines)
+            done = subprocess.run([self.path, *options, path], stdout=subprocess.PIPE, stderr=subprocess.PIPE)
+        if done.returncode != 0:
+            self._stopped(done, lines)
+        try:
+            return Answer(done.stdout.decode('utf-8'), lines)
+        except (UnicodeDecodeError, IndexError):
+            raise Trouble('{} is no program editor: its output has no replies'.format(self.path)) from None
+
+    def _stopped(self, done, lines):
+        message = done.stderr.decode('utf-8', 'replace').strip()
+        found = re.search('bad script line ([0-9]+)$', message)
+        if done.returncode == 4 and found:
+            line = int(found[1])
+            raise BadLine(words.bad_line(lines[line - 1]), line)
+        raise Trouble(words.status(done.returncode, message))

@@ -1,0 +1,70 @@
+"""A saved session, read without the program: of each object its base, what it is here, and what it is in conflict with.
+
+The lines are those that `save` writes (docs/GUIDE.md, "save, resume"). Of a large session most objects are only looked at
+by key, so a line is taken apart when it is asked for.
+"""
+from yoke import opl
+from yoke.trouble import Trouble
+
+
+class Known:
+    """An object of a session, by its key.
+
+    `base` is the version of the server from which the edits began: None of a new object, and marked deleted where the
+    server deleted it. `mine` is what the object is here: None where it is deleted here or on the server. `conflict` is
+    `none`, `changed`, `held` or `withdrawn`, and `theirs` the version of the server that it is in conflict with, else None.
+    """
+
+    def __init__(self, key, conflict):
+        self.key, self.conflict = key, conflict
+        self._lines, self._same = {}, False
+
+    def _part(self, name):
+        found = self._lines.get(name)
+        if isinstance(found, str):
+            found = self._lines[name] = opl.parse(found)
+        return found
+
+    @property
+    def base(self):
+        return self._part('base')
+
+    @property
+    def mine(self):
+        return self.there if self._same else self._part('mine')
+
+    @property
+    def theirs(self):
+        return self._part('theirs')
+
+    @property
+    def there(self):
+        """The base where the server has it as living, else None."""
+        return self.base if self.base and not self.base.deleted else None
+
+    @property
+    def edit(self):
+        """`new`, `changed` or `deleted`; None where nothing was edited. This is what `count` counts as changed."""
+        if 'base' not in self._lines:
+            return 'new'
+        if self._same:
+            return None
+        if self.mine is None:
+            return 'deleted' if self.there else None
+        return None if self.there and self.there.content == self.mine.content else 'changed'
+
+
+def read(text):
+    """The objects of a saved session, Known by key, by rank; Trouble where the text is none. Incomplete ones aren't in it."""
+    things, thing = {}, None
+    if not text.startswith('session 1 ') or not text.endswith('session end\n'):
+        raise Trouble('it is no whole saved session')
+    for line in text.split('\n'):
+        word, _, rest = line.partition(' ')
+        if word == 'known':
+            key, _, mine, conflict = rest.split(' ')
+            things[key] = thing = Known(key, conflict)
+            thing._same = mine == 'same'
+        elif word in ('base', 'mine', 'theirs'):
+            thing._lines[word] = rest
+    return things

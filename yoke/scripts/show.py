@@ -1,0 +1,60 @@
+"""One object as a reader wants to see it: its sides, what differs between them, and who uses it."""
+from typing import Iterator
+
+from yoke import opl, sides
+from yoke.table import Table
+
+
+def lines(table: Table, key: str) -> Iterator[str]:
+    """The lines that show an object; none where the session doesn't know it."""
+    known = table.things.get(key)
+    if known is None:
+        if key in table.incomplete:
+            yield '{}: only referred to, not downloaded'.format(key)
+            yield from _users(table, key)
+        return
+    yield '{}: {}'.format(key, _state(known))
+    for name, side in (('base', known.base), ('mine', known.mine if known.edit else None), ('theirs', known.theirs)):
+        if side is not None:
+            yield from _side(name, side)
+    if known.edit and known.edit != 'new':
+        yield from ('changed  ' + change for change in (sides.change(known.there, known.mine) if known.there and known.mine else []))
+    yield from _users(table, key)
+    yield from _references(table, known.mine or known.there)
+
+
+def _state(known) -> str:
+    words = {'new': 'new here', 'changed': 'changed here', 'deleted': 'deleted here', None: 'as the server has it' if known.there else 'deleted on the server'}
+    return words[known.edit] + ('' if known.conflict == 'none' else ', in conflict: ' + known.conflict)
+
+
+def _side(name: str, side: opl.Object) -> Iterator[str]:
+    """A side of an object, a part a line."""
+    head = 'version {}'.format(side.version) if name != 'mine' else ''
+    head += ' of {}'.format(side.time) if side.time else ''
+    head += ' by {}'.format(sides.plain(side.user)) if side.user else ''
+    head += ', changeset {}'.format(side.changeset) if side.changeset else ''
+    yield '{:8} {}'.format(name, (head + ', deleted' if side.deleted else head).strip() or 'what it is here').rstrip()
+    for tag, value in side.tags.items():
+        yield '    {} = {}'.format(sides.plain(tag), sides.plain(value))
+    if side.lon is not None:
+        yield '    place {} {}'.format(opl.degrees(side.lon), opl.degrees(side.lat))
+    if side.nodes:
+        yield '    nodes {}'.format(','.join(side.nodes))
+    for at, (member, role) in enumerate(side.members, 1):
+        yield '    member {} {}{}'.format(at, member, ' ' + sides.plain(role) if role else '')
+
+
+def _users(table: Table, key: str) -> Iterator[str]:
+    """The ways and relations that use the object, with the roles that it has there."""
+    for user in table.users(key):
+        thing = table.mine(user)
+        roles = sorted({role for member, role in thing.members if member == key and role})
+        yield 'used by  {}{}'.format(sides.title(thing), ', as ' + ','.join(map(sides.plain, roles)) if roles else '')
+
+
+def _references(table: Table, thing) -> Iterator[str]:
+    """What the object refers to and isn't there."""
+    missing = [key for key in dict.fromkeys(thing.references) if key in table.incomplete] if thing else []
+    if missing:
+        yield 'not downloaded: ' + ','.join(missing)

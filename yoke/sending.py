@@ -1,0 +1,376 @@
+"""Sends the edits of a day, so that nothing is lost and nothing is sent twice, wherever it ends.
+
+What is on disk tells where a send stands. `N` is the last session that was kept; `changeset` names the changeset that is
+open, and `N.osc`, `N.answer` and `N.answers` stand beside the session (`yoke/day.py`). Each file is whole and on the disk
+before the next call goes out, and each answer is on the disk before anything rests on it:
+
+| row | changeset | N.osc | N.answer | what it means | what the next start does |
+|---|---|---|---|---|---|
+| 1 | | | | nothing is under way. A changeset may be open at the server that nobody noted: its answer was lost. It is empty, and closes by itself | what is left to send goes into a new changeset |
+| 2 | C | | | C was opened, and nothing is on its way | asks whether C is open, and how full it is, and goes on in it; else closes it, and row 1 |
+| 3 | C | for C | | the document may be unsent, on its way, refused or taken: nobody knows | looks into C. Has C all of its changes: row 4. Has it none: closes C until the server says that it is closed, and looks again. Has C still none, and counts no more changes than were confirmed, the document was never taken and never will be: it goes, then the note of C, row 1 |
+| 4 | C | for C | yes | the document was taken, and this is how | makes `N.answers`, confirms them, and keeps session N + 1: row 2, of N + 1 |
+
+From row to row, in this order, of which each line is one write or one call:
+
+    1 -> 2   write server, the first time; PUT changeset/create; write changeset
+    2 -> 3   write N.osc; POST changeset/C/upload
+    3 -> 4   the answer is a diffResult of all changes: write N.answer
+    3 -> 2   the answer is a 4xx: the document wasn't taken, and C doesn't have it: remove N.osc
+    3 -> 1   no answer, or a 409 for the changeset: C is looked into and closed as above; remove N.osc; remove changeset
+    4 -> 2   write N.answers; write (N+1)-send.saved, by which N.osc is no longer beside the last session
+    2 -> 1   C is full, or nothing is left to send: PUT changeset/C/close; remove changeset
+
+Row 3 rests on two things that API 0.6 has: a document is taken whole or not at all, and nothing is taken into a changeset
+that is closed. The close is the fence: a document still at work at the server either ends before it, and then the second
+look sees it, or finds the changeset closed. So the same changes never go out again while the first time may still count.
+The look is at `changeset/C/download`; where that doesn't come, at the version that one of the changes would have made. How
+many changes a closed changeset counts says the same once more, and where the two don't agree nothing goes out.
+
+A new object has no version that would guard it, so row 3 is where another sender would make it twice; a change that names
+a version can't be taken twice at all.
+"""
+import enum
+import json
+import re
+from dataclasses import dataclass, field
+from typing import Dict, List, Optional
+
+from yoke import api, osc, words
+from yoke.api import Limits, Server
+from yoke.session import Session
+from yoke.trouble import Clash, NoAnswer, Refused, ServerRefused, Trouble
+
+CHUNK = 1000                # changes in a document, if not told otherwise
+SILENCES = 3                # documents in a row that got no answer and weren't taken, before a send ends
+WAITS = (10, 60)            # seconds between them
+FENCE_WAITS = (5, 15, 60)   # seconds in which a changeset that is closed may still be at work
+CLASHES = (409, 410, 412)   # somebody was faster
+
+
+class Outcome(enum.Enum):
+    """What became of a document. In each case but TAKEN it is gone from the disk, and what it had is still to be sent."""
+
+    TAKEN = 1
+    SILENT = 2      # no answer came, and it wasn't taken
+    AGAIN = 3       # another changeset or a smaller chunk is wanted
+
+
+@dataclass
+class Open:
+    """A changeset that is open: its id, its tags, and how many changes it has."""
+
+    number: str
+    tags: Dict[str, str]
+    count: int = 0
+
+
+@dataclass
+class Sending:
+    """One send: a session, a server, the tags for changesets, and how many changes a chunk may have.
+
+    `note` is called with lines of progress. After `run` `sent` is how many changes were taken, and `used` the changesets.
+    """
+
+    session: Session
+    server: Server
+    tags: Dict[str, str]
+    size: int = CHUNK
+    note: object = print
+    limits: Optional[Limits] = None
+    changeset: Optional[Open] = None
+    sent: int = 0
+    used: List[str] = field(default_factory=list)
+    unusable: int = 0       # changesets in a row that were refused before they had a change
+
+    @property
+    def day(self):
+        return self.session.day
+
+    def run(self):
+        """Sends until nothing is left; the folder of the day has to be locked.
+
+        Raises Clash, NoAnswer, ServerRefused or Refused; what was taken before that is kept.
+        """
+        check_server(self.day, self.server)
+        self.limits = self.server.limits()
+        if not self.limits.writable:
+            raise NoAnswer('{} takes no edits at present; send again later'.format(self.server.address))
+        self._take_up()
+        chunk, silences = self._next_chunk(), 0
+        while chunk:
+            if self.changeset is None:
+                self._open()
+            outcome = self._deliver(chunk)
+            if outcome is Outcome.TAKEN:
+                chunk, silences = self._confirm(), 0
+                continue
+            if outcome is Outcome.SILENT:
+                silences += 1
+                if silences == SILENCES:
+                    raise NoAnswer('no answer came to {} documents in a row, and none was taken; send again later'.format(silences))
+                api.pause(WAITS[silences - 1])
+            chunk = self._next_chunk()
+        self._close()
+
+    # ---- where it stands ----
+
+    def _take_up(self):
+        """Goes on from rows 2, 3 and 4 to row 1 or 2."""
+        self.changeset = noted(self.day)
+        if self.day.pending():
+            if self.changeset is None:
+                self.changeset = Open(osc.changeset_of(self._read('osc')), self.tags)
+            if self._read('answer') is not None or self._settle():
+                self._confirm()
+        if self.changeset:
+            self.changeset.count, is_open = self._looked_at()
+            if not is_open:
+                self._drop()
+            elif self.changeset.tags != self.tags or self.changeset.count >= self.limits.changes:
+                self._close()
+
+    def _looked_at(self):
+        """How many changes the changeset has, and whether it is open; one that the server doesn't know isn't."""
+        try:
+            return self.server.changeset(self.changeset.number)
+        except ServerRefused as refused:
+            if refused.status != 404:
+                raise
+            return 0, False
+
+    def _read(self, ending):
+        return self.day.read(self.day.beside(self.day.last(), ending))
+
+    def _write(self, ending, text):
+        self.day.write(self.day.beside(self.day.last(), ending), text)
+
+    def _remove(self, ending):
+        self.day.remove(self.day.beside(self.day.last(), ending))
+
+    # ---- rows 1 and 2 ----
+
+    def _room(self):
+        """How many changes the next chunk may have; where the changeset is full the chunk goes into another one."""
+        left = self.limits.changes - (self.changeset.count if self.changeset else 0)
+        return min(self.size, left if left > 0 else self.limits.changes)
+
+    def _next_chunk(self):
+        """The changes of the next chunk; none where nothing is left."""
+        return self.session.ask(['upload {}'.format(self._room())]).first_chunk()
+
+    def _open(self):
+        note_server(self.day, self.server)
+        number = self.server.open_changeset(self.tags)
+        self.day.write('changeset', json.dumps({'number': number, 'tags': self.tags}) + '\n')
+        self.changeset = Open(number, self.tags)
+
+    def _close(self):
+        """Closes the changeset, if one is open, and forgets it."""
+        if self.changeset:
+            self.server.close_changeset(self.changeset.number)
+            self._drop()
+
+    def _drop(self):
+        self.day.remove('changeset')
+        self.changeset = None
+
+    # ---- row 3 ----
+
+    def _deliver(self, chunk):
+        """Sends a chunk; answers with its Outcome. Raises Clash or ServerRefused where the server refuses what is in it."""
+        try:
+            document = osc.document(chunk, self.changeset.number)
+        except ValueError as error:
+            raise Refused(str(error)) from None
+        self._write('osc', document)
+        try:
+            text = self.server.upload(self.changeset.number, document)
+            osc.answers(chunk, text)
+        except ServerRefused as refused:
+            return self._refused(refused, chunk)
+        except (NoAnswer, osc.NoXml) as silence:
+            self.note('{}; the changeset {} is looked into'.format(silence, self.changeset.number))
+            return Outcome.TAKEN if self._settle() else Outcome.SILENT
+        self._write('answer', text)
+        return Outcome.TAKEN
+
+    def _refused(self, refused, chunk):
+        """What a 4xx means."""
+        if refused.status == 409 and not words.is_version_mismatch(refused.text):
+            return self._other_changeset(refused)
+        if refused.status in CLASHES:
+            if self._found():       # a proxy had sent it twice, and this is the answer to the second time
+                return Outcome.TAKEN
+            self._remove('osc')
+            raise Clash(str(refused) + users(refused.text)) from None
+        if refused.status == 413 and (self.changeset.count or len(chunk) > 1):
+            self.note('{}'.format(refused))
+            self.size = self.size if self.changeset.count else len(chunk) // 2
+            self._remove('osc')
+            self._close()
+            return Outcome.AGAIN
+        if refused.status == 400:
+            self.day.rename(self.day.beside(self.day.last(), 'osc'), self.day.beside(self.day.last(), 'refused'))
+        else:
+            self._remove('osc')
+        raise refused
+
+    def _other_changeset(self, refused):
+        """A 409 for the changeset itself: it is closed, or somebody works in it. A second new one in a row is another fault."""
+        self.unusable = 0 if self.changeset.count else self.unusable + 1
+        self.note('{}'.format(refused))
+        if 'own that changeset' in refused.text:    # it was opened by another account
+            self._remove('osc')
+            self._drop()
+        elif self._settle():
+            return Outcome.TAKEN
+        if self.unusable > 1:
+            raise refused
+        return Outcome.AGAIN
+
+    def _settle(self):
+        """Whether the document that is out was taken. If not it never will be: its changeset is closed, and both are gone here.
+
+        NoAnswer where that can't be told yet.
+        """
+        if self._look() is True:
+            return True
+        counted, found = self._fence(), self._look()
+        if found:
+            return True
+        if counted:
+            raise NoAnswer('the changeset {} counts the changes of {}, and doesn\'t show them yet'.format(
+                self.changeset.number, self.day.path(self.day.pending())))
+        self._remove('osc')
+        self._drop()
+        return False
+
+    def _look(self):
+        """Whether the document that is out is found; None where no answer tells."""
+        try:
+            return self._found()
+        except (NoAnswer, ServerRefused) as silence:
+            self.note('{}'.format(silence))
+            return None
+
+    def _fence(self):
+        """Closes the changeset until it is closed; answers whether it counts the changes of the document that is out.
+
+        A close may be refused while a document is at work in it: NoAnswer where that takes too long. Trouble where it counts
+        changes that are neither this day's nor those that are out.
+        """
+        number, waits = self.changeset.number, list(FENCE_WAITS)
+        while True:
+            self.server.close_changeset(number)
+            count, is_open = self.server.changeset(number)
+            if not is_open:
+                break
+            if not waits:
+                raise NoAnswer('the changeset {} is still at work at the server'.format(number))
+            self.note('the changeset {} is still at work; asked again in {} s'.format(number, waits[0]))
+            api.pause(waits.pop(0))
+        confirmed, out = len(self._earlier()), len(self._sent())
+        if count not in (confirmed, confirmed + out):
+            raise Trouble('the changeset {} has {} changes, and {} were confirmed: look what they are before anything is sent again'.format(
+                number, count, confirmed))
+        return count == confirmed + out
+
+    def _sent(self):
+        """The changes of the document that is out."""
+        return osc.changes(self._read('osc'))
+
+    def _found(self):
+        """Looks whether the server has the document that is out; keeps what says so as the answer."""
+        sent = self._sent()
+        try:
+            text = self.server.download(self.changeset.number)
+        except (NoAnswer, ServerRefused) as silence:
+            return self._found_by_version(sent, silence)
+        try:
+            osc.looked_up(sent, text, self._given())
+        except osc.NotThere:
+            return False
+        except osc.NoXml as fault:
+            return self._found_by_version(sent, NoAnswer('the changeset {} can\'t be read: {}'.format(self.changeset.number, fault)))
+        except ValueError as fault:
+            raise Trouble('the changeset {} isn\'t what API 0.6 makes of {}: {}'.format(
+                self.changeset.number, self.day.path(self.day.pending()), fault)) from None
+        self._write('answer', text)
+        return True
+
+    def _found_by_version(self, sent, silence):
+        """The same where the changeset itself can't be looked into, by the version that a change or deletion made.
+
+        The silence is raised where there is neither, or where new objects were taken, whose ids the changeset alone tells.
+        """
+        one = next((thing for verb, thing in sent if verb != 'create'), None)
+        if one is None:
+            raise silence
+        made = self.server.version(one.key, one.version + 1)
+        if made is None or str(made.changeset) != self.changeset.number:
+            return False
+        if any(verb == 'create' for verb, _ in sent):
+            raise silence
+        self._write('answer', osc.result(sent))
+        return True
+
+    def _given(self):
+        """The keys that this changeset gave to new objects before: they answer nothing of what is out."""
+        return {line.split(' ')[2] for line in self._earlier() if line.startswith('create ')}
+
+    def _earlier(self):
+        """The lines of all answers that were confirmed before, of documents in the changeset that is open."""
+        lines = []
+        for path in sorted(self.day.folder.glob('*.answers')):
+            document = self.day.read(path.name.replace('.answers', '.osc'))
+            if path.name != self.day.beside(self.day.last(), 'answers') and document and osc.changeset_of(document) == self.changeset.number:
+                lines += path.read_text(encoding='utf-8').splitlines()
+        return lines
+
+    # ---- row 4 ----
+
+    def _confirm(self):
+        """Takes the answer in, keeps the session after it, and answers with the next chunk."""
+        sent, text = self._sent(), self._read('answer')
+        try:
+            lines = osc.answers(sent, text) if '<diffResult' in text else osc.looked_up(sent, text, self._given())
+        except ValueError as fault:
+            raise Trouble('{} doesn\'t answer {}: {}'.format(
+                self.day.path(self.day.beside(self.day.last(), 'answer')), self.day.path(self.day.pending()), fault)) from None
+        self._write('answers', ''.join(line + '\n' for line in lines))
+        self.changeset.count += len(sent)
+        answer = self.session.confirm(self.day.beside(self.day.last(), 'answers'), self._room())
+        self.sent, self.unusable = self.sent + len(sent), 0
+        if self.changeset.number not in self.used:
+            self.used.append(self.changeset.number)
+        self.note('changeset {}: {} changes taken, {} left'.format(self.changeset.number, len(sent), answer.upload_size()))
+        if self.changeset.count >= self.limits.changes:
+            self._close()
+        return answer.first_chunk()
+
+
+def noted(day):
+    """The changeset that a day has open; None where there is none."""
+    text = day.read('changeset')
+    return Open(**json.loads(text)) if text else None
+
+
+def users(text):
+    """The way on where a 412 names users that the session may not know."""
+    found = re.search('used (?:by|in) (way|relation)s? ([0-9, ]+)', text)
+    keys = ['{}{}'.format(found[1][0], number) for number in re.findall('[0-9]+', found[2])] if found else []
+    return '; where it doesn\'t know them: yoke refresh ' + ' '.join(keys[:20]) if keys else ''
+
+
+def check_server(day, server):
+    """Trouble where a day is of another server."""
+    before = (day.read('server') or '').strip()
+    if before and before != server.address:
+        raise Trouble('this day is of the server {}, and its ids mean nothing to another: start another --day for {}'.format(before, server.address))
+
+
+def note_server(day, server):
+    """Notes the server that a day is of from now on."""
+    if not day.read('server'):
+        day.write('server', server.address + '\n')

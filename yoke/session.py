@@ -1,0 +1,96 @@
+"""The session of a day: lines run over the last one that was kept, and kept themselves.
+
+    session = Session.of(arguments)
+    answer = session.ask(['find changed'])              # looks; keeps nothing
+    with session.day.locked():
+        answer = session.edit('do', ['tag n1 Tref=7'])  # Refused where a step is; else it is the session from now on
+"""
+import os
+from dataclasses import dataclass
+
+from yoke import opl, saved, words
+from yoke.day import Day
+from yoke.program import BadLine, Program
+from yoke.trouble import Clash, NoAnswer, Refused, Trouble
+
+
+@dataclass(frozen=True)
+class Session:
+    """The last session of a day, and the program that goes on with it."""
+
+    day: Day
+    program: Program
+
+    @classmethod
+    def of(cls, arguments):
+        """That of the words of a command line."""
+        return cls(Day(arguments.day), Program.of(arguments))
+
+    def ask(self, lines):
+        """The Answer to lines that only look, over the last session. Refused at the first refused one."""
+        return self._run(self.day.last(), list(lines), allow_refused=False)
+
+    def edit(self, verb, lines, allow_refused=False, keep_refused=False):
+        """Does lines over the last session, and keeps what comes as the work of a verb; answers with the Answer.
+
+        Where a step is refused nothing is kept, and Refused is raised. With `allow_refused` the Answer comes all the same,
+        and with `keep_refused` the other steps are kept too. NoAnswer where a document went out and its answer isn't known:
+        the server may have taken what such an edit would change.
+        """
+        self.check_settled()
+        answer = self._run(self.day.last(), list(lines) + ['save'], allow_refused)
+        if keep_refused or not answer.refused():
+            self.day.keep(verb, answer.saved())
+        return answer
+
+    def check_settled(self):
+        """NoAnswer where a document went out, and it isn't known what the server took of it."""
+        if self.day.pending():
+            raise NoAnswer('it isn\'t known yet what the server took of {}: yoke send looks, and goes on'.format(self.day.path(self.day.pending())))
+
+    def confirm(self, name, size):
+        """Takes in the answers of a server, which are a file of the day, and keeps the session after them as the work of `send`.
+
+        Answers with the Answer, whose last `upload` has what is left, in chunks of so many changes. Trouble where the
+        answers aren't those to what this session would send.
+        """
+        lines = ['confirm ' + opl.escape(os.path.abspath(self.day.path(name))), 'save', 'upload {}'.format(size)]
+        answer = self._run(self.day.last(), lines, allow_refused=True)
+        taken = answer.last('confirm')
+        if taken.word != 'ok':
+            raise Trouble('{}: {}'.format(self.day.path(name), words.refusal(taken.rest)))
+        self.day.keep('send', answer.saved())
+        if answer.refused():
+            raise_refused(answer)
+        return answer
+
+    def _run(self, state, lines, allow_refused):
+        """Replies carry the numbers of the lines given here, from 1."""
+        try:
+            answer = self.program.run([resume(state)] + lines)
+        except BadLine as bad:
+            bad.line -= 1
+            raise
+        first = answer.replies.pop(0)
+        if first.word != 'ok':
+            raise Refused('{} isn\'t taken up: {}'.format(state.path, words.refusal(first.rest)))
+        for reply in answer.replies:
+            reply.line -= 1
+        if not allow_refused and answer.refused():
+            raise_refused(answer)
+        return answer
+
+    def known(self):
+        """The objects of the last session, `saved.Known` by key, read without the program."""
+        return saved.read(self.day.last().text())
+
+
+def raise_refused(answer):
+    """Raises the first refusal of an Answer: Clash where it is for conflicts, else Refused."""
+    reply = answer.refused()[0]
+    raise (Clash if reply.number == 23 else Refused)('{}: {}'.format(words.refusal(reply.rest), words.cut(reply.step)))
+
+
+def resume(state):
+    """The line that takes a kept session up."""
+    return 'resume ' + opl.escape(os.path.abspath(state.path))

@@ -1,0 +1,130 @@
+"""`yoke refresh`: what is asked for, and what becomes of it."""
+import unittest
+from unittest import mock
+
+from yoke import api
+from yoke.tests.support import TOWN, ServerTest
+from yoke.trouble import Clash, NoAnswer, Refused, Trouble, Usage
+
+
+class Refresh(ServerTest):
+    def setUp(self):
+        super().setUp()
+        self.asked = []
+        once = api.Server._once
+        patch = mock.patch.object(api.Server, '_once', lambda server, method, path, *rest: (self.asked.append(path), once(server, method, path, *rest))[1])
+        patch.start()
+        self.addCleanup(patch.stop)
+
+    def test_it_asks_for_what_is_edited_and_what_that_uses(self):
+        self.begin('tag w5 Tsurface=asphalt', 'node x13 y52 T', 'way T Nn3,n-1', 'delete n8')
+        self.assertEqual(0, self.ask('refresh'), self.err)
+        self.assertEqual(['/nodes?nodes=1,2,3,8', '/ways?ways=5'], self.asked)
+        self.assertEqual('5 objects asked for, 0 newer ones merged\n', self.out)
+        self.assertEqual('do', self.day.last().verb)
+
+    def test_nothing_edited_asks_nothing(self):
+        self.begin()
+        self.assertEqual(0, self.ask('refresh'))
+        self.assertEqual([], self.asked)
+
+    def test_other_parts_are_joined(self):
+        self.begin('tag w5 Tsurface=asphalt')
+        self.server.edit('modify', 'w5', tags={'highway': 'residential', 'name': 'Main Street'}, nodes=[1, 2, 3])
+        self.assertEqual(0, self.ask('refresh'), self.out + self.err)
+        self.assertIn('1 newer ones merged', self.out)
+        mine = self.session.known()['w5'].mine
+        self.assertEqual(({'highway': 'residential', 'name': 'Main Street', 'surface': 'asphalt'}, ('n1', 'n2', 'n3')), (mine.tags, mine.nodes))
+        self.assertEqual(('refresh', None), (self.day.last().verb, self.day.read('fresh.opl')))
+
+    def test_conflicts_are_shown_and_asked_for_again(self):
+        self.begin('tag n8 Tbackrest=yes')
+        self.server.edit('modify', 'n8', tags={'amenity': 'bench', 'backrest': 'no'})
+        self.assertEqual(Clash.code, self.ask('refresh'))
+        self.assertIn('backrest: was (none), mine yes, theirs no', self.out)
+        self.assertIn('yoke resolve n8 mine', self.out)
+        self.server.edit('modify', 'n8', tags={'amenity': 'bench', 'backrest': 'yes'})
+        self.assertEqual(0, self.ask('refresh'), self.out)
+        self.assertIsNone(self.session.known()['n8'].edit)
+
+    def test_what_is_deleted_there_comes_as_deleted(self):
+        self.begin('delete n8', 'tag n3 Tref=7')
+        self.server.edit('delete', 'n8')
+        self.server.edit('delete', 'n3')
+        self.assertEqual(Clash.code, self.ask('refresh'))
+        self.assertIn('2 newer ones merged', self.out)
+        self.assertIn('n3 ref=7: both sides changed it\n    here from version 1; the server has version 2 by somebody, deleted\n    mine ref: 7\n', self.out)
+        known = self.session.known()
+        self.assertEqual((None, 3), (known['n8'].edit, known['n8'].base.version))
+        self.done('resolve', 'n3', 'theirs')
+        self.assertEqual(0, self.send(), self.err)
+        self.assertEqual(2, len(self.server.history))
+
+    def test_what_somebody_uses_now_that_is_deleted_here(self):
+        self.begin('delete n3')
+        self.server.edit('create', 'w-1', nodes=[1, 3])
+        self.assertEqual(Clash.code, self.send())
+        self.assertIn('yoke refresh w1000', self.err)
+        self.assertEqual(Clash.code, self.ask('refresh', 'w1000'))
+        self.assertIn('n3: deleted here, and the server uses it now', self.out)
+
+    def test_an_object_by_its_key(self):
+        self.begin()
+        self.server.edit('modify', 'n1', tags={'ref': '9'})
+        self.assertEqual(0, self.ask('refresh', 'n1', 'r9'))
+        self.assertEqual(['/nodes?nodes=1', '/relations?relations=9'], self.asked)
+        self.assertEqual({'ref': '9'}, self.session.known()['n1'].mine.tags)
+        for key in ('x1', 'n-1', 'n', '1', 'n1x'):
+            self.assertEqual(Usage.code, self.ask('refresh', key))
+
+    def test_ids_that_never_existed_are_found_by_halves(self):
+        self.begin('tag w5 Tref=7', town=TOWN + 'n77 v1 x1 y1\nw78 v1 Nn77,n1\n')
+        self.do('tag n77 Tref=7', 'tag w78 Tref=7')
+        self.server.edit('modify', 'w5', tags={'name': 'Main Street'})
+        self.assertEqual(Clash.code, self.ask('refresh'))
+        self.assertIn('n77 never existed', self.out)
+        self.assertIn('w78 never existed', self.out)
+        self.assertIn('1 newer ones merged', self.out)
+
+    def test_another_server_than_that_of_the_extract(self):
+        town = ''.join('n{} v1 x1 y{}\n'.format(number, number / 100) for number in range(5000, 5100))
+        self.begin(*('tag n{} Tref=7'.format(number) for number in range(5000, 5100)), town=town)
+        self.assertEqual(Trouble.code, self.ask('refresh'))
+        self.assertIn('is it the server that the extract is of?', self.err)
+        self.assertLess(len(self.asked), 80)
+
+    def test_many_objects_come_in_several_calls(self):
+        town = ''.join('n{} v1 x1 y{}\n'.format(number, number / 1000) for number in range(1, 1001))
+        self.town, self.server = town, None
+        self.server = self.serve()
+        self.begin(*('tag n{} Tref=7'.format(number) for number in range(1, 1001)), town=town)
+        self.assertEqual(0, self.ask('refresh'), self.err)
+        self.assertEqual(3, len(self.asked))
+        self.assertLess(max(map(len, self.asked)), 6000)
+
+    def test_no_answer_keeps_nothing(self):
+        self.begin('tag n8 Tbackrest=yes')
+        self.server.edit('modify', 'n8', tags={'amenity': 'bench', 'ref': '1'})
+        self.server.faults.by_chance('500-before', 1.0, 0, 'many')
+        self.assertEqual(NoAnswer.code, self.ask('refresh'))
+        self.assertEqual([1, 5, 25], self.waited)
+        self.assertEqual('do', self.day.last().verb)
+        self.server.faults.clear()
+        for fault in ('half-after', 'close-before', '509-before', '504-after'):
+            self.server.faults.once(fault, 'many')
+        self.assertEqual(0, self.ask('refresh'), self.err)
+
+    def test_one_version_told_in_two_ways(self):
+        """A server whose version is another one than the extract has: the versions are alike, so nothing is merged."""
+        self.begin('tag n8 Tbackrest=yes', town=TOWN.replace('n8 v2', 'n8 v3'))
+        self.assertEqual(0, self.ask('refresh'), self.err)
+        self.assertIn('0 newer ones', self.out)
+
+    def test_words(self):
+        self.begin()
+        self.assertEqual(Usage.code, self.yoke('refresh'))
+        self.assertIn('--api', self.err)
+
+
+if __name__ == '__main__':
+    unittest.main()

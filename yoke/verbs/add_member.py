@@ -1,0 +1,25 @@
+"""`yoke add-member`: one member into a relation."""
+from yoke import table
+from yoke.scripts import lists
+from yoke.session import Session
+
+SUMMARY = 'make an object a member of a relation'
+
+
+def add_arguments(parser):
+    parser.add_argument('key', metavar='KEY')
+    parser.add_argument('relation', metavar='RELATION')
+    parser.add_argument('role', metavar='ROLE', nargs='?', default='')
+    parser.add_argument('--at', metavar='N', type=int, help='make it the N-th member; the first is 1')
+    parser.add_argument('--again', action='store_true', help='also where it is a member with this role already')
+
+
+def run(arguments):
+    session = Session.of(arguments)
+    with session.day.locked():
+        found = table.read(session.day.last().text())
+        line = lists.add_member_line(found, arguments.key, arguments.relation, arguments.role, arguments.at, arguments.again)
+        session.edit('add-member', [line])
+        print(line)
+        print('kept as {}'.format(session.day.last().path))
+    return 0

@@ -1,0 +1,51 @@
+"""`yoke conflicts`: what is in conflict, with its three sides."""
+from yoke import saved, sides
+from yoke.day import Day
+from yoke.trouble import Clash
+
+SUMMARY = 'show what is in conflict: what it was, what it is here, and what the server has'
+DETAILS = 'Ends with 4 where something is in conflict.'
+
+WHY = {
+    'changed': 'both sides changed it',
+    'held': 'the server deleted it, and it is used here',
+    'withdrawn': 'deleted here, and the server uses it now',
+}
+
+
+def add_arguments(parser):
+    parser.add_argument('keys', metavar='KEY', nargs='*', help='only these objects')
+
+
+def run(arguments):
+    found = [known for known in saved.read(Day(arguments.day).last().text()).values() if known.conflict != 'none']
+    for known in found:
+        if not arguments.keys or known.key in arguments.keys:
+            show(known)
+    print('{} in conflict'.format(len(found)))
+    return Clash.code if found else 0
+
+
+def show(known):
+    """The three sides of an object in conflict, part by part, and the ways to resolve it."""
+    theirs = known.theirs
+    print('{}: {}'.format(sides.title(known.mine or known.base), WHY[known.conflict]))
+    by = ' by {}'.format(sides.plain(theirs.user)) if theirs.user else ''
+    print('    here from version {}; the server has version {}{}{}'.format(known.base.version, theirs.version, by, ', deleted' if theirs.deleted else ''))
+    side = None if theirs.deleted else theirs
+    for name, texts in sides.parts(known.there, known.mine, side) if side else []:
+        print('    {}: was {}, mine {}, theirs {}'.format(name, *map(sides.plain, texts)))
+    for line in sides.change(known.there, known.mine) if not side else []:
+        print('    mine {}'.format(line))
+    for way in ways(known, side):
+        print('    yoke resolve ' + way)
+
+
+def ways(known, side):
+    """The words of `yoke resolve` that settle a conflict."""
+    found = ['{} mine'.format(known.key), '{} theirs'.format(known.key)]
+    if known.conflict == 'changed' and known.there and known.mine and side:
+        both = [name for name, (was, mine, theirs) in sides.parts(known.there, known.mine, side) if was != mine and was != theirs and mine != theirs]
+        tags = [name for name in both if name in known.mine.tags or name in side.tags]
+        found.append('{} parts mine{}'.format(known.key, ''.join(' [{}]'.format(name) for name in tags)))
+    return found

@@ -1,0 +1,129 @@
+"""`yoke do`: the lines of a script over the session."""
+import pathlib
+import re
+import sys
+
+from yoke import opl, table, words
+from yoke.program import BadLine
+from yoke.scripts import lint
+from yoke.session import Session
+from yoke.trouble import Refused, Trouble
+from yoke.verbs import expand
+
+SUMMARY = 'run a script over the session, and keep what it did if no step was refused'
+DETAILS = """The script has the lines of docs/GUIDE.md. Files that it names are seen from the folder where yoke runs.
+What yoke does itself stands in no script: save, resume, confirm, serve. New objects may have names in it: yoke expand --help."""
+
+OURS = {
+    'save': 'the session is kept by itself', 'resume': 'the session is taken up by itself',
+    'confirm': 'yoke send does that', 'serve': 'a meeting runs by editor itself',
+}
+
+
+def add_arguments(parser):
+    parser.add_argument('script', metavar='SCRIPT', help='a file of lines; - is standard input')
+    parser.add_argument('--keep', action='store_true', help='keep what was done although steps were refused')
+    parser.add_argument('--strict', action='store_true', help='end at the first refused step; with --keep what was done before it is kept')
+
+
+def run(arguments):
+    name, lines = arguments.script, read(arguments.script)
+    session = Session.of(arguments)
+    check(name, lines, session.day.folder)
+    with session.day.locked():
+        expanded = expand.expand(name, lines, table.next_new(session.day.last().text()))
+        answer = perform(session, name, expanded, arguments)
+    refused = answer.refused()
+    show(name, answer, kept=arguments.keep or not refused)
+    if refused and not arguments.keep:
+        raise Refused('nothing is kept: {} of {} steps {} refused'.format(len(refused), len(answer.replies) - 1, 'was' if len(refused) == 1 else 'were')
+                      if not arguments.strict else 'nothing is kept: it ended at line {}'.format(refused[0].line))
+    print('kept as {}'.format(session.day.last().path))
+    return 1 if refused else 0
+
+
+def perform(session, name, expanded, arguments):
+    """The Answer to the steps, with the numbers of the script's own lines; with --strict no further than the first refused one."""
+    try:
+        answer = session.edit('do', expanded.lines, allow_refused=True, keep_refused=arguments.keep and not arguments.strict)
+    except BadLine as bad:
+        number = expanded.numbers[bad.line - 1]
+        raise BadLine('{}:{}: {}'.format(name, number, cause(expanded.lines, bad)), number) from None
+    refused = answer.refused()
+    if refused and arguments.strict:
+        answer.replies = [reply for reply in answer.replies if reply.line <= refused[0].line]
+        if arguments.keep:
+            session.edit('do', before(expanded.lines, refused[0].line))
+    for reply in answer.replies:
+        reply.line = expanded.numbers[reply.line - 1] if reply.line <= len(expanded.numbers) else reply.line
+    return answer
+
+
+def cause(lines, bad):
+    """What is wrong with a bad line, and what is right."""
+    found = next((one for one in lint.findings(lines) if one.line == bad.line), None)
+    if found is None:
+        return str(bad)
+    return 'no line of a script: {}: {}; right: {} (yoke lint names all)'.format(words.cut(lines[bad.line - 1]), found.cause, words.cut(found.right))
+
+
+def before(lines, number):
+    """The lines before the one with the number, but for those of a group in which it stands."""
+    begun = None
+    for at, line in enumerate(lines[:number - 1]):
+        verb = re.split('[ \t]+', line)[0]
+        begun = at if verb == 'begin' else None if verb == 'end' else begun
+    return lines[:number - 1 if begun is None else begun]
+
+
+def read(name):
+    """The lines of a script, without a byte order mark or carriage returns; Trouble where there is no such text."""
+    try:
+        text = sys.stdin.buffer.read() if name == '-' else pathlib.Path(name).read_bytes()
+        lines = text.decode('utf-8-sig').split('\n')
+    except FileNotFoundError:
+        raise Trouble('there is no script {}'.format(name)) from None
+    except UnicodeDecodeError as error:
+        raise Trouble('{} isn\'t UTF-8, from byte {} on'.format(name, error.start)) from None
+    return [line[:-1] if line.endswith('\r') else line for line in (lines[:-1] if lines[-1] == '' else lines)]
+
+
+def check(name, lines, folder):
+    """Refused where a line is one that yoke does itself, names a file of the day, or where a group has no end."""
+    begun = None
+    for number, line in enumerate(lines, 1):
+        verb, *rest = re.split('[ \t]+', line)
+        if verb in OURS:
+            raise Refused('{}:{}: {} stands in no script of yoke do: {}'.format(name, number, verb, OURS[verb]))
+        if verb in ('download', 'import') and rest and pathlib.Path(opl.unescape(rest[0])).resolve().parent == folder.resolve():
+            raise Refused('{}:{}: {} is a file of the day itself'.format(name, number, opl.unescape(rest[0])))
+        begun = number if verb == 'begin' and begun is None else None if verb == 'end' else begun
+    if begun is not None:
+        raise Refused('{}:{}: the group has no end'.format(name, begun))
+
+
+def show(name, answer, kept):
+    """What the steps wrote, what was refused, in words, and what was made, if it is kept."""
+    gone = given_up(answer)
+    for reply in answer.replies:
+        if reply.word == 'refused':
+            print('{}:{}: refused: {}: {}'.format(name, reply.line, words.cut(reply.step), words.refusal(reply.rest)))
+        elif kept and reply.made() and reply.line not in gone:
+            print('{}:{}: made {}'.format(name, reply.line, ','.join(reply.made())))
+        if reply.verb != 'save':
+            for text in reply.text:
+                print(text)
+
+
+def given_up(answer):
+    """The numbers of the lines in groups that were taken back; the last group may have no end, where the replies end at a refusal."""
+    groups, group = [], None
+    for reply in answer.replies:
+        if reply.verb == 'begin':
+            group = []
+            groups.append(group)
+        if group is not None:
+            group.append(reply)
+        if reply.verb == 'end':
+            group = None
+    return {one.line for group in groups if any(one.word == 'refused' for one in group) for one in group}

@@ -1,0 +1,107 @@
+"""`yoke import`: features of GeoJSON or CSV as new objects of the session."""
+import os
+import pathlib
+import tempfile
+
+from yoke import day, opl, table
+from yoke.files import data_of
+from yoke.formats import drawing, features, mapping
+from yoke.session import Session
+from yoke.trouble import Refused, Trouble, Usage
+
+SUMMARY = 'make new objects of the features of a GeoJSON or CSV file'
+DETAILS = """A feature comes whole or not at all; corners at one place are one node. Each feature that is left out is told with the cause.
+Without --within the bounds are those of the session's nodes, and a tenth more on each side. docs/COMPANION-FORMATS.md has
+the form of the file of --tags. Before you import into OpenStreetMap: https://wiki.openstreetmap.org/wiki/Import/Guidelines"""
+LEAST = 10 ** 5     # by how much the session's own box is widened at least, in units of 10^-7 degree
+
+
+def add_arguments(parser):
+    parser.add_argument('file', metavar='FILE', help='.geojson, .json, .geojsonl or .csv, .tsv')
+    parser.add_argument('--within', metavar='W,S,E,N', help='the bounds in degrees: what lies outside is left out')
+    parser.add_argument('--anywhere', action='store_true', help='no bounds')
+    parser.add_argument('--tags', metavar='RULES', help='a file of rules by which properties become tags')
+    parser.add_argument('--latitude-first', action='store_true', help='in FILE the latitude stands before the longitude')
+    parser.add_argument('--lon', metavar='COLUMN', help='the column of the longitude of a CSV')
+    parser.add_argument('--lat', metavar='COLUMN', help='the column of the latitude of a CSV')
+    parser.add_argument('--join', action='store_true', help='corners where the session has a node are that node')
+    parser.add_argument('--all', action='store_true', help='do nothing where a feature is left out')
+    parser.add_argument('--report', metavar='FILE', help='write what was left out into a file, and not to standard output')
+    parser.add_argument('--to', metavar='FILE.opl', help='write the new objects for `import` into a file, and do nothing')
+
+
+def run(arguments):
+    if arguments.within and arguments.anywhere:
+        raise Usage('--within or --anywhere, not both')
+    session = Session.of(arguments)
+    with session.day.locked():
+        picture = draw(arguments, table.read(session.day.last().text()))
+        report(picture, arguments.report)
+        if picture.left and arguments.all:
+            raise Refused('nothing is done: {} features were left out'.format(len(picture.left)))
+        if not picture.taken:
+            raise Refused('nothing is done: no feature was taken')
+        text = ''.join(line + '\n' for line in picture.lines())
+        if arguments.to:
+            day.write_whole(arguments.to, text)
+            print('wrote {}'.format(arguments.to))
+            return 0
+        with tempfile.TemporaryDirectory(prefix='yoke-') as folder:
+            path = pathlib.Path(folder, 'new.opl')
+            path.write_bytes(text.encode())
+            session.edit('import', ['import ' + opl.escape(str(path))])
+        print('kept as {}'.format(session.day.last().path))
+    return 0
+
+
+def draw(arguments, found):
+    """The new objects of the file that the words name, over a session."""
+    there = {drawing.place_of(known.mine): key for key, known in reversed(list(found.things.items())) if known.mine and key[0] == 'n'}
+    picture = drawing.Drawing(rules(arguments.tags), bounds(arguments, there), arguments.latitude_first, there if arguments.join else {})
+    for feature in read(arguments):
+        picture.add(feature)
+    return picture
+
+
+def read(arguments):
+    """The features of the file."""
+    data, name = data_of(arguments.file), arguments.file.lower()
+    is_table = pathlib.Path(name[:-3] if name.endswith('.gz') else name).suffix in ('.csv', '.tsv', '.txt')
+    try:
+        return features.read_csv(data, arguments.lon, arguments.lat) if is_table else features.read_geojson(data)
+    except ValueError as error:
+        raise Trouble('{}: {}'.format(arguments.file, error)) from None
+
+
+def rules(name):
+    """The rules of a file; without one properties are kept as they are."""
+    if name is None:
+        return mapping.Mapping()
+    try:
+        return mapping.read(features.text_of(data_of(name)))
+    except ValueError as error:
+        raise Trouble('{}: {}'.format(name, error)) from None
+
+
+def bounds(arguments, there):
+    """The box in which features have to lie, in units of 10^-7 degree: the given one, or that of the session's nodes, widened."""
+    if arguments.within:
+        try:
+            return drawing.box_of(arguments.within)
+        except ValueError as error:
+            raise Usage(str(error)) from None
+    if arguments.anywhere or not there:
+        return drawing.WORLD
+    lons, lats = zip(*there)
+    wide, high = (max(LEAST, (max(side) - min(side)) // 10) for side in (lons, lats))
+    box = min(lons) - wide, min(lats) - high, max(lons) + wide, max(lats) + high
+    return tuple(choose(one, other) for choose, one, other in zip((max, max, min, min), box, drawing.WORLD))
+
+
+def report(picture, name):
+    """Prints the report, or writes it into a file and prints its counts."""
+    lines = list(picture.report())
+    if name:
+        day.write_whole(os.path.abspath(name), ''.join(line + '\n' for line in lines))
+        lines = [line for line in lines if not line.startswith('left out: ')]
+    print('\n'.join(lines))

@@ -1,0 +1,22 @@
+"""`yoke insert`: one node into a way."""
+from yoke import table
+from yoke.scripts import lists
+from yoke.session import Session
+
+SUMMARY = 'put a node into a way, where it lies nearest, or at a place'
+
+
+def add_arguments(parser):
+    parser.add_argument('node', metavar='NODE')
+    parser.add_argument('way', metavar='WAY')
+    parser.add_argument('--after', metavar='N', help='a node of the way, or the number of a place: 1 is behind the first node, 0 the front')
+
+
+def run(arguments):
+    session = Session.of(arguments)
+    with session.day.locked():
+        line = lists.insert_line(table.read(session.day.last().text()), arguments.node, arguments.way, arguments.after)
+        session.edit('insert', [line])
+        print(line)
+        print('kept as {}'.format(session.day.last().path))
+    return 0

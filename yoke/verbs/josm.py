@@ -1,0 +1,60 @@
+"""`yoke josm`: what was done in JOSM, as edits of the session."""
+from yoke import table
+from yoke.files import data_of
+from yoke.formats import foreign, osm_xml
+from yoke.session import Session
+from yoke.trouble import Refused, Trouble
+
+SUMMARY = 'take in what was edited in JOSM, from a file that it saved'
+DETAILS = """FILE is what JOSM saved: over a file of `yoke to-josm`, or over data of the server that the session was begun with too.
+Objects are compared part by part with what JOSM began from: what was left alone there is left alone here. Nothing is
+done where an object has another version, is in conflict, or was changed there and here, and not alike."""
+
+
+def add_arguments(parser):
+    parser.add_argument('file', metavar='FILE', help='an .osm file, also .osm.gz, .osm.bz2 or .osm.xz')
+    add_show(parser)
+
+
+def add_show(parser):
+    parser.add_argument('--show', action='store_true', help='print the steps, and do nothing')
+
+
+def run(arguments):
+    session = Session.of(arguments)
+    with session.day.locked():
+        try:
+            drawn = osm_xml.read_josm(data_of(arguments.file))
+        except ValueError as error:
+            raise Trouble('{}: {}'.format(arguments.file, error)) from None
+        start = drawn.state and table.read(begun(session.day, drawn.state, arguments.file))
+        return bring_in('josm', session, arguments, drawn.told, start or None)
+
+
+def begun(day, state, file):
+    """The text of the session from which `yoke to-josm` wrote a file."""
+    text = day.read('josm-{}.start'.format(state))
+    if text is None:
+        raise Refused('{} was written by to-josm from a session that this day doesn\'t have, or no longer: {}'.format(file, state))
+    return text
+
+
+def bring_in(verb, session, arguments, told, start=None):
+    """Does the steps of a document's edits, and says what they were; Refused where something is in the way of one."""
+    plan = foreign.plan(told, table.read(session.day.last().text()), start)
+    for note in plan.notes:
+        print('note: ' + note)
+    for problem in plan.problems:
+        print(problem)
+    if plan.problems:
+        raise Refused('nothing is done of {}: {} of its edits can\'t be'.format(arguments.file, len(plan.problems)))
+    if arguments.show:
+        print(''.join(line + '\n' for line in plan.lines), end='')
+        return 0
+    if not plan.lines:
+        print('{} changes nothing here'.format(arguments.file))
+        return 0
+    session.edit(verb, ['begin'] + plan.lines + ['end'])
+    print(', '.join('{} {}'.format(name, plan.counts[name]) for name in ('new', 'tags', 'place', 'nodes', 'members', 'deleted') if plan.counts[name]))
+    print('kept as {}'.format(session.day.last().path))
+    return 0

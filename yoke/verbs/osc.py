@@ -1,0 +1,25 @@
+"""`yoke osc`: the changes of an osmChange file, as edits of the session."""
+from yoke.files import data_of
+from yoke.formats import osm_xml
+from yoke.session import Session
+from yoke.trouble import Trouble
+from yoke.verbs.josm import add_show, bring_in
+
+SUMMARY = 'take in the changes of another tool, from an osmChange file'
+DETAILS = """FILE has changes that were not sent: each names the version that it was made from, and what it makes has a negative id.
+What a server did, as a diff of planet.osm has it, comes in by `download` (osmium merge-changes makes OPL of it)."""
+
+
+def add_arguments(parser):
+    parser.add_argument('file', metavar='FILE', help='an .osc file, also .osc.gz')
+    add_show(parser)
+
+
+def run(arguments):
+    session = Session.of(arguments)
+    with session.day.locked():
+        try:
+            told = osm_xml.read_osc(data_of(arguments.file))
+        except ValueError as error:
+            raise Trouble('{}: {}'.format(arguments.file, error)) from None
+        return bring_in('osc', session, arguments, told)

@@ -1,0 +1,70 @@
+"""`yoke start`: the first session of a day, from extracts."""
+import os
+import pathlib
+import shutil
+import subprocess
+import tempfile
+
+from yoke import opl, session, words
+from yoke.program import Program
+from yoke.day import Day
+from yoke.trouble import Refused, Trouble
+
+SUMMARY = 'begin a day from extracts: OPL, or what osmium reads (PBF, XML, compressed)'
+DETAILS = """Several extracts are downloaded one after the other: the older first, where they are of two days."""
+
+
+def add_arguments(parser):
+    parser.add_argument('extracts', metavar='EXTRACT', nargs='+', help='a file; what doesn\'t end in .opl goes through osmium')
+
+
+def run(arguments):
+    day, program = Day(arguments.day), Program.of(arguments)
+    with tempfile.TemporaryDirectory(prefix='yoke-') as folder:
+        files = [as_opl(extract, os.path.join(folder, '{}.opl'.format(number))) for number, extract in enumerate(arguments.extracts)]
+        lines = ['download ' + opl.escape(os.path.abspath(file)) for file in files]
+        with day.locked(make=True):
+            if day.states():
+                raise Refused('a day has begun in {}: yoke status shows it; another one wants another --day'.format(day.folder))
+            answer = program.run(lines + ['count', 'save'])
+            for reply in answer.refused():
+                raise Refused('{}: {}'.format(arguments.extracts[reply.line - 1], words.refusal(reply.rest)))
+            state = day.keep('start', answer.saved())
+    counts = answer.counts()
+    print('{nodes} nodes, {ways} ways, {relations} relations'.format(**counts))
+    print('kept as {}'.format(state.path))
+    return 0
+
+
+def as_opl(extract, place):
+    """The name of an OPL file with what an extract has: itself, or what osmium makes of it at the place. Trouble where it is empty."""
+    path = pathlib.Path(extract)
+    if not path.exists():
+        raise Trouble('there is no file {}'.format(extract))
+    if path.is_dir():
+        raise Trouble('{} is a folder'.format(extract))
+    if path.suffix == '.opl' and path.is_file():
+        place = str(path)
+    elif path.suffix == '.opl' or not path.is_file():
+        shutil.copyfile(path, place) if path.is_file() else pathlib.Path(place).write_bytes(path.read_bytes())
+    else:
+        convert(extract, place)
+    if not has_objects(place):
+        raise Trouble('{} has no object in it'.format(extract))
+    return place
+
+
+def convert(extract, place):
+    """Makes OPL of a file by osmium."""
+    osmium = shutil.which('osmium')
+    if osmium is None:
+        raise Trouble('{} isn\'t OPL, and osmium, which reads it, isn\'t on the path (Debian: apt-get install osmium-tool)'.format(extract))
+    done = subprocess.run([osmium, 'cat', '--no-progress', extract, '-f', 'opl', '-O', '-o', place], stdout=subprocess.PIPE, stderr=subprocess.STDOUT)
+    if done.returncode != 0:
+        raise Trouble('osmium doesn\'t read {}: {}'.format(extract, words.cut(done.stdout.decode('utf-8', 'replace').strip(), 300)))
+
+
+def has_objects(path):
+    """Whether a file has a line that isn't skipped. Whether that is an object `download` says."""
+    with open(path, 'rb') as lines:
+        return any(line.strip(b' \t\r\n') and line[:1] not in (b'#', b'c') for line in lines)

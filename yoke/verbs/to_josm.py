@@ -1,0 +1,37 @@
+"""`yoke to-josm`: the session as a file that JOSM opens."""
+import hashlib
+
+from yoke import table
+from yoke.day import Day
+from yoke.files import write_own
+from yoke.formats import osm_xml
+from yoke.trouble import Refused
+
+SUMMARY = 'write the session as a file for JOSM, with what is edited marked as edited'
+DETAILS = """Open FILE in JOSM, edit, save it, and bring it back by `yoke josm FILE`. JOSM doesn't upload it: the session does, by
+`yoke send`. In the meantime the session may go on."""
+KEPT = 3        # sessions that were written for JOSM, kept so that its edits can be told from those here
+
+
+def add_arguments(parser):
+    parser.add_argument('file', metavar='FILE', help='the .osm file to write, or - for standard output')
+    parser.add_argument('--force', action='store_true', help='also over a file that JOSM saved')
+
+
+def run(arguments):
+    day = Day(arguments.day)
+    with day.locked():
+        last = day.last()
+        text = last.text()
+        state = '{:06}-{}'.format(last.number, hashlib.sha256(text.encode()).hexdigest()[:12])
+        try:
+            lines = list(osm_xml.josm_lines(table.read(text), state))
+        except ValueError as error:
+            raise Refused('nothing is written: {}'.format(error)) from None
+        day.write('josm-{}.start'.format(state), text)
+        write_own(arguments.file, ''.join(line + '\n' for line in lines), b"generator='yoke'", arguments.force)
+        for path in sorted(day.folder.glob('josm-*.start'))[:-KEPT]:
+            path.unlink()
+    if arguments.file != '-':
+        print('wrote {}'.format(arguments.file))
+    return 0
