@@ -20,6 +20,8 @@ def data_of(name: str) -> bytes:
         return UNPACK[path.suffix](data) if path.suffix in UNPACK else data
     except FileNotFoundError:
         raise Trouble('there is no file {}'.format(name)) from None
+    except IsADirectoryError:
+        raise Trouble('{} is a folder'.format(name)) from None
     except (OSError, EOFError, lzma.LZMAError, zlib.error) as error:
         raise Trouble('{} can\'t be read: {}'.format(name, error)) from None
 
@@ -34,6 +36,8 @@ def write_own(name: str, text: str, mark: bytes, force: bool):
         sys.stdout.write(text)
         return
     path = pathlib.Path(name)
+    if path.is_dir():
+        raise Trouble('{} is a folder'.format(name))
     if path.exists() and not force:
         with open(path, 'rb') as there:
             if mark not in there.read(400):

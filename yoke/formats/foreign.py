@@ -60,6 +60,7 @@ class _Planner:
     def plan(self) -> Plan:
         edits = [one for one in self.told if one.action or self._went_back(one)]
         self._name([one for one in edits if one.action == 'create'])
+        edits = [one for one in edits if self._is_whole(one)]
         for one in edits:
             key = self.names.get(one.thing.key, one.thing.key)
             if one.action == 'create' and not one.mark or self._left_alone(one, key):
@@ -77,6 +78,13 @@ class _Planner:
         if not self.found.problems:
             self.found.lines = self._steps()
         return self.found
+
+    def _is_whole(self, one: Told) -> bool:
+        """Whether the document has each new object to which an object refers: its negative ids mean nothing in the session."""
+        missing = [ref for ref in one.thing.references if ref[1] == '-' and ref not in self.names]
+        if missing:
+            self._problem('{} refers to {}, which isn\'t in the document', self.names.get(one.thing.key, one.thing.key), missing[0])
+        return not missing
 
     def _left_alone(self, one: Told, key: str) -> bool:
         """Whether the tool did nothing to an object, or what was done here too; its version is of no account then."""

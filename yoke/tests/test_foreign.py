@@ -137,7 +137,8 @@ class Josm(unittest.TestCase):
                 (town(), DRAWN.replace(b"id='10'", b"id='9'"), "w9 isn't in the session: download it"),
                 (town(), DRAWN.replace(b"id='10'", b"id='77'"), 'w77 is only referred to here: download it'),
                 (town(), DRAWN.replace(b"<nd ref='3' />", b"<nd ref='5' />"), "w10 refers to n5, which the session doesn't know: download it"),
-                (town(), DRAWN.replace(b"<nd ref='4' />", b"<nd ref='-7' />"), "w-2 refers to n-7, which the session doesn't know: download it"),
+                (town(), DRAWN.replace(b"<nd ref='4' />", b"<nd ref='-7' />"), "w-2 refers to n-7, which isn't in the document"),
+                (town('node x1 y1 T'), DRAWN.replace(b"<nd ref='3' />", b"<nd ref='-1' />"), "w10 refers to n-1, which isn't in the document"),
                 (town(), DRAWN.replace(b"v='crossing'", b"v='" + b'x' * 256 + b"'"), 'n-1 has a text of 256 characters, and the map takes 255: x'),
                 (town(), DRAWN.replace(b"v='asphalt'", b"v=''"), 'w10: no step gives a tag that is there an empty value: surface')]:
             plan = josm(text, data)

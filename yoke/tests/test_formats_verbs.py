@@ -1,4 +1,5 @@
 """The verbs of other formats and of scripts, as a user runs them, over the folder of a day."""
+import gzip
 import json
 import pathlib
 import unittest
@@ -51,6 +52,11 @@ class Verbs(FolderTest):
         self.assertEqual(self.states(), 1)
         self.assertEqual(self.yoke('josm', 'town.opl', code=3)[:28], 'yoke: town.opl: it is no XML')
         self.assertEqual(self.yoke('josm', 'nothing.osm', code=3), 'yoke: there is no file nothing.osm\n')
+        self.assertEqual(self.yoke('josm', '.', code=3), 'yoke: . is a folder\n')
+        self.write('drawn.osm.gz', DRAWN)
+        self.assertIn("drawn.osm.gz can't be read", self.yoke('josm', 'drawn.osm.gz', code=3))
+        self.write('drawn.osm.gz', gzip.compress(DRAWN))
+        self.assertIn('new 2', self.done('josm', 'drawn.osm.gz'))
 
     def test_there_and_back(self):
         self.write('a.script', 'node x9.5009 y47.1409 Tamenity=bench\ntag w10 Tname=Lane\nerase w20\n')
@@ -96,6 +102,7 @@ class Verbs(FolderTest):
         self.write('houses.geojson', HOUSES)
         self.assertIn("wasn't written by yoke", self.yoke('geojson', 'houses.geojson', code=1))
         self.assertEqual(json.loads(self.done('geojson', '-'))['generator'], 'yoke')
+        self.assertIn('. is a folder', self.yoke('geojson', '.', code=3))
 
     def test_import_of_geojson(self):
         self.write('houses.geojson', HOUSES)
