@@ -239,7 +239,11 @@ class Server:
 
 def checked(address):
     """An address as `https://HOST/api/0.6`; Usage where it is none, or where a token would go out in the clear."""
-    parts = urllib.parse.urlsplit(address)
+    try:
+        parts = urllib.parse.urlsplit(address)
+        parts.port
+    except ValueError as error:
+        raise Usage('--api wants an address such as https://HOST/api/0.6, and not {}: {}'.format(address, error)) from None
     if parts.scheme not in ('http', 'https') or not parts.hostname or parts.query or parts.fragment or parts.username:
         raise Usage('--api wants an address such as https://HOST/api/0.6, and not {}'.format(address))
     if parts.scheme == 'http' and parts.hostname not in LOOPBACK:

@@ -30,7 +30,7 @@ class Runner:
 
     def __enter__(self) -> 'Runner':
         self._stands_by = subprocess.Popen([sys.executable, '-B', os.path.abspath(__file__), self.folder], stdin=subprocess.PIPE,
-                                           stdout=subprocess.PIPE)
+                                           stdout=subprocess.PIPE, bufsize=0)       # what is read ahead isn't seen by select
         return self
 
     def __exit__(self, *why) -> None:
@@ -42,18 +42,26 @@ class Runner:
         """Starts a run with words, in a folder, with more environment, and with a file for what it writes; gives its process."""
         asked = {'words': words, 'cwd': str(cwd), 'environment': environment, 'output': str(output), 'line': line}
         self._stands_by.stdin.write(json.dumps(asked).encode() + b'\n')
-        self._stands_by.stdin.flush()
-        return int(self._stands_by.stdout.readline())
+        return self._told('started')[0]
 
     def wait(self, process: int, seconds: float) -> int:
         """Waits for the end of the run, and kills it after so many seconds (TimeoutError); gives its exit code, or minus the signal."""
         in_time = bool(select.select([self._stands_by.stdout], [], [], seconds)[0])
         if not in_time:
             os.kill(process, signal.SIGKILL)
-        code = int(self._stands_by.stdout.readline())
+        ended, code = self._told('ended')
         if not in_time:
             raise TimeoutError('killed after {} s'.format(seconds))
+        if ended != process:
+            raise RuntimeError('{} ended, and not {}'.format(ended, process))
         return code
+
+    def _told(self, what: str) -> List[int]:
+        """The numbers of the next line that says that a run started or ended; one that says something else is of a run that nobody waited for."""
+        while True:
+            word, *numbers = self._stands_by.stdout.readline().split()
+            if word.decode() == what:
+                return [int(number) for number in numbers]
 
 
 def kill_at(line: int, folder: str) -> None:
@@ -115,9 +123,9 @@ def stand_by(folder: str) -> None:
                 code = run(json.loads(line), folder)
             finally:
                 os._exit(code)
-        print(process, flush=True)
+        print('started', process, flush=True)
         status = os.waitpid(process, 0)[1]
-        print(-os.WTERMSIG(status) if os.WIFSIGNALED(status) else os.WEXITSTATUS(status), flush=True)
+        print('ended', process, -os.WTERMSIG(status) if os.WIFSIGNALED(status) else os.WEXITSTATUS(status), flush=True)
 
 
 if __name__ == '__main__':

@@ -205,7 +205,7 @@ class StrictServer:
         self.users = dict(USERS if users is None else users)
         self.faults = Faults()
         self.requests: List[str] = []           # the operations asked for, in their order
-        self.answers: Counter = Counter()       # how many answers of each status an operation has had, such as `upload 409`
+        self.answers: Counter = Counter()       # how many answers of each status were made, faults apart, such as `upload 409`
         self.lock = threading.RLock()           # held while an operation is done, so that each is done whole
         self.watch: Optional[Callable[[str, str], Any]] = None      # called with `before` or `after`, and the operation
         self._hooks: List[Hook] = []

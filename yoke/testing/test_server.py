@@ -351,6 +351,16 @@ class Refusals(ServerTest):
         self.assert_refused(self.ask('PUT', '/api/0.6/changeset/1/upload'), 405, 'Only method POST is supported on this URI')
 
 
+    def test_bodies_whose_length_is_not_told_or_too_large(self):
+        found = urllib.parse.urlsplit(self.server.address)
+        for headers, body, status in [({'Transfer-Encoding': 'chunked'}, iter([b'<osm/>']), 411), ({'Content-Length': '1000000000'}, b'', 413),
+                                      ({'Content-Length': 'many'}, b'', 411)]:
+            connection = http.client.HTTPConnection(found.hostname, found.port, timeout=20)
+            self.addCleanup(connection.close)
+            connection.request('PUT', '/api/0.6/changeset/create', body, {'Authorization': 'Bearer ' + TOKEN, **headers})
+            self.assertEqual(connection.getresponse().status, status)
+
+
 class TooMuch(ServerTest):
     limits = {'way_nodes': 3, 'relation_members': 2, 'user_changes': 2, 'map_bytes': 1500, 'map_nodes': 2, 'retry_after': 17}
 
