@@ -1,5 +1,6 @@
 #!/usr/bin/env python3
-"""answers.py OUTPUT CHUNK RESULT: writes a server's answers to a chunk, as an answer file for `confirm`, to standard output.
+"""answers.py OUTPUT CHUNK RESULT [-o FILE]: writes a server's answers to a chunk, as an answer file for `confirm`, to FILE, whole
+or not at all, or to standard output.
 
 OUTPUT is what a session wrote, of which the last `upload` counts; CHUNK is the number of one of its chunks, from 1 on;
 RESULT is the `diffResult` document that the API answered when the chunk was uploaded. The answers stand in the order of
@@ -19,6 +20,8 @@ from decimal import Decimal
 from xml.etree import ElementTree
 
 from osmchange import chunk_of
+from session import shortened
+from whole import not_among, output_named, put_out
 
 KEYS = {'node': 'n', 'way': 'w', 'relation': 'r'}
 
@@ -32,7 +35,7 @@ def document(text):
     try:
         root = ElementTree.fromstring(text)
     except ElementTree.ParseError:
-        raise ValueError('it is no diffResult: ' + text.decode('utf-8', 'replace').strip().split('\n')[0][:200])
+        raise ValueError('it is no diffResult: ' + shortened(text.decode('utf-8', 'replace').strip().split('\n')[0]))
     if root.tag not in ('diffResult', 'osmChange'):
         raise ValueError('it is no diffResult: <{}>'.format(root.tag))
     return root
@@ -141,20 +144,20 @@ def answers_of(changes, text):
 
 
 def main(words):
+    words, output = output_named(words)
     if len(words) != 3 or not re.fullmatch('[1-9][0-9]*', words[1]):
-        sys.exit('answers.py OUTPUT CHUNK RESULT, of which CHUNK is a number from 1 on')
+        sys.exit('answers.py OUTPUT CHUNK RESULT [-o FILE], of which CHUNK is a number from 1 on')
     path = words[0]
     try:
+        not_among(output, [words[0], words[2]])
         changes = chunk_of(words[0], int(words[1]))
         path = words[2]
         with open(path, 'rb') as result:
-            lines = answers_of(changes, result.read())
+            put_out(answers_of(changes, result.read()), output)
     except OSError as error:
         sys.exit('answers.py: {}'.format(error))
     except ValueError as error:
         sys.exit('answers.py: {}: {}'.format(path, error))
-    for line in lines:
-        print(line)
 
 
 if __name__ == '__main__':
