@@ -5,8 +5,9 @@ OUTPUT is what a session wrote that had an `upload`, then a `download` of what t
 compares the last two uploads. A `modify` or `delete` of the first that isn't there again, in the same version, is of an object
 that the other side changed as well; a merge joins the two without a conflict, and may say what neither meant.
 
-It ends with 1, and says why, where there aren't two such uploads, where one of them is cut off, or where the last one is what a
-`confirm` left of the one before: then no download stands between them, and nothing could be seen.
+It ends with 1, and says why, where there aren't two such uploads, or one of them is cut off. So it does, and writes the keys even
+so, where the last one is just the end of the one before: that is what a `confirm` leaves, and then no download stands between
+them, and nothing was compared; or the others did just the same with all that is missing.
 """
 import sys
 
@@ -25,7 +26,7 @@ def places(changes):
 
 
 def is_rest(first, second):
-    """Whether the second upload is what is left of the first where some of its changes, from the first on, were confirmed."""
+    """Whether the second upload is just the end of the first, as where its first changes were confirmed."""
     gone = len(first) - len(second)
     return gone > 0 and [verb for verb, _ in first[gone:]] == [verb for verb, _ in second] and places(first[gone:]) == places(second)
 
@@ -36,8 +37,8 @@ def moved(first, second):
     return sorted({key for verb, key, version in places(first) if key[0] != 'n' and (verb, key, version) not in again}, key=rank)
 
 
-def moved_in(path):
-    """The same of the last two uploads of an output; ValueError where they can't be compared."""
+def last_two(path):
+    """The changes of the last two uploads of an output; ValueError where there aren't two."""
     found = uploads(path)
     if len(found) < 2:
         raise ValueError('it takes an upload before the download and one after it, and there is {}'.format('one' if found else 'none'))
@@ -45,18 +46,18 @@ def moved_in(path):
         raise ValueError('the last upload was refused: resolve the conflicts, and upload again')
     if not found[-2]:
         raise ValueError('the last upload but one was refused, so nothing tells what was to be sent before the download')
-    first, second = changes_of(found[-2]), changes_of(found[-1])
-    if is_rest(first, second):
-        raise ValueError('the last upload is just the end of the one before: it is what a `confirm` left of it, and no download stands between them')
-    return moved(first, second)
+    return changes_of(found[-2]), changes_of(found[-1])
 
 
 def main(words):
     if len(words) != 1:
         sys.exit('moved.py OUTPUT')
     try:
-        for key in moved_in(words[0]):
+        first, second = last_two(words[0])
+        for key in moved(first, second):
             print(key)
+        if is_rest(first, second):
+            raise ValueError('the last upload is just the end of the one before: with a `confirm` between them nothing was compared')
     except OSError as error:
         sys.exit('moved.py: {}'.format(error))
     except ValueError as error:

@@ -200,8 +200,10 @@ class Moved(Commands):
 
     def test_it_says_where_it_can_see_nothing(self):
         self.write('clash.opl', 'n8 v3 Tref=8 x13.002 y52.001\n')
-        for more, words in [((), 'and there is one'), (['confirm answers-1', 'upload 1'], 'what a `confirm` left'),
-                            (['download clash.opl', 'upload 1'], 'the last upload was refused'), (['download clash.opl', 'upload 1', 'resolve n8 mine', 'upload 1'], 'last upload but one was refused')]:
+        self.write('answers-3', 'modify w5 v4\n')
+        status, output, error = self.grown('confirm answers-1', 'upload 1', 'confirm answers-2', 'upload 1', 'confirm answers-3', 'upload 1')
+        self.assertEqual((status, output, 'with a `confirm` between them nothing was compared' in error), (1, 'w5\n', True))
+        for more, words in [((), 'and there is one'), (['download clash.opl', 'upload 1'], 'the last upload was refused'), (['download clash.opl', 'upload 1', 'resolve n8 mine', 'upload 1'], 'last upload but one was refused')]:
             status, output, error = self.grown(*more)
             self.assertEqual((status, output), (1, ''))
             self.assertIn(words, error)
