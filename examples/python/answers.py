@@ -4,7 +4,7 @@ or not at all, or to standard output.
 
 OUTPUT is what a session wrote, of which the last `upload` counts; CHUNK is the number of one of its chunks, from 1 on;
 RESULT is the `diffResult` document that the API answered when the chunk was uploaded. The answers stand in the order of
-the upload, so those to chunk 1 are an answer file; behind them may stand those to chunk 2, and so on.
+the upload, so those to chunk 1 are an answer file; after them may stand those to chunk 2, and so on.
 
 Where that document never came RESULT may be the osmChange document of the changeset, as `GET changeset/ID/download` gives
 it. A new object is then the one in it with the same tags and the same place, nodes or members; where several are alike, those

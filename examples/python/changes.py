@@ -46,7 +46,7 @@ def changes(before, after):
 
 
 def behind_members(things, members):
-    """The objects as they stand, but each behind those of its members that are among them; in a ring the first comes last."""
+    """The objects as they stand, but each after those of its members that are among them; in a ring the first comes last."""
     by_key, seen, order = {thing.key: thing for thing in things}, set(), []
     for first in by_key:
         path = [] if first in seen else [(first, iter(members(first)))]

@@ -53,7 +53,7 @@ NO_XML = re.compile('[^\t\n\r -\ud7ff\ue000-\ufffd\U00010000-\U0010ffff]')  # wh
 NO_KEY = 'the key of a new object is told by the reply alone here, after a `resume`, an import or a split: put it into a Drawing'
 
 Reply = namedtuple('Reply', 'line word rest text')
-Reply.__doc__ = """The answer to a step: its line in the script, `ok`, `refused` or `skipped`, what stands behind, and the lines of text that follow."""
+Reply.__doc__ = """The answer to a step: its line in the script, `ok`, `refused` or `skipped`, what stands after, and the lines of text that follow."""
 
 Object = namedtuple('Object', 'key version deleted changeset time uid user tags lon lat nodes members')
 Object.__doc__ = """An object as `print` writes it: lon and lat are Decimals of a node, nodes are the keys of a way's nodes, members pairs of key and role."""
@@ -106,7 +106,7 @@ def unquote(text):
 
 
 def degrees(number):
-    """Degrees with at most seven digits behind the point, as a script has them."""
+    """Degrees with at most seven digits after the point, as a script has them."""
     text = '{:.7f}'.format(number).rstrip('0').rstrip('.')
     return '0' if text == '-0' else text
 
@@ -184,7 +184,7 @@ class Script:
         self.made = 0
 
     def step(self, *words):
-        """Any line, such as `undo 1`. No id is foretold behind it, since it may make objects or give ids back."""
+        """Any line, such as `undo 1`. No id is foretold after it, since it may make objects or give ids back."""
         self._step(*words)
         self.made = None
 
@@ -207,7 +207,7 @@ class Script:
         self._step('generate', str(streets))
 
     def import_file(self, name):
-        """The new objects of a file. No id is foretold behind it, since how many there are isn't known here; the reply has the keys."""
+        """The new objects of a file. No id is foretold after it, since how many there are isn't known here; the reply has the keys."""
         self.step('import', escaped(str(name)))
 
     def node(self, lon, lat, pairs):
@@ -256,7 +256,7 @@ class Script:
         self._step('reverse', listed(key))
 
     def split(self, key, nodes):
-        """The pieces' ids stand in the reply. No id is foretold behind it, since the number of pieces isn't known here."""
+        """The pieces' ids stand in the reply. No id is foretold after it, since the number of pieces isn't known here."""
         self.step('split', listed(key), listed(nodes))
 
     def conflicts(self):
@@ -303,7 +303,7 @@ class Script:
         self._step('save')
 
     def resume(self, name):
-        """A saved session. No id is foretold behind it, since they count on from those of that session."""
+        """A saved session. No id is foretold after it, since they count on from those of that session."""
         self.step('resume', escaped(str(name)))
 
     def begin(self):
@@ -420,7 +420,7 @@ class Answer:
         return self.steps[reply.line - 1].rstrip('\r')
 
     def _written(self, verb):
-        """The text behind the last step with this verb; none where it was refused or skipped, or where there is no such step."""
+        """The text after the last step with this verb; none where it was refused or skipped, or where there is no such step."""
         return next((reply.text for reply in reversed(self.replies) if re.split('[ \t]', self.step(reply))[0] == verb), [])
 
     def objects(self):
@@ -530,7 +530,10 @@ def file_steps(text, folder):
     for line in text.split('\n'):
         words = re.split('[ \t]+', line.rstrip('\r'))
         if words[0] in READING and len(words) > 1:
-            found.append((' '.join(words), os.path.join(folder, unquote(words[1]))))
+            with contextlib.suppress(ValueError, OverflowError):       # no name of a file: the session tells of the bad line
+                name = unquote(words[1])
+                if '\0' not in name:
+                    found.append((' '.join(words), os.path.join(folder, name)))
     return found
 
 
@@ -544,7 +547,10 @@ def brings_something(step, path):
         return first is not None
     if verb == 'import':
         return any(line[1] == '-' and ' dD' not in line or not is_object(line) for line in object_lines(path))
-    return is_taken(path, *parts_of(words[1:]))
+    try:
+        return is_taken(path, *parts_of(words[1:]))
+    except ValueError:      # of a bad line, and of one of the file, the session tells
+        return True
 
 
 def object_lines(path):
@@ -560,10 +566,17 @@ def is_object(line):
 
 
 def parts_of(words):
-    """The box of a `download`, as four numbers, and its wanted tags, as pairs; None and none where it has none."""
-    box = next((tuple(map(float, word[1:].split(','))) for word in words if word[:1] == 'B'), None)
-    pairs = next((word[1:].split(',') for word in words if word[:1] == 'F'), [])
-    return box, [tuple(map(unquote, pair.split('=', 1))) for pair in pairs]
+    """The box of a `download`, as west, south, east and north, and its wanted tags, as pairs; None and none where it has none.
+    ValueError where a word is neither."""
+    box, wanted = None, []
+    for word in words:
+        if word[:1] == 'B':
+            box = tuple(map(float, word[1:].split(',')))
+            if len(box) != 4:
+                raise ValueError('no box: ' + word)
+        else:
+            wanted = [(unquote(key), unquote(value)) for key, value in (pair.split('=', 1) for pair in word[1:].split(','))]
+    return box, wanted
 
 
 def is_taken(path, box, wanted):

@@ -283,6 +283,10 @@ class Sessions(unittest.TestCase):
                 if not comes:
                     self.assertRaisesRegex(Nothing, re.escape(step) + ': nothing comes', run, script, '/bin/false', place)
                     self.assertEqual(run(script, PROGRAM, place, allow_empty=True).replies[0].word, 'ok')
+            for step in ('download f B1,2', 'download f Fhighway', 'download %ffffff%', 'download f%0%', 'download f x', 'download'):
+                script = Script()
+                script.step(step)
+                self.assertRaises(Stopped, run, script, PROGRAM, place)
             file.write_text('')
             script = Script()
             script.resume('f')
