@@ -17,7 +17,7 @@ Needs Python 3.8 and nothing else. A whole use:
 
 `run` raises `Refused` at the first refused step, so that nothing that a later step did goes on unseen. `Script.node`,
 `way` and `relation` answer with the key that the new object gets where no addition before it is refused; as `run` stops
-at a refusal, a key that was wrong never gets further than that. Behind a `split`, an import, and lines of your own, they
+at a refusal, a key that was wrong never gets further than that. After a `split`, an import, and lines of your own, they
 answer None: the reply has the key then.
 
 Many new objects come better by a `Drawing`, a file for `import`: there they have keys of the file's own, and nothing is
@@ -117,9 +117,9 @@ def value_text(value):
         return value
     if isinstance(value, bool):
         return 'yes' if value else 'no'
-    if isinstance(value, float) and value.is_integer() and abs(value) < 1e15:
+    if isinstance(value, int) or isinstance(value, float) and value.is_integer() and abs(value) < 1e15:
         return str(int(value))
-    if isinstance(value, (int, float, Decimal)) and math.isfinite(value):
+    if isinstance(value, (float, Decimal)) and math.isfinite(value):
         return str(value)
     raise ValueError('{} is no value of a tag'.format(shortened(repr(value))))
 
