@@ -2,10 +2,10 @@
 """moved.py OUTPUT: writes the keys of the ways and relations that you changed and that somebody else changed too, one a line.
 
 OUTPUT is what a session wrote that had an `upload`, then a `download` of what the server has by now, and another `upload`: it
-compares the last two uploads. A `modify` or `delete` of the first that isn't there again, in the same version, is of an object
+compares the last two uploads, those that were refused aside. A `modify` or `delete` of the first that isn't there again, in the same version, is of an object
 that the other side changed as well; a merge joins the two without a conflict, and may say what neither meant.
 
-It ends with 1, and says why, where there aren't two such uploads, or one of them is cut off. So it does, and writes the keys even
+It ends with 1, and says why, where there aren't two such uploads, where the last one was refused, or one of them is cut off. So it does, and writes the keys even
 so, where the last one is just the end of the one before: that is what a `confirm` leaves, and then no download stands between
 them, and nothing was compared; or the others did just the same with all that is missing.
 """
@@ -38,15 +38,14 @@ def moved(first, second):
 
 
 def last_two(path):
-    """The changes of the last two uploads of an output; ValueError where there aren't two."""
+    """The changes of the last two uploads of an output; ValueError where there aren't two, or the last one was refused."""
     found = uploads(path)
-    if len(found) < 2:
-        raise ValueError('it takes an upload before the download and one after it, and there is {}'.format('one' if found else 'none'))
-    if not found[-1]:
+    accepted = [lines for lines in found if lines]
+    if found and not found[-1]:
         raise ValueError('the last upload was refused: resolve the conflicts, and upload again')
-    if not found[-2]:
-        raise ValueError('the last upload but one was refused, so nothing tells what was to be sent before the download')
-    return changes_of(found[-2]), changes_of(found[-1])
+    if len(accepted) < 2:
+        raise ValueError('it takes an upload before the download and one after it, and there is {}'.format('one' if accepted else 'none'))
+    return changes_of(accepted[-2]), changes_of(accepted[-1])
 
 
 def main(words):

@@ -198,12 +198,16 @@ class Moved(Commands):
     def test_nobody_else_was_there(self):
         self.assertEqual(self.grown('download high.opl', 'upload 1'), (0, '', ''))
 
+    def test_an_upload_that_was_refused_is_none(self):
+        self.write('clash.opl', RENAMED + 'n8 v3 Tref=8 x13.002 y52.001\n')
+        self.assertEqual(self.grown('download clash.opl', 'upload 1', 'resolve n8 mine', 'upload 1'), (0, 'w5\n', ''))
+
     def test_it_says_where_it_can_see_nothing(self):
         self.write('clash.opl', 'n8 v3 Tref=8 x13.002 y52.001\n')
         self.write('answers-3', 'modify w5 v4\n')
         status, output, error = self.grown('confirm answers-1', 'upload 1', 'confirm answers-2', 'upload 1', 'confirm answers-3', 'upload 1')
         self.assertEqual((status, output, 'with a `confirm` between them nothing was compared' in error), (1, 'w5\n', True))
-        for more, words in [((), 'and there is one'), (['download clash.opl', 'upload 1'], 'the last upload was refused'), (['download clash.opl', 'upload 1', 'resolve n8 mine', 'upload 1'], 'last upload but one was refused')]:
+        for more, words in [((), 'and there is one'), (['download clash.opl', 'upload 1'], 'the last upload was refused')]:
             status, output, error = self.grown(*more)
             self.assertEqual((status, output), (1, ''))
             self.assertIn(words, error)
