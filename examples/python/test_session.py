@@ -15,6 +15,7 @@ from xml.etree import ElementTree
 import answers
 import changes
 import keeper
+import moved
 import osmchange
 import session
 import whole
@@ -707,11 +708,14 @@ class Keeping(unittest.TestCase):
         self.assertRaises(ValueError, kept.start, script)
         kept.edit([lambda script: script.tag(['w5'], {'surface': 'asphalt', 'name': 'Old Street'})])
         self.assertRaises(NotTaken, kept.upload, '1', server.send, server.look)
+        left = lambda: kept.ask(lambda script: script.upload(10)).chunks()[0]
+        before = left()
         self.assertEqual(kept.edit([lambda script: script.download(pathlib.Path('tuesday.opl').resolve())])[0].refused, None)
         self.assertRaises(Refused, kept.upload, '1', server.send, server.look)
         conflict, = kept.ask(lambda script: script.conflicts()).conflicts()
         self.assertEqual((conflict.key, conflict.theirs.tags['name']), ('w5', 'Main Street'))
         self.assertEqual(kept.edit([lambda script: script.resolve_parts('w5', 'mine', ['name'])])[0].refused, None)
+        self.assertEqual(moved.moved(before, left()), ['w5'])
         kept.upload('1', server.send, server.look)
         self.assertEqual((server.versions, server.tags['way', '5'][1:]), ({('way', '5'): 5}, [('name', 'Main Street'), ('surface', 'asphalt')]))
 
