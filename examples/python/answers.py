@@ -37,7 +37,7 @@ def document(text):
     except ElementTree.ParseError:
         raise ValueError('it is no diffResult: ' + shortened(text.decode('utf-8', 'replace').strip().split('\n')[0]))
     if root.tag not in ('diffResult', 'osmChange'):
-        raise ValueError('it is no diffResult: <{}>'.format(root.tag))
+        raise ValueError('it is no diffResult: <{}>'.format(shortened(root.tag)))
     return root
 
 
@@ -46,10 +46,10 @@ def results(root):
     found = {}
     for line in root:
         if line.tag not in KEYS or not line.get('old_id'):
-            raise ValueError('<{}> is the result of no change'.format(line.tag))
+            raise ValueError('<{}> is the result of no change'.format(shortened(line.tag)))
         place = KEYS[line.tag] + line.get('old_id'), line.get('new_id') is None
         if place in found:
-            raise ValueError('{} has two results'.format(place[0]))
+            raise ValueError('{} has two results'.format(shortened(place[0])))
         found[place] = line
     return found
 
@@ -57,7 +57,7 @@ def results(root):
 def number(line, name):
     value = line.get(name) or ''
     if not re.fullmatch('[1-9][0-9]*', value):
-        raise ValueError('{} {} has the {} {!r}'.format(line.tag, line.get('old_id'), name, value))
+        raise ValueError('{} {} has the {} {}'.format(line.tag, shortened(line.get('old_id')), name, shortened(repr(value))))
     return int(value)
 
 
