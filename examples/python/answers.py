@@ -1,9 +1,10 @@
 #!/usr/bin/env python3
-"""answers.py OUTPUT CHUNK RESULT: writes a server's answers to a chunk, as an answer file for `confirm`, to standard output.
+"""answers.py OUTPUT CHUNK RESULT [-o FILE]: writes a server's answers to a chunk, as an answer file for `confirm`, to FILE, whole
+or not at all, or to standard output.
 
 OUTPUT is what a session wrote, of which the last `upload` counts; CHUNK is the number of one of its chunks, from 1 on;
 RESULT is the `diffResult` document that the API answered when the chunk was uploaded. The answers stand in the order of
-the upload, so those to chunk 1 are an answer file; behind them may stand those to chunk 2, and so on.
+the upload, so those to chunk 1 are an answer file; after them may stand those to chunk 2, and so on.
 
 Where that document never came RESULT may be the osmChange document of the changeset, as `GET changeset/ID/download` gives
 it. A new object is then the one in it with the same tags and the same place, nodes or members; where several are alike, those
@@ -19,6 +20,8 @@ from decimal import Decimal
 from xml.etree import ElementTree
 
 from osmchange import chunk_of
+from session import shortened
+from whole import not_among, output_named, put_out
 
 KEYS = {'node': 'n', 'way': 'w', 'relation': 'r'}
 
@@ -32,9 +35,9 @@ def document(text):
     try:
         root = ElementTree.fromstring(text)
     except ElementTree.ParseError:
-        raise ValueError('it is no diffResult: ' + text.decode('utf-8', 'replace').strip().split('\n')[0][:200])
+        raise ValueError('it is no diffResult: ' + shortened(text.decode('utf-8', 'replace').strip().split('\n')[0]))
     if root.tag not in ('diffResult', 'osmChange'):
-        raise ValueError('it is no diffResult: <{}>'.format(root.tag))
+        raise ValueError('it is no diffResult: <{}>'.format(shortened(root.tag)))
     return root
 
 
@@ -43,10 +46,10 @@ def results(root):
     found = {}
     for line in root:
         if line.tag not in KEYS or not line.get('old_id'):
-            raise ValueError('<{}> is the result of no change'.format(line.tag))
+            raise ValueError('<{}> is the result of no change'.format(shortened(line.tag)))
         place = KEYS[line.tag] + line.get('old_id'), line.get('new_id') is None
         if place in found:
-            raise ValueError('{} has two results'.format(place[0]))
+            raise ValueError('{} has two results'.format(shortened(place[0])))
         found[place] = line
     return found
 
@@ -54,7 +57,7 @@ def results(root):
 def number(line, name):
     value = line.get(name) or ''
     if not re.fullmatch('[1-9][0-9]*', value):
-        raise ValueError('{} {} has the {} {!r}'.format(line.tag, line.get('old_id'), name, value))
+        raise ValueError('{} {} has the {} {}'.format(line.tag, shortened(line.get('old_id')), name, shortened(repr(value))))
     return int(value)
 
 
@@ -141,20 +144,20 @@ def answers_of(changes, text):
 
 
 def main(words):
+    words, output = output_named(words)
     if len(words) != 3 or not re.fullmatch('[1-9][0-9]*', words[1]):
-        sys.exit('answers.py OUTPUT CHUNK RESULT, of which CHUNK is a number from 1 on')
+        sys.exit('answers.py OUTPUT CHUNK RESULT [-o FILE], of which CHUNK is a number from 1 on')
     path = words[0]
     try:
+        not_among(output, [words[0], words[2]])
         changes = chunk_of(words[0], int(words[1]))
         path = words[2]
         with open(path, 'rb') as result:
-            lines = answers_of(changes, result.read())
+            put_out(answers_of(changes, result.read()), output)
     except OSError as error:
         sys.exit('answers.py: {}'.format(error))
     except ValueError as error:
         sys.exit('answers.py: {}: {}'.format(path, error))
-    for line in lines:
-        print(line)
 
 
 if __name__ == '__main__':

@@ -1,19 +1,19 @@
 #!/usr/bin/env python3
-"""osmchange.py OUTPUT CHUNK CHANGESET: writes a chunk of an upload, as an osmChange document, to standard output.
+"""osmchange.py OUTPUT CHUNK CHANGESET [-o FILE]: writes a chunk of an upload, as an osmChange document, to FILE, whole or not at
+all, or to standard output.
 
 OUTPUT is what a session wrote, of which the last `upload` counts; CHUNK is the number of one of its chunks, from 1 on;
 CHANGESET is the id of the changeset that the chunk is to go into. The changes keep the order that `upload` gave them,
 and new objects their placeholders. Nothing is sent. Where there is no such chunk, or where a text has a character that
-XML or the API can't carry, it says so and ends with 1.
+XML or the API can't carry, it says so, writes nothing and ends with 1.
 """
 import re
 import sys
 from itertools import groupby
 
 from changes import element
-from session import parse_chunks, upload_lines
-
-NOT_CARRIED = re.compile('[^\t\n\r -~\x80-\ud7ff\ue000-\ufffd\U00010000-\U0010ffff]')      # by XML, and U+007F, which the API refuses
+from session import NOT_CARRIED, parse_chunks, upload_lines
+from whole import not_among, output_named, put_out
 
 
 def carried(changes):
@@ -48,17 +48,16 @@ def chunk_of(path, number):
 
 
 def main(words):
+    words, output = output_named(words)
     if len(words) != 3 or not all(re.fullmatch('[1-9][0-9]*', word) for word in words[1:]):
-        sys.exit('osmchange.py OUTPUT CHUNK CHANGESET, the last two numbers from 1 on')
+        sys.exit('osmchange.py OUTPUT CHUNK CHANGESET [-o FILE], of which CHUNK and CHANGESET are numbers from 1 on')
     try:
-        changes = chunk_of(words[0], int(words[1]))
+        not_among(output, words[:1])
+        put_out(document(chunk_of(words[0], int(words[1])), words[2]), output)
     except OSError as error:
         sys.exit('osmchange.py: {}'.format(error))
     except ValueError as error:
         sys.exit('osmchange.py: {}: {}'.format(words[0], error))
-    sys.stdout.reconfigure(encoding='utf-8')
-    for line in document(changes, words[2]):
-        print(line)
 
 
 if __name__ == '__main__':

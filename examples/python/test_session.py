@@ -2,7 +2,10 @@
 """test_session.py [PROGRAM]: tries the driver on the example town. Run it in the folder examples/; bench/pages does."""
 import os
 import pathlib
+import re
 import shutil
+import stat
+import subprocess
 import sys
 import tempfile
 import unittest
@@ -12,10 +15,12 @@ from xml.etree import ElementTree
 import answers
 import changes
 import keeper
+import moved
 import osmchange
 import session
-from keeper import Keeper, NotTaken, Unknown
-from session import Answer, Drawing, Refused, Script, Stopped, degrees, parse_object, quote, read_objects, run, tags, unquote, upload_lines
+import whole
+from keeper import Busy, Keeper, NotTaken, Unknown
+from session import Answer, Drawing, Nothing, Refused, Script, Stopped, degrees, parse_object, quote, read_objects, run, tags, unquote, upload_lines
 
 PROGRAM = sys.argv.pop() if len(sys.argv) > 1 else 'yokeorange'
 
@@ -41,6 +46,38 @@ class Texts(unittest.TestCase):
 
     def test_degrees(self):
         self.assertEqual([degrees(n) for n in (13.65, -0.00000001, 1e-7, Decimal('180'), -5)], ['13.65', '0', '0.0000001', '180', '-5'])
+
+
+    def test_an_error_shows_one_line_of_bounded_length(self):
+        script = Script()
+        script.tag(['n1'], {'key{}'.format(number): 'value' for number in range(10000)})
+        step = script.lines[0]
+        for error in (Refused(session.Reply(1, 'refused', '7 n1', []), step, None), Stopped(4, 'editor: bad script line 1', step)):
+            self.assertIn(step[:60], str(error))
+            self.assertLess(len(str(error)), 200)
+            self.assertEqual(error.step, step)
+        for text in ('a\nb' * 100, 'x' * 300):
+            with self.assertRaises(ValueError) as seen:
+                quote(text)
+            self.assertLess(len(str(seen.exception)), 150)
+            self.assertNotIn('\n', str(seen.exception))
+
+    def test_values_of_a_tag(self):
+        self.assertEqual(tags({'a': 'b', 'levels': 2, 'height': 2.5, 'width': 3.0, 'lit': True, 'oneway': False, 'd': Decimal('1.10')}),
+                         'a=b,levels=2,height=2.5,width=3,lit=yes,oneway=no,d=1.10')
+        for value in (None, [], {}, float('nan'), float('inf'), b'x'):
+            self.assertRaisesRegex(ValueError, "tag 'levels': .* is no value", tags, {'levels': value})
+        for key in ('', 7, None):
+            self.assertRaisesRegex(ValueError, 'tag .*: a key is a text', tags, {key: 'x'})
+        self.assertRaisesRegex(ValueError, "tag 'note': 256 characters", tags, {'note': 'x' * 256})
+
+    def test_a_key_that_is_not_known_is_an_error_of_its_own(self):
+        script = Script()
+        script.resume('1.saved')
+        bench = script.node(13, 52, {})
+        for step in (lambda: script.way(['n2', bench], {}), lambda: script.relation([(bench, '')], {}), lambda: script.tag([bench], {}),
+                     lambda: script.place(bench, 1, 1), lambda: script.members('r1', [(bench, '')])):
+            self.assertRaisesRegex(ValueError, 'put it into a Drawing', step)
 
 
 class Sessions(unittest.TestCase):
@@ -183,6 +220,79 @@ class Sessions(unittest.TestCase):
                 self.assertEqual(kept.read_bytes(), before)
             self.assertEqual([path.name for path in pathlib.Path(place).iterdir()], ['day.saved'])
 
+    def test_what_a_session_reads_it_never_writes(self):
+        with tempfile.TemporaryDirectory() as place:
+            folder = pathlib.Path(place)
+            for name in ('town.opl', 'monday.opl'):
+                shutil.copy(name, place)
+            saving = Script()
+            saving.download('town.opl')
+            saving.save()
+            run(saving, PROGRAM, place, keep=folder / 'day.saved', output=folder / 'day.txt')
+            self.assertEqual((folder / 'day.txt').read_text()[:10], '1 ok\n2 ok\n')
+            os.link(folder / 'town.opl', folder / 'linked.opl')
+            (folder / 'a b.opl').symlink_to('town.opl')
+            before = {path.name: path.read_bytes() for path in folder.iterdir()}
+            for step, name in [('download town.opl', 'town.opl'), ('download town.opl', 'linked.opl'), ('download a%20%b.opl', 'town.opl'),
+                               ('import monday.opl', 'monday.opl'), ('resume day.saved', 'day.saved'), ('confirm day.txt', 'day.txt')]:
+                for into in ('output', 'keep'):
+                    script = Script()
+                    script.step(step)
+                    script.save()
+                    self.assertRaisesRegex(ValueError, 'is read', run, script, '/bin/false', place, **{into: folder / name})
+            again = Script()
+            again.resume('day.saved')
+            again.save()
+            self.assertRaisesRegex(ValueError, 'is read', run(again, PROGRAM, place).keep, folder / 'day.saved')
+            self.assertEqual({path.name: path.read_bytes() for path in folder.iterdir()}, before)
+
+    def test_a_file_is_written_whole_or_not_at_all(self):
+        with tempfile.TemporaryDirectory() as place:
+            kept = pathlib.Path(place, 'out.txt')
+            kept.write_text('before')
+            script = self.script()
+            script.tag(['n9'], {'ref': '7'})
+            self.assertRaises(Refused, self.run_script, script, output=kept)
+            script.step('tga')
+            self.assertRaises(Stopped, self.run_script, script, output=kept)
+            self.assertEqual(kept.read_text(), 'before')
+            self.run_script(self.script(), output=kept)
+            self.assertEqual(kept.read_text(), '1 ok\n')
+            link = pathlib.Path(place, 'link')
+            link.symlink_to('out.txt')
+            whole.write_whole(link, 'after')
+            self.assertEqual((link.is_symlink(), kept.read_text()), (True, 'after'))
+            self.assertRaisesRegex(ValueError, 'is no file', whole.write_whole, '/dev/null', 'x')
+            self.assertEqual(sorted(os.listdir(place)), ['link', 'out.txt'])
+
+    def test_a_download_of_nothing_is_told_before_anything_runs(self):
+        bare = 'w9 v1 Thighway=track N\n# x20 y20\nn7 v1 Ta%20%b=c x5 y5\nn1 v1 x1 y1\nw5 v1 Thighway=path Nn1\nr9 v1 Ttype=route Mw5@\n'
+        rows = [('', 'download f', False), ('# a note\n\nc1 k2\n', 'download f', False), ('', 'serve f', False), (bare, 'serve f', True),
+                (bare, 'download f', True), (bare, 'download f B0,0,1,1', True), (bare, 'download f B2,2,3,3', False),
+                (bare, 'download f Ftype=route', False), (bare, 'download f Fhighway=*', True), (bare, 'download f Fhighway=pat', False),
+                (bare, 'download f Fa%20%b=c', True), (bare, 'download f B0,0,1,1 Fhighway=path', True), (bare, 'download f B5,5,6,6 Fhighway=*', False),
+                ('w5 v1 Ta=b Nn1\nn1 v1 x1 y1\n', 'download f B0,0,1,1 Fa=b', True), ('n1 v2 dD\n', 'download f B2,2,3,3', True),
+                (bare, 'import f', False), ('n-1 v1 dD\n', 'import f', False), ('n1 v1 x1 y1\nn-1 x1 y1\n', 'import f', True),
+                ('<osm/>', 'download f', True), ('<osm/>', 'import f', True)]
+        with tempfile.TemporaryDirectory() as place:
+            file = pathlib.Path(place, 'f')
+            for text, step, comes in rows:
+                file.write_text(text)
+                self.assertEqual(session.brings_something(step, file), comes, (text, step))
+                script = Script()
+                script.step(step)
+                if not comes:
+                    self.assertRaisesRegex(Nothing, re.escape(step) + ': nothing comes', run, script, '/bin/false', place)
+                    self.assertEqual(run(script, PROGRAM, place, allow_empty=True).replies[0].word, 'ok')
+            for step in ('download f B1,2', 'download f Fhighway', 'download %ffffff%', 'download f%0%', 'download f x', 'download'):
+                script = Script()
+                script.step(step)
+                self.assertRaises(Stopped, run, script, PROGRAM, place)
+            file.write_text('')
+            script = Script()
+            script.resume('f')
+            self.assertRaisesRegex(Refused, '30 1', run, script, PROGRAM, place)
+
     def test_a_part_of_a_file(self):
         script = Script()
         script.download('town.opl', (13.55, 0, 13.65, 1))
@@ -223,6 +333,53 @@ class Sessions(unittest.TestCase):
         self.assertEqual(things['r-4'].members, [(names[path], 'a role'), ('w5', '')])
         for reply in (answer.replies[1], answer.replies[2]._replace(word='refused', rest='7 n-2'), answer.replies[2]._replace(word='skipped', rest='')):
             self.assertRaisesRegex(ValueError, 'no import of these 3 objects', drawing.named, reply)
+
+    def test_a_feature_of_a_drawing_is_whole_or_not_there(self):
+        drawing = Drawing()
+        shared = drawing.node(13, 52, {}, shared=True)
+        lines = list(drawing.lines)
+        with self.assertRaisesRegex(ValueError, "tag 'building': 300 characters"):
+            with drawing.feature():
+                corners = [drawing.node(13 + x, 52, {}, shared=True) for x in range(4)]
+                drawing.way(corners, {'building': 'x' * 300})
+        self.assertEqual((drawing.lines, drawing.corners), (lines, {('T', 'x13', 'y52'): shared}))
+        with drawing.feature():
+            corners = [drawing.node(13 + x, 52, {}, shared=True) for x in range(2)]
+        self.assertEqual(corners, ['n-1', 'n-2'])
+
+    def test_corners_are_shared_where_they_are_alike(self):
+        drawing = Drawing()
+        first = drawing.node(13.00000001, 52, {}, shared=True)
+        self.assertEqual(drawing.node(13, 52, {}, shared=True), first)
+        self.assertNotEqual(drawing.node(13, 52, {}), first)
+        self.assertNotEqual(drawing.node(13, 52, {'barrier': 'gate'}, shared=True), first)
+        houses = Drawing()
+        for x in range(3):
+            ring = [houses.node(13 + (x + a) / 1000, 52 + b / 1000, {}, shared=True) for a, b in [(0, 0), (1, 0), (1, 1), (0, 1)]]
+            houses.way(ring + ring[:1], {'building': 'house'})
+        self.assertEqual(sum(key[0] == 'n' for key in houses.keys), 8)
+        with tempfile.TemporaryDirectory() as place:
+            houses.write(place + '/new.opl')
+            script = Script()
+            script.import_file(place + '/new.opl')
+            script.check()
+            self.assertEqual(self.run_script(script).findings(), [])
+
+    def test_a_drawing_tests_what_it_is_given(self):
+        drawing = Drawing(within=(9, 47, 10, 48))
+        self.assertRaisesRegex(ValueError, 'longitude 47.2 and latitude 9.5, outside 9,47,10,48: are the two exchanged', drawing.node, 47.2, 9.5, {})
+        for place in ((181, 0), (0, 91), (float('nan'), 0)):
+            self.assertRaisesRegex(ValueError, 'outside', Drawing().node, *place, {})
+        self.assertRaisesRegex(ValueError, "'9.5' is no number", drawing.node, '9.5', 47.2, {})
+        for value, words in [('a\x01', r'U\+0001'), ('a\0', r'U\+0000'), (' Neubrandenburg', 'blanks round'), ('a\u00a0', 'blanks round'),
+                             ('x' * 256, '256 characters'), ([], 'no value'), (float('nan'), 'no value')]:
+            self.assertRaisesRegex(ValueError, "tag 'addr:city': .*" + words, drawing.node, 9.5, 47.2, {'addr:city': value})
+            self.assertRaisesRegex(ValueError, "tag 'addr:city': .*" + words, drawing.way, ['n1'], {'addr:city': value})
+        self.assertRaisesRegex(ValueError, 'role of n1: blanks', drawing.relation, [('n1', ' stop')], {})
+        self.assertRaisesRegex(ValueError, 'put it into a Drawing', drawing.way, ['n1', None], {})
+        self.assertEqual(drawing.keys, [])
+        drawing.node(9.5, 47.2, {'levels': 2, 'height': 2.5, 'name': None, 'ref': '', 'lit': True})
+        self.assertEqual(drawing.lines, ['n-1 Tlevels=2,height=2.5,lit=yes x9.5 y47.2'])
 
     def test_foretells_no_key_that_it_cannot_know(self):
         script = self.script()
@@ -503,7 +660,10 @@ class Keeping(unittest.TestCase):
 
     def job(self, folder, server, changeset):
         """All of a job, from wherever it stopped before; six changes, in chunks of two."""
-        kept = Keeper(folder, PROGRAM, 2)
+        with Keeper(folder, PROGRAM, 2) as kept:
+            self.day(kept, folder, server, changeset)
+
+    def day(self, kept, folder, server, changeset):
         if not kept.last():
             script = Script()
             script.download(pathlib.Path('monday.opl').resolve())
@@ -549,11 +709,14 @@ class Keeping(unittest.TestCase):
         self.assertRaises(ValueError, kept.start, script)
         kept.edit([lambda script: script.tag(['w5'], {'surface': 'asphalt', 'name': 'Old Street'})])
         self.assertRaises(NotTaken, kept.upload, '1', server.send, server.look)
+        left = lambda: kept.ask(lambda script: script.upload(10)).chunks()[0]
+        before = left()
         self.assertEqual(kept.edit([lambda script: script.download(pathlib.Path('tuesday.opl').resolve())])[0].refused, None)
         self.assertRaises(Refused, kept.upload, '1', server.send, server.look)
         conflict, = kept.ask(lambda script: script.conflicts()).conflicts()
         self.assertEqual((conflict.key, conflict.theirs.tags['name']), ('w5', 'Main Street'))
         self.assertEqual(kept.edit([lambda script: script.resolve_parts('w5', 'mine', ['name'])])[0].refused, None)
+        self.assertEqual(moved.moved(before, left()), ['w5'])
         kept.upload('1', server.send, server.look)
         self.assertEqual((server.versions, server.tags['way', '5'][1:]), ({('way', '5'): 5}, [('name', 'Main Street'), ('surface', 'asphalt')]))
 
@@ -572,6 +735,67 @@ class Keeping(unittest.TestCase):
         server = Server({('way', '1'): 1})
         kept.upload('2', server.send, server.look)
         self.assertEqual((server.versions, kept.last()), ({('way', '1'): 2}, 3))
+
+
+    def begun(self, folder=None, size=1000):
+        """A Keeper with a session of Monday in it."""
+        kept = Keeper(folder or self.place, PROGRAM, size)
+        script = Script()
+        script.download(pathlib.Path('monday.opl').resolve())
+        kept.start(script)
+        return kept
+
+    def test_one_program_at_a_time(self):
+        with self.begun():
+            self.assertRaisesRegex(Busy, 'another program', Keeper, self.place)
+            other = subprocess.run([sys.executable, '-c', 'import sys; sys.path.insert(0, sys.argv[1]); from keeper import Keeper; Keeper(sys.argv[2])',
+                                    str(pathlib.Path(keeper.__file__).parent), str(self.place)], stderr=subprocess.PIPE, text=True)
+            self.assertEqual((other.returncode, 'Busy: another program' in other.stderr), (1, True))
+        self.assertEqual(Keeper(self.place).last(), 1)
+
+    def test_the_first_session_the_last_three_and_all_answers_stay(self):
+        server = Server({('node', str(number)): version for number, version in [(1, 1), (2, 1), (3, 1), (8, 2)]})
+        with self.begun(size=1) as kept:
+            for number in (1, 2, 3, 8):
+                kept.edit([lambda script: script.tag(['n{}'.format(number)], {'ref': '7'})])
+            kept.upload('1', server.send, server.look)
+            self.assertEqual(kept.last(), 9)
+        self.assertEqual(sorted(path.name for path in self.place.iterdir()),
+                         sorted(['{}.saved'.format(number) for number in (1, 7, 8, 9)]
+                                + ['{}.{}'.format(number, ending) for number in (5, 6, 7, 8) for ending in ('osc', 'answer', 'answers')]))
+
+    def test_one_session_a_chunk(self):
+        server = Server({('node', str(number)): version for number, version in [(1, 1), (2, 1), (3, 1), (8, 2)]})
+        runs = []
+        self.addCleanup(setattr, keeper, 'run', keeper.run)
+        counted = keeper.run
+        keeper.run = lambda *words: (runs.append(words), counted(*words))[1]
+        with self.begun(size=1) as kept:
+            kept.edit([lambda script: script.tag(['n1', 'n2', 'n3', 'n8'], {'ref': '7'})])
+            del runs[:]
+            kept.upload('1', server.send, server.look)
+        self.assertEqual((len(runs), server.versions['node', '8']), (5, 3))
+
+    def test_names_are_on_the_disk_before_the_next_step(self):
+        done = []
+        for name in ('fsync', 'replace'):
+            work = getattr(os, name)
+            self.addCleanup(setattr, os, name, work)
+            setattr(os, name, lambda *words, name=name, work=work: (
+                done.append('folder' if name == 'fsync' and stat.S_ISDIR(os.fstat(words[0]).st_mode) else name), work(*words))[1])
+        whole.write_whole(self.place / 'a', 'b')
+        self.assertEqual(done, ['fsync', 'replace', 'folder'])
+
+    def test_says_what_a_wish_can_not_do(self):
+        with Keeper(self.place / 'none', PROGRAM) as kept:
+            for work in (lambda: kept.ask(lambda script: script.count()), lambda: kept.edit([]), lambda: kept.upload('1', None, None)):
+                self.assertRaisesRegex(ValueError, 'there is no session in .*none', work)
+        with self.begun() as kept:
+            wish = lambda script: script.way(['n2', script.node(13, 52, {'amenity': 'bench'})], {'highway': 'footway'})
+            self.assertRaisesRegex(ValueError, 'put it into a Drawing', kept.edit, [wish])
+            (self.place / 'fresh.opl').write_text('')
+            self.assertRaisesRegex(Nothing, 'download fresh.opl', kept.edit, [lambda script: script.download('fresh.opl')])
+            self.assertEqual(kept.last(), 1)
 
 
 class Objects(unittest.TestCase):
