@@ -9,6 +9,7 @@ use Rattle.osm_base.specs.Rank.{is_key, rank_cmp}
 use Rattle.osm_base.specs.RankLaws.{rank_total}
 use Rattle.osm_base.specs.Tags.{Pair}
 use Rattle.osm_base.specs.Meta.{empty_meta}
+use Rattle.osm_base.specs.declared.meta.Meta.{Meta}
 use Rattle.osm_base.specs.declared.area.Area.{Area}
 use Rattle.osm_base.specs.declared.key.Key.{Key}
 use Rattle.osm_base.specs.declared.content.Content.{Content}
@@ -16,6 +17,7 @@ use Rattle.osm_base.proofs.Lists.{all_taken}
 use Rattle.osm_table.specs.Table.{TableValue, IfContent, entry_of}
 use Rattle.dataset.specs.Patch.{PatchValue, after_of}
 use Rattle.download.specs.Tell.{told_side}
+use Rattle.opl_line.specs.declared.object.OplObject.{OplObject}
 use Rattle.opl_line.specs.Writable.{IsMeta}
 use Rattle.tool_api.specs.declared.job.Job.TheVariants.{Merge}
 use Rattle.upload_order.specs.declared.change.Change.{Change}
@@ -40,9 +42,9 @@ use Rattle.seen_bases.proofs.Steps.{refused_tables}
 use Rattle.many_editors.specs.declared.act.MeetAct.{MeetAct}
 use Rattle.many_editors.specs.declared.act.MeetAct.TheVariants as act
 use Rattle.many_editors.specs.Acts.{changes_met, fetch_met, met, met_at_work, met_by, met_of, met_waiting, send_met}
-use Rattle.many_editors.specs.Meeting.{Editor, Meeting, answered, at_editor, confirmed_state, first_editors, first_meeting, lost, states, stepped, waiting_for, with_editor}
+use Rattle.many_editors.specs.Meeting.{Editor, Meeting, answered, at_editor, confirmed_state, first_editors, first_meeting, lost, served, states, stepped, waiting_for, with_editor}
 use Rattle.many_editors.specs.Sending.{Sent, sent, sent_on, version_end}
-use Rattle.many_editors.specs.Serving.{told_object, told_objects, told_of_state}
+use Rattle.many_editors.specs.Serving.{entry_served, objects_served, told_object, told_objects, told_of_state, with_served}
 use Rattle.readable_tables.specs.Texts.{HasTexts, IsTextSide, IsTextTable, IsTextTold}
 use Rattle.readable_tables.proofs.Confirming.{ChangeHasTexts, LeadsToTexts, confirm_texts, plan_texts}
 use Rattle.readable_tables.proofs.Contents.{renamed_kept}
@@ -77,6 +79,14 @@ after_texts w (Delete k v) p i h = put_texts w.entries (called w.names k) _ tt h
 empty_texts : IsTextState fin.empty
 empty_texts = record { contents = λ k e is. none_some e (fin.get fin.empty k) (fin.get-empty rank_cmp k) is }
 
+side_has : (version : ℕ) (side : Option Content) (meta : Meta) → IsTextSide (told_side version side meta) → IfContent side HasTexts
+side_has version None meta h = tt
+side_has version (Some c) meta h = h.0
+
+with_served_texts : (objects : List OplObject) (m : Objects) → AllByRecursion IsTextObject objects → IsTextState m → IsTextState (with_served m objects)
+with_served_texts [] m i h = h
+with_served_texts (o ∷ os) m i h = with_served_texts os (fin.insert m o.key (entry_served o)) i.1 (put_texts m o.key (entry_served o) (side_has o.version o.side o.meta i.0) h)
+
 -- What a state tells.
 
 none_known : IsMeta empty_meta
@@ -105,7 +115,7 @@ with_texts n f [] keeps h = h
 with_texts zero f (e ∷ es) keeps h = (keeps e h.0, h.1)
 with_texts (suc n) f (e ∷ es) keeps h = (h.0, with_texts n f es keeps h.1)
 
-at_texts : (n : ℕ) (f : Editor → Editor) (m : Meeting) → ((e : Editor) → IsTextEditor e → IsTextEditor (f e)) → IsTextMeeting m → IsTextMeeting (at_editor n f m)
+pub at_texts : (n : ℕ) (f : Editor → Editor) (m : Meeting) → ((e : Editor) → IsTextEditor e → IsTextEditor (f e)) → IsTextMeeting m → IsTextMeeting (at_editor n f m)
 at_texts n f m keeps h = record { servers = h.servers; editors = with_texts n f m.editors keeps h.editors }
 
 step_texts : (n : ℕ) (move : State → Move EditAnswer) (m : Meeting) → ((s : State) → EachTable IsTextTable s → EachTable IsTextTable (move s).state) → IsTextMeeting m → IsTextMeeting (at_editor n (stepped move) m)
@@ -118,7 +128,7 @@ confirmed_texts : (r : Result PatchValue ConfirmFault) (s : State) → LeadsToTe
 confirmed_texts (Ok patch) s i h = fresh_texts (after_of patch s.now) i
 confirmed_texts (Err fault) s i h = h
 
-answered_texts : (answers : List Answer) (e : Editor) → IsTextEditor e → IsTextEditor (answered (Some answers) e)
+pub answered_texts : (answers : List Answer) (e : Editor) → IsTextEditor e → IsTextEditor (answered (Some answers) e)
 answered_texts answers e h = confirmed_texts (confirm e.state.now answers) e.state (confirm_texts e.state.now answers h.now) h
 
 -- A send.
@@ -142,11 +152,11 @@ changes_texts n cs s None m c h =
     let came = sent_texts s.now cs m.world m.earlier c h.servers.0 h.servers.1 in
     record { servers = (came.world, came.earlier); editors = with_texts n (waiting_for (sent s.now m.world m.earlier cs).answers) m.editors (λ e t. t) h.editors }
 
-send_texts : (n count : ℕ) (s : State) (o : Option PlanRefusal) (m : Meeting) → IsTextTable s.now → IsTextMeeting m → IsTextMeeting (send_met n count s (unless o (plan s.now)) m).meeting
+pub send_texts : (n count : ℕ) (s : State) (o : Option PlanRefusal) (m : Meeting) → IsTextTable s.now → IsTextMeeting m → IsTextMeeting (send_met n count s (unless o (plan s.now)) m).meeting
 send_texts n count s (Some why) m t h = h
 send_texts n count s None m t h = changes_texts n (take count (plan s.now)) s (version_end (take count (plan s.now))) m (all_taken ChangeHasTexts count (plan s.now) (plan_texts s.now t)) h
 
-fetch_texts : (limit n : ℕ) (area : Option Area) (wanted : Option (List Pair)) (s : State) (back : ℕ) (o : Option Objects) (m : Meeting) → slice_get (states m) back ≡ o → IsTextMeeting m → IsTextMeeting (fetch_met limit n area wanted s o m).meeting
+pub fetch_texts : (limit n : ℕ) (area : Option Area) (wanted : Option (List Pair)) (s : State) (back : ℕ) (o : Option Objects) (m : Meeting) → slice_get (states m) back ≡ o → IsTextMeeting m → IsTextMeeting (fetch_met limit n area wanted s o m).meeting
 fetch_texts limit n area wanted s back None m at h = at_texts n _ m (λ e t. refused_tables IsTextTable e.state.group e.state t) h
 fetch_texts limit n area wanted s back (Some objects) m at h =
     let told = told_of_state objects area wanted in
@@ -190,6 +200,10 @@ nothing_known = record { entries = λ k e is. none_some e (entry_of (record { en
 all_first : (n : ℕ) → AllByRecursion IsTextEditor (first_editors n)
 all_first zero = tt
 all_first (suc n) = (fresh_texts (record { entries = fin.empty; next = 1 }) nothing_known, all_first n)
+
+-- a server with the objects of a file
+pub served_texts : (objects : List OplObject) (n : ℕ) → AllByRecursion IsTextObject objects → IsTextMeeting (served (objects_served objects) n)
+served_texts objects n i = record { servers = (with_served_texts objects fin.empty i empty_texts, tt); editors = all_first n }
 
 pub first_texts : (n : ℕ) → IsTextMeeting (first_meeting n)
 first_texts n = record { servers = (empty_texts, tt); editors = all_first n }

@@ -1,0 +1,80 @@
+-- What every session does, whatever its reads give.
+use Rattle.std.specs.Prelude.{◌≡◌, ℕ, List, drop, take, Option, None, Some, IfSome, Result, OnOk, OnErr}
+use Rattle.std.specs.List.{All}
+use Rattle.std.specs.Io.KnownBytes.{Appends}
+use Rattle.osm_outside.specs.Outside.{Shelved, AppendsFront}
+use Rattle.command_line.specs.Words.{CommandLineValue, command_of}
+use Rattle.dataset.specs.Sound.{IsSound}
+use Rattle.tool_api.specs.declared.verb.Verb.{Verb}
+use Rattle.edit_script.specs.declared.step.Step.{Step}
+use Rattle.edit_history.specs.Machine.{State}
+use Rattle.edit_session.specs.declared.limits.Limits.{Limits}
+use Rattle.edit_session.specs.declared.status.Status.{Status}
+use Rattle.edit_session.specs.declared.status.Status.TheVariants as status
+use Rattle.edit_session.specs.Confirms.{AreConfirmedBy}
+use Rattle.edit_session.specs.Fetch.{reading}
+use Rattle.edit_session.specs.Given.{Given, first_given, all_given}
+use Rattle.edit_session.specs.Limits.{limits_of}
+use Rattle.edit_session.specs.Met.{AreMet, AreMetBy}
+use Rattle.edit_session.specs.Said.{AreKeptBy}
+use Rattle.edit_session.specs.Saves.{AreSavesBy}
+use Rattle.edit_session.specs.Session.{output, first_output, run, meetings, steps_in, IsStop, outcome_by, line_given, Agrees}
+use Rattle.edit_session.specs.Uploads.{AreUploads, AreUploadsBy}
+
+-- each table before a step of a run is sound
+abbrev pub AreSound : List (Step × Given × State) → Type 0
+AreSound steps = All (λ (at : Step × Given × State). IsSound at.2.now) steps
+
+-- What holds of these steps where each of them ran and was given this.
+pub record Promised (limits : Limits) (given : List Given) (steps : List Step) : Type 0 where
+  pub tables : AreSound (run limits given steps)
+  pub uploads : AreUploads limits (run limits given steps)
+  pub meetings : AreMet limits (meetings limits given steps)
+
+-- What holds where they stopped: what was written is a front of the text of the first of them, and the tables of these are
+-- sound, and their uploads sent.
+pub record Reached (limits : Limits) (old new : Option (List ℕ)) (given : List Given) (steps : List Step) : Type 0 where
+  pub count : ℕ
+  pub text : AppendsFront old new (first_output limits given steps count)
+  pub tables : AreSound (take count (run limits given steps))
+  pub uploads : AreUploads limits (take count (run limits given steps))
+
+-- and of those of the script that was given first,
+abbrev pub NamePromised : Limits → List Given → Type 0
+NamePromised limits given = Promised limits (drop 1 given) (steps_in (reading limits.script (first_given given)))
+
+abbrev pub NameReached : Limits → Option (List ℕ) → Option (List ℕ) → List Given → Type 0
+NameReached limits old new given = Reached limits old new (drop 1 given) (steps_in (reading limits.script (first_given given)))
+
+-- for which a command line asks, if the words are one
+abbrev pub LinePromised : Option CommandLineValue → List Given → Type 0
+LinePromised None given = Unit {0}
+LinePromised (Some line) given = NamePromised (limits_of line) given
+
+abbrev pub LineReached : Option CommandLineValue → Option (List ℕ) → Option (List ℕ) → List Given → Type 0
+LineReached None old new given = Unit {0}
+LineReached (Some line) old new given = NameReached (limits_of line) old new given
+
+-- The run of a script where each step ran.
+pub record Ran {T E : Type 0} (limits : Limits) (told : Option Shelved) (old new : Option (List ℕ)) (result : Result T E) (steps : List Step) : Type 0 where
+  pub given : List Given
+  pub by_files : IfSome told (λ files. given ≡ all_given files steps)
+  pub ok : OnOk result (Appends old new (output limits given steps))
+  pub err : OnErr result (AppendsFront old new (output limits given steps))
+  pub promised : OnOk result (Promised limits given steps)
+  pub reached : OnErr result (Reached limits old new given steps)
+
+-- What the reads of a session gave: the script's name first, and then the file of each step, which may have changed meanwhile.
+-- The status is that of the outcome of just this, and the sink took its text, or after a fault or want of memory a front of
+-- it: of the text of the steps that were reached, of which the uploads were sent. Where the shelf tells its files, it is what they
+-- hold.
+pub record Runs (told : Option Shelved) (verbs : List Verb) (words : List (List ℕ)) (old new : Option (List ℕ)) (result : Status) : Type 0 where
+  pub given : List Given
+  pub by_files : IfSome told (λ files. given ≡ line_given (command_of words) files)
+  pub agrees : Agrees old new result (outcome_by verbs words given)
+  pub stopped : IsStop result → LineReached (command_of words) old new given
+  pub uploads : result ≡ status.Done → AreUploadsBy (command_of words) given
+  pub saves : result ≡ status.Done → AreSavesBy (command_of words) given
+  pub confirms : AreConfirmedBy (command_of words) given
+  pub meetings : result ≡ status.Done → AreMetBy (command_of words) given
+  pub keeps : result ≡ status.Done → AreKeptBy (command_of words) given
