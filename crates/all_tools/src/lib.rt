@@ -9,12 +9,16 @@
 //! four boxes.
 #![tactic(auto)]
 
-ghost use Rattle.std.specs.Prelude.{◌≡◌, ◌≤◌, ◌⊎◌, ◌++◌, None, IfSome, IfOk, OnErr, map, string_bytes};
+ghost use Rattle.std.specs.Prelude.{◌≡◌, ◌≢◌, ◌≤◌, ◌⊎◌, ◌++◌, None, IfSome, IfOk, OnErr, map, string_bytes};
 ghost use Rattle.osm_outside.specs.Outside.{Rose};
 ghost use Rattle.command_line.specs.Words.{command_of};
 ghost use Rattle.tool_api.specs.declared.verb.Verb.{Verb};
 ghost use Rattle.edit_history.specs.Trail.{KeepNothing};
+ghost use Rattle.edit_session.specs.Confirms.{AreConfirmedOf};
 ghost use Rattle.edit_session.specs.Met.{AreMetOf};
+ghost use Rattle.edit_session.specs.Runs.{Runs};
+ghost use Rattle.edit_session.specs.Said.{AreKeptOf};
+ghost use Rattle.edit_session.specs.Saves.{AreSavesOf};
 ghost use Rattle.edit_session.specs.Session.{outcome, Agrees, IsAsked, IsEarly};
 ghost use Rattle.edit_session.specs.Uploads.{AreUploadsOf};
 ghost use Rattle.all_tools.specs.Verbs.{IsNew, IsOfFour, four_of, four_of_each};
@@ -43,11 +47,17 @@ pub fn run_editor<S: Shelf, K: Sink>(
     shelf: &mut S,
     out: &mut K,
 ) -> Result<Status, AllocError>
+    // Whatever the reads give, also if a file changes meanwhile: the status is that of the outcome of just what they gave, and
+    // the sink took its text; after a fault or want of memory it took a front of the text.
+    ensures runs { IfOk result (Runs (S.told shelf.old) four_of_each (map string_bytes words.now) (K.taken out.old) (K.taken out.new)) }
     // Where the shelf tells its files, the status is that of the outcome and the sink took its text; after a fault
     // or want of memory it took a front of the text.
     ensures outcome { IfOk result (λ status. IfSome (S.told shelf.old) (λ files. Agrees (K.taken out.old) (K.taken out.new) status (outcome four_of_each (map string_bytes words.now) files))) }
     ensures read { IfOk result (λ status. status ≡ Status.ReadFault → Rose (S.faults shelf.old) (S.faults shelf.new)) }
     ensures write { IfOk result (λ status. status ≡ Status.WriteFault → Rose (K.faults out.old) (K.faults out.new)) }
+    // No fault is passed over: with any other answer no read and no write failed.
+    ensures read_quiet { IfOk result (λ status. status ≢ Status.ReadFault → S.faults shelf.new ≡ S.faults shelf.old) }
+    ensures write_quiet { IfOk result (λ status. status ≢ Status.WriteFault → K.faults out.new ≡ K.faults out.old) }
     // Words that ask for nothing are bad, unless no memory is left, and then nothing is read or written. No others are.
     ensures words { IfOk result (λ status. status ≡ Status.BadWords → command_of (map string_bytes words.now) ≡ None) }
     ensures bad_words { IfOk result (λ status. command_of (map string_bytes words.now) ≡ None → (status ≡ Status.BadWords) ⊎ (status ≡ Status.Memory)) }
@@ -67,10 +77,18 @@ pub fn run_editor<S: Shelf, K: Sink>(
     // chunks, and each sound server that has the bases, and nothing else that refers to what is deleted, takes each prefix of
     // them whatever fresh ids it picks, and has the edited data after the last.
     ensures uploads { IfOk result (λ status. status ≡ Status.Done → IfSome (S.told shelf.old) (λ files. AreUploadsOf (command_of (map string_bytes words.now)) files)) }
-    // In a meeting nothing is overwritten unseen: the server is sound before each step, each base in each table of each editor is
-    // what the server had in one of its states, and each change of a send that the server accepts finds there what the
-    // editor's table has as base.
+    // Each save of the run writes a text that is read back as the very table, and from which a `resume` goes on with it.
+    ensures saves { IfOk result (λ status. status ≡ Status.Done → IfSome (S.told shelf.old) (λ files. AreSavesOf (command_of (map string_bytes words.now)) files)) }
+    // Each confirmation of the run by which a server tells what it took of the plan is taken, and from the table after it the
+    // upload goes on: its plan is what was left.
+    ensures confirms { IfOk result (λ _. IfSome (S.told shelf.old) (λ files. AreConfirmedOf (command_of (map string_bytes words.now)) files)) }
+    // In a meeting nothing is overwritten unseen: the server is sound before and after each step, each base in each table of each
+    // editor is what the server had in one of its states, each positive key of it stands at the server, each change of a send
+    // that the server accepts finds there what the editor's table has as base, and no fetch is refused as a version clash.
     ensures meetings { IfOk result (λ status. status ≡ Status.Done → IfSome (S.told shelf.old) (λ files. AreMetOf (command_of (map string_bytes words.now)) files)) }
+    // No edit is lost: each step of the run, outside of meetings, keeps what is wanted of each edited object of which it doesn't say
+    // that it changes or forgets it.
+    ensures keeps { IfOk result (λ status. status ≡ Status.Done → IfSome (S.told shelf.old) (λ files. AreKeptOf (command_of (map string_bytes words.now)) files)) }
     ensures err { OnErr result ((shelf.new ≡ shelf.old) × (out.new ≡ out.old)) }
 {
     let tools = no_boxes(alloc);

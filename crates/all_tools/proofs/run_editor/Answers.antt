@@ -3,6 +3,7 @@ use Rattle.osm_outside.specs.Outside.{Rose}
 use Rattle.tool_api.specs.declared.verb.Verb.{Verb}
 use Rattle.tool_api.specs.declared.verb.Verb.TheVariants.{Add, Tag, Move, Change, Delete, Erase, Purge, Split, Combine, Reverse, Merge, Import, Resolve, Squeeze, Fuse}
 use Rattle.edit_session.specs.declared.status.Status.TheVariants as status
+use Rattle.edit_session.specs.Runs.{Runs}
 use Rattle.edit_session.specs.Session.{outcome, Agrees}
 use Rattle.edit_session.specs.Needs.{Misses}
 use Rattle.all_tools.specs.Verbs.{IsNew}
@@ -65,6 +66,12 @@ with_four-requires-14-clause-new g c = (is_new at-1-14 Squeeze _ _ _ c.into_dyn_
 
 pub with_four-requires-15-clause-new : goal.with_four-requires-15-clause-new
 with_four-requires-15-clause-new g c = (is_new at-1-15 Fuse _ _ _ c.into_dyn_box-57.ensures.1 c.in_ok-first-15.ensures.first, is_new at-1-15 Fuse _ _ _ c.into_dyn_box-58.ensures.1 c.in_ok-first-15.ensures.second, is_new at-1-15 Fuse _ _ _ c.into_dyn_box-59.ensures.1 c.in_ok-first-15.ensures.third, is_new at-1-15 Fuse _ _ _ c.into_dyn_box-60.ensures.1 c.in_ok-first-15.ensures.fourth)
+
+pub returns-clause-runs : goal.returns-clause-runs
+returns-clause-runs g c =
+    let all = all_made c.no_boxes-tools.ensures.kinds c.in_ok-tools.ensures.kinds c.in_ok-tools-2.ensures.kinds c.in_ok-tools-3.ensures.kinds c.in_ok-tools-4.ensures.kinds c.in_ok-tools-5.ensures.kinds c.in_ok-tools-6.ensures.kinds c.in_ok-tools-7.ensures.kinds c.in_ok-tools-8.ensures.kinds c.in_ok-tools-9.ensures.kinds c.in_ok-tools-10.ensures.kinds c.in_ok-tools-11.ensures.kinds c.in_ok-tools-12.ensures.kinds c.in_ok-tools-13.ensures.kinds c.in_ok-tools-14.ensures.kinds c.in_ok-tools-15.ensures.kinds in
+    subst (λ verbs. Runs (g.S.Shelf.told c.args.shelf.now) verbs (map string_bytes c.args.words.now) (g.K.Sink.taken c.args.out.now) (g.K.Sink.taken c.run_session.new.out) c.run_session.result) all
+    c.run_session.ensures.runs
 
 pub returns-clause-outcome : goal.returns-clause-outcome
 returns-clause-outcome g c =
