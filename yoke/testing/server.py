@@ -22,6 +22,7 @@ number of the upload before which it is to happen.
 import argparse
 import http.server
 import json
+import os
 import re
 import socket
 import sys
@@ -502,10 +503,19 @@ class Handler(http.server.BaseHTTPRequestHandler):
             pass
 
 
+def write_number(path: str, number: int) -> None:
+    """Writes a number to a file, which is there whole or not at all."""
+    part = path + '.part'
+    with open(part, 'w', encoding='ascii') as file:
+        file.write('{}\n'.format(number))
+    os.replace(part, path)
+
+
 def main() -> None:
     words = argparse.ArgumentParser(description=__doc__, formatter_class=argparse.RawDescriptionHelpFormatter)
     words.add_argument('--port', type=int, default=0, help='the port; a free one if not said')
     words.add_argument('--changeset-elements', type=int, default=Limits.changeset_elements, help='changes that a changeset takes')
+    words.add_argument('--pid', metavar='FILE', help='write the number of the process to FILE once it answers')
     words.add_argument('data', help='a file in OPL, or OSM XML where its name ends in .osm')
     said = words.parse_args()
     limits = Limits(changeset_elements=said.changeset_elements)
@@ -515,6 +525,8 @@ def main() -> None:
         sys.exit('{}: {}'.format(said.data, error))
     with StrictServer(found, said.port, limits) as server:
         print(server.address, flush=True)
+        if said.pid:
+            write_number(said.pid, os.getpid())
         try:
             threading.Event().wait()
         except KeyboardInterrupt:
