@@ -190,6 +190,7 @@ class Sending:
         except ServerRefused as refused:
             return self._refused(refused, chunk)
         except (NoAnswer, osc.NoXml) as silence:
+            self.unusable = 0       # the server took no offence at this changeset
             self.note('{}; the changeset {} is looked into'.format(silence, self.changeset.number))
             return Outcome.TAKEN if self._settle() else Outcome.SILENT
         self._write('answer', text)

@@ -166,6 +166,16 @@ class Changesets(SendTest):
         self.is_all_there()
         self.is_at_rest()
 
+    def test_two_that_are_closed_before_they_have_a_change_with_a_silence_between(self):
+        def close():
+            list(self.server.database.changesets.values())[-1].closed_at = 1.0
+        self.server.before('upload', 1, close)
+        self.server.faults.once('500-before', 'upload', 1)
+        self.server.before('upload', 3, close)
+        self.assertEqual(0, self.send(), self.err)
+        self.is_all_there()
+        self.is_at_rest()
+
     def test_a_document_that_is_too_large_goes_out_in_halves(self):
         self.server.limits.changeset_elements = 100
         self.server.before('upload', 1, lambda: setattr(self.server.limits, 'changeset_elements', 1))
