@@ -1,5 +1,5 @@
 #!/usr/bin/env python3
-"""test_session.py [PROGRAM]: tries the driver on the example town. Run it in the folder examples/; bench/pages does."""
+"""test_session.py [PROGRAM]: tries the driver on the example town. Run it in the folder examples/; bench/check/pages does."""
 import os
 import pathlib
 import re

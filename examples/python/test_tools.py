@@ -1,5 +1,5 @@
 #!/usr/bin/env python3
-"""test_tools.py [PROGRAM]: tries the commands beside the driver, as a shell runs them. Run it in the folder examples/; bench/pages does."""
+"""test_tools.py [PROGRAM]: tries the commands beside the driver, as a shell runs them. Run it in the folder examples/; bench/check/pages does."""
 import os
 import pathlib
 import shutil

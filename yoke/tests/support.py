@@ -12,10 +12,9 @@ import shutil
 import sys
 import tempfile
 import unittest
-from importlib.machinery import SourceFileLoader
-from importlib.util import module_from_spec, spec_from_loader
 from unittest import mock
 
+from bench.model import model
 from yoke import command, words
 from yoke.day import Day
 from yoke.program import Answer, BadLine, Program
@@ -34,27 +33,13 @@ r9 v1 Ttype=route Mw5@
 '''
 
 
-def load_model():
-    """`bench/model` as a module."""
-    loader = SourceFileLoader('yoke_model', str(TOP / 'bench' / 'model'))
-    module = module_from_spec(spec_from_loader('yoke_model', loader))
-    sys.modules['yoke_model'] = module
-    loader.exec_module(module)
-    return module
-
-
 class Model(Program):
     """The second editor, in this process."""
 
-    module = None
-
     def run(self, lines):
-        if Model.module is None:
-            Model.module = load_model()
-        module = Model.module
-        limits = module.Limits(objects=self.max_objects or 2_000_000, file=1_073_741_824)
+        limits = model.Limits(objects=self.max_objects or 2_000_000, file=1_073_741_824)
         try:
-            output = ''.join(module.written(module.Session(limits), ''.join(line + '\n' for line in lines)))
+            output = ''.join(model.written(model.Session(limits), ''.join(line + '\n' for line in lines)))
         except SystemExit as bad:
             number = int(re.search('script line ([0-9]+)', str(bad))[1])
             raise BadLine(words.bad_line(lines[number - 1]), number) from None
@@ -64,7 +49,7 @@ class Model(Program):
 def program():
     """The program that the tests drive."""
     named = os.environ.get('YOKE_EDITOR')
-    return Program(os.path.abspath(shutil.which(named))) if named else Model('bench/model')
+    return Program(os.path.abspath(shutil.which(named))) if named else Model('bench/model/model')
 
 
 class FolderTest(unittest.TestCase):

@@ -19,7 +19,7 @@ class Killed(SendTest):
 
     def process(self, *words):
         """The status of a process, and what it said."""
-        environment = dict(os.environ, PYTHONPATH=str(TOP), YOKE_EDITOR=os.environ.get('YOKE_EDITOR') or str(TOP / 'bench' / 'model'))
+        environment = dict(os.environ, PYTHONPATH=str(TOP), YOKE_EDITOR=os.environ.get('YOKE_EDITOR') or str(TOP / 'bench' / 'model' / 'model'))
         done = subprocess.run([sys.executable, *words], env=environment, stdout=subprocess.PIPE, stderr=subprocess.STDOUT, text=True)
         return done.returncode, done.stdout
 

@@ -94,8 +94,8 @@ class Running(unittest.TestCase):
 
     def test_the_program_that_the_words_name(self):
         arguments = argparse.Namespace(program=None, max_objects=None)
-        with mock.patch.dict(os.environ, {'YOKE_EDITOR': str(TOP / 'bench' / 'model')}):
-            self.assertEqual(str(TOP / 'bench' / 'model'), Program.of(arguments).path)
+        with mock.patch.dict(os.environ, {'YOKE_EDITOR': str(TOP / 'bench' / 'model' / 'model')}):
+            self.assertEqual(str(TOP / 'bench' / 'model' / 'model'), Program.of(arguments).path)
             arguments.program = 'sh'
             self.assertTrue(Program.of(arguments).path.endswith('/sh'))
         with mock.patch.dict(os.environ, {'YOKE_EDITOR': '', 'PATH': ''}):
@@ -104,7 +104,7 @@ class Running(unittest.TestCase):
                 Program.of(arguments)
 
     def test_the_program_itself_by_another_process(self):
-        answer = Program(str(TOP / 'bench' / 'model')).run(['node x1 y1 T', 'count'])
+        answer = Program(str(TOP / 'bench' / 'model' / 'model')).run(['node x1 y1 T', 'count'])
         self.assertEqual(['n-1'], answer.replies[0].made())
         self.assertEqual(1, answer.counts()['nodes'])
 

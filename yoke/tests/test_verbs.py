@@ -276,7 +276,7 @@ class Command(FolderTest):
             self.assertEqual(1, self.err.count('\n'))
 
     def test_as_a_program(self):
-        environment = dict(os.environ, PYTHONPATH=str(TOP), YOKE_EDITOR=str(TOP / 'bench' / 'model'))
+        environment = dict(os.environ, PYTHONPATH=str(TOP), YOKE_EDITOR=str(TOP / 'bench' / 'model' / 'model'))
         self.write('town.opl', TOWN)
         done = subprocess.run([sys.executable, '-m', 'yoke', 'start', 'town.opl'], env=environment, stdout=subprocess.PIPE, stderr=subprocess.STDOUT, text=True)
         self.assertEqual((0, '4 nodes, 1 ways, 1 relations\nkept as day/000001-start.saved\n'), (done.returncode, done.stdout))

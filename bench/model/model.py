@@ -1,4 +1,3 @@
-#!/usr/bin/env python3
 """model [--max-objects N] [--max-file N] SCRIPT: writes what `editor` has to write for a script over the files in this
 folder, and ends as `editor` has to end.
 
@@ -1742,7 +1741,3 @@ def written(session, script):
             except (AttributeError, IndexError, KeyError, TypeError, ValueError) as fault:
                 sys.exit('model: script line {} is outside the grammar: {!r}'.format(number, fault))
             yield '{} {}\n{}'.format(number, reply, text)
-
-
-if __name__ == '__main__':
-    main()
