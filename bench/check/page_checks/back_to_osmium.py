@@ -1,0 +1,108 @@
+"""What comes out goes back to osmium: snapshots, histories with deletions, and change files."""
+import re
+import sys
+
+from bench.check.page_checks.case import case, expect, finds_fault
+from bench.check.page_checks.page import Wrong, all_sections, blocks_with
+from bench.check.page_checks.room import Room, random_steps, room_of, run_section, town
+
+OLD_SNAPSHOT = '''grep '^[nwr]' out.txt > objects.opl
+osmium sort objects.opl -o town-again.osm.pbf
+'''
+
+
+def edited_town(room):
+    """A town of 3,000 objects after 300 random steps of one download, deletions among them; gives the numbers of its `count`."""
+    room.write('town.opl', town(3000))
+    fixes = random_steps(room, 8, 300).decode()
+    steps = [line for line in fixes.splitlines() if line not in ('print', 'count') and not re.match(r'(download\s+town-|resume\s)', line)]
+    said = room.session(*steps, 'count', 'print')
+    room.write('out.txt', said)
+    return dict(re.findall(r'(\w+) (\d+)', re.search(r'^count (.*)$', said, re.M)[1]))
+
+
+def keeps_the_dead_dead(program, recipe, result):
+    """After a recipe the result has just the living objects."""
+    with Room(program) as room:
+        numbers = edited_town(room)
+        if int(numbers['deleted']) < 20:
+            raise SystemExit('the town has too few deletions for a test')
+        status, said = room.sh(recipe)
+        expect((0, ''), (status, said))
+        status, said = room.run(['osmium', 'cat', result, '-f', 'opl'])
+        living = [line for line in said.splitlines() if ' dV ' in line]
+        expect([numbers[kind] for kind in ('nodes', 'ways', 'relations')],
+               [str(sum(line.startswith(letter) for line in living)) for letter in 'nwr'])
+        return said
+
+
+@case('back to osmium: the snapshot has just what `count` counts as there')
+def snapshot(program):
+    for recipe in blocks_with('osmium sort snapshot.opl'):
+        keeps_the_dead_dead(program, recipe, 'snapshot.osm.pbf')
+
+
+@case('back to osmium with the deletions: each is there, as deleted')
+def with_deletions(program):
+    for recipe in blocks_with('osmium sort edited.opl'):
+        said = keeps_the_dead_dead(program, recipe, 'edited.osh.pbf')
+        with Room(program) as room:
+            expect(edited_town(room)['deleted'], str(said.count(' dD ')))
+
+
+@case('the old recipe back to osmium brings deleted objects to life, and the check sees it')
+def old_snapshot(program):
+    finds_fault(lambda: keeps_the_dead_dead(program, OLD_SNAPSHOT, 'town-again.osm.pbf'))
+
+
+@case('`osmium derive-changes` sees no edit, as its own page says')
+def derive_changes(program):
+    with Room(program) as room:
+        room.write('after.opl', ''.join(line + '\n' for line in room.session('download town.opl', 'tag w5 Tref=7', 'print').splitlines()[2:] if line[0] in 'nwr'))
+        expect((0, ''), room.run(['osmium', 'sort', 'town.opl', '-o', 'before.osm.pbf']))
+        expect((0, ''), room.run(['osmium', 'sort', 'after.opl', '-o', 'after.osm.pbf']))
+        expect((0, ''), room.run(['osmium', 'derive-changes', 'before.osm.pbf', 'after.osm.pbf', '-o', 'changes.osc']))
+        expect((0, ''), room.run(['osmium', 'cat', 'changes.osc', '-f', 'opl']))
+
+
+@case('`changes.py` has as many changes as `count` counts, and osmium reads them')
+def change_file(program):
+    with Room(program) as room:
+        numbers = edited_town(room)
+        status, said = room.run([sys.executable, 'python/changes.py', '--partial', 'town.opl', 'out.txt', '-o', 'changes.osc'])
+        expect(0, status)
+        if not re.fullmatch(r'(changes.py: \d+ objects? in (town.opl alone, purged, or out.txt is cut off|out.txt alone, .*): .*\n){0,2}', said):
+            raise Wrong(said)
+        status, said = room.run(['osmium', 'cat', 'changes.osc', '-f', 'opl'])
+        expect(numbers['changed'], str(len(said.splitlines())))
+        expect(numbers['deleted'], str(said.count(' dD ')))
+        # what the file marks as deleted was not deleted here
+        room.write('gone.opl', 'n7 v2 dD\nn8 v1 x1 y1\n')
+        room.write('gone.txt', room.session('download gone.opl', 'delete n8', 'print'))
+        status, said = room.run([sys.executable, 'python/changes.py', 'gone.opl', 'gone.txt'])
+        expect((0, 1, 1), (status, said.count('<node '), said.count('<node id="8"')))
+        # lines that a download skips are no end of the file
+        room.write('notes.opl', 'n1 v1 x1 y1\n# a note\nn2 v1 x1 y1\n\nn3 v1 x1 y1\nc1 k2\nn4 v1 x1 y1\n')
+        room.write('notes.txt', room.session('download notes.opl', 'tag n1,n2,n3,n4 Tref=1', 'print', 'find changed', 'print'))
+        status, said = room.run([sys.executable, 'python/changes.py', 'notes.opl', 'notes.txt'])
+        expect((0, ['1', '2', '3', '4']), (status, re.findall('<node id="(.*?)"', said)))
+        # nor was what the file doesn't have: it is compared with a later download of another part
+        room.write('part.opl', 'n9 v1 x2 y2\n')
+        room.write('part.txt', room.session('download gone.opl', 'delete n8', 'download part.opl', 'tag n9 Tref=1', 'print'))
+        status, said = room.run([sys.executable, 'python/changes.py', 'part.opl', 'part.txt'])
+        expect((0, ['9']), (status, re.findall('<node id="(.*?)"', said)))
+        # relations of relations: what is made behind its members, and what is deleted before them
+        room.write('nested.opl', 'n1 v1 x1 y1\nr1 v1 Mr2@,n1@\nr2 v1 Mr4@\nr3 v1 Mr3@,r1@\nr4 v1 Mr2@\n')
+        room.write('nested.txt', room.session('download nested.opl', 'delete r1,r2,r3,r4', 'relation T Mn1@', 'relation T Mn1@', 'relation T Mr-2@',
+                                              'members r-1 Mr-2@,r-3@', 'print'))
+        status, said = room.run([sys.executable, 'python/changes.py', 'nested.opl', 'nested.txt'])
+        expect((0, ['-2', '-3', '-1', '3', '1', '2', '4']), (status, re.findall('<relation id="(.*?)"', said)))
+
+
+@case('what a page has written by osmium it writes a second time: such sections run twice in one folder')
+def osmium_again(program):
+    for page, _, blocks in all_sections():
+        if any(re.search(r'^osmium .* -o ', block.text, re.M) for block in blocks if block.kind == 'sh' and block.words != ['elsewhere']):
+            with room_of(program, page) as room:
+                for _ in range(2):
+                    run_section(room, blocks, 'sh -eu')

@@ -1,0 +1,58 @@
+"""Numbers and tables in pages that a program can know are what it says."""
+import subprocess
+
+from bench.check import counted
+from bench.check.page_checks.case import case, finds_fault
+from bench.check.page_checks.page import FRONT, PAGES, TOP, Wrong, text_of
+
+
+def told_right(text):
+    """No number of a text is another one than programs count."""
+    for difference in counted.differences(text, counted.numbers()):
+        raise Wrong(difference)
+
+
+@case('the numbers of pages are those that programs count')
+def numbers(_):
+    for page in PAGES:
+        try:
+            told_right(text_of(page))
+        except Wrong as wrong:
+            raise Wrong('{}: {}'.format(page, wrong))
+
+
+@case('a number that was right once, or that nothing counts, is seen')
+def old_numbers(_):
+    counts = counted.numbers()
+    for text in ('tries the {} wrong bodies'.format(counts['edits'] + 1), 'The thirty-two faults that a line can have', 'some 77 crates', '`7 passed, 0 failed`',
+                 '{} runs of 12 whole sessions'.format(counts['runs'])):
+        finds_fault(lambda: told_right(text))
+    told_right('{} wrong bodies, `{} passed, 0 failed`, two refusals'.format(counts['edits'], counts['passes']))
+
+
+@case('the first page has the last line of the gate')
+def last_line(_):
+    if '`{passes} passed, 0 failed`'.format(**counted.numbers()) not in text_of(FRONT):
+        raise Wrong('{} has no `{passes} passed, 0 failed`'.format(FRONT, **counted.numbers()))
+
+
+def agrees(program):
+    """A program of bench/check finds the pages as it makes them."""
+    done = subprocess.run([TOP / 'bench' / 'check' / program, '--page'], stdout=subprocess.PIPE, stderr=subprocess.STDOUT, text=True)
+    if done.returncode != 0:
+        raise Wrong(done.stdout[-4000:])
+
+
+@case('the tables of definitions are those of `bench/check/believe`, and pages on proofs and crates name only what there is')
+def definitions(_):
+    agrees('believe')
+
+
+@case('each wrong body of the gate has a promise, and the pages have the tables of `bench/check/promises`')
+def promises(_):
+    agrees('promises')
+
+
+@case('the picture of the layers is that of `bench/check/layers`')
+def layers(_):
+    agrees('layers')

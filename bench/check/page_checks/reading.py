@@ -1,0 +1,161 @@
+"""The pages as a reader meets them: names of files, links, length, and how far it is to what somebody looks for."""
+import functools
+import re
+import shutil
+import subprocess
+import sys
+
+from bench.check import counted
+from bench.check.page_checks.case import case, expect, finds_fault
+from bench.check.page_checks.page import (FRONT, MOST_WORDS, OTHERS, PAGES, Block, Wrong, headings, lines_of, link_of, links, links_lead,
+                                          shows_its_name, tables, text_of, words, writes_whole)
+from bench.check.page_checks.room import Room
+
+NAMELESS = Block(1, 'opl', ['part.opl'], 'n1 v1 x1 y1\n')
+# what somebody looks for is at most so many links from the first page
+FARTHEST = 2
+
+
+# ---- blocks ----
+
+@case('a file in a page shows its name, in its first line or in the line before, and the check sees where it does not')
+def names_shown(_):
+    shows_its_name(NAMELESS, 'What `part.opl` has:')
+    shows_its_name(NAMELESS._replace(text='# part.opl\nn1 v1 x1 y1\n'), 'It has:')
+    for before in ('It has:', 'part.opl:', '`apart.opl`', ''):
+        finds_fault(lambda: shows_its_name(NAMELESS, before))
+
+
+OLD_RECIPES = ['python3 python/answers.py send.txt 1 result.xml > answers-1\n', 'yokeorange day.script>day.saved\n', 'cat a >> b\n', '{ echo x; } > repair.script\n',
+               'osmium cat a.osm -f opl 1> fresh.opl\n', "printf 'a' > b\n"]
+HARMLESS = ['echo lost >&2\n', 'rm x 2> /dev/null\n', "awk '$1 > 2' f\n", '# a > b\ncat f\n', 'grep x f | python3 python/whole.py -o g\n', 'cat f > /dev/null 2>&1\n']
+
+
+@case('no recipe writes to a file by `>`, and the check sees the old ones')
+def no_redirections(_):
+    for text in HARMLESS:
+        writes_whole(Block(1, 'sh', [], text))
+    for text in OLD_RECIPES:
+        finds_fault(lambda: writes_whole(Block(1, 'sh', [], text)))
+
+
+# ---- links ----
+
+@case('each link of each page leads to a file that there is, and to a heading of it')
+def all_links_lead(_):
+    for page in PAGES + OTHERS:
+        try:
+            links_lead(page)
+        except Wrong as wrong:
+            raise Wrong('{}, {}'.format(page, wrong))
+
+
+@case('links are read as a browser reads them')
+def links_read(_):
+    expect(('docs/OPL.md', ''), link_of('README.md', 1, 'docs/OPL.md')[2:])
+    expect(('docs/OPL.md', 'lines'), link_of('docs/HOWTO/send.md', 1, '../OPL.md#lines')[2:])
+    expect(('docs/HOWTO/send.md', 'a'), link_of('docs/HOWTO/send.md', 1, '#a')[2:])
+    expect(None, link_of('README.md', 1, 'https://osm.org/x#y'))
+
+
+@functools.lru_cache(maxsize=None)
+def distances():
+    """How many links each page is from the first one."""
+    found, front = {FRONT: 0}, [FRONT]
+    while front:
+        page = front.pop(0)
+        for link in links(page) if page in PAGES + OTHERS else []:
+            if link.target not in found:
+                found[link.target] = found[page] + 1
+                front.append(link.target)
+    return found
+
+
+@case('each page can be reached from the first one')
+def all_reached(_):
+    expect([], [page for page in PAGES if page not in distances()])
+
+
+def nearest(pages):
+    """How many links the nearest of these pages is from the first one."""
+    return min((distances()[page] for page in pages if page in distances()), default=FARTHEST + 1)
+
+
+def entries():
+    """The pages that have an entry of each line of a script: a heading, or a row of a table that begins with it."""
+    found = {verb: set() for verb in counted.verbs()}
+    for page in PAGES:
+        places = [heading.text for heading in headings(page)] + [row[0] for table in tables(page) for row in table.rows]
+        for place in places:
+            for word in re.findall(r'`([a-z]+)', place) or re.findall(r'^([a-z]+)\b', place):
+                found.get(word, set()).add(page)
+    return found
+
+
+@case('each line of a script has an entry, two links from the first page at most')
+def lines_near(_):
+    expect([], [verb for verb, pages in entries().items() if nearest(pages) > FARTHEST])
+
+
+@case('each word with which an entry of the table of lines begins is one of a script')
+def forms(_):
+    listed = {word for page in PAGES for table in tables(page) if table.heads[:2] == ['line', 'what it does'] for row in table.rows
+              for word in re.findall(r'`([a-z]+)', row[0])}
+    expect([], sorted(listed - set(counted.verbs())))
+
+
+def ways_out():
+    """The pages that have the way out of each refusal: a cell of its row, or words under its heading."""
+    found = {number: set() for number in counted.refusals()}
+    for page in PAGES:
+        for table in tables(page):
+            if table.heads[0] == 'number' and 'way out' in table.heads:
+                for row in table.rows:
+                    if row[table.heads.index('way out')]:
+                        found.get(int(row[0]), set()).add(page)
+        lines = lines_of(page)
+        for heading, end in zip(headings(page), [other.line - 1 for other in headings(page)[1:]] + [len(lines)]):
+            number = re.fullmatch('Refusal ([0-9]+)', heading.text)
+            if number and re.search('way out', '\n'.join(lines[heading.line:end]), re.I):
+                found.get(int(number[1]), set()).add(page)
+    return found
+
+
+@case('the way out of each refusal is two links from the first page at most')
+def ways_out_near(_):
+    expect([], [number for number, pages in ways_out().items() if nearest(pages) > FARTHEST])
+
+
+# ---- length ----
+
+@case('no page has more than {:,} words'.format(MOST_WORDS))
+def sittings(_):
+    expect([], ['{}: {:,}'.format(page, words(page)) for page in PAGES if words(page) > MOST_WORDS])
+
+
+@case('README.md has at most 120 lines')
+def front_page(_):
+    if len(lines_of(FRONT)) > 121:
+        raise Wrong('{} lines'.format(len(lines_of(FRONT)) - 1))
+
+
+# ---- what stands beside the pages ----
+
+@case('the toolkit that README.md names is the one that is here')
+def toolkit(_):
+    if not shutil.which('rt'):
+        return
+    kit, logic = subprocess.run(['rt', 'version'], stdout=subprocess.PIPE, text=True).stdout.strip().split(' ', 1)
+    if '`{}`'.format(logic) not in text_of(FRONT) or kit.rsplit('-', 1)[1] not in text_of(FRONT):
+        raise Wrong('rt version says {} {}'.format(kit, logic))
+
+
+@case('the driver in Python and the commands beside it do what their tests say')
+def driver(program):
+    with Room(program) as room:
+        for python in filter(None, [sys.executable, shutil.which('python3.8')]):      # the oldest that session.py names
+            if room.run([python, '-c', ''])[0] == 0:
+                for test in ('test_session.py', 'test_tools.py'):
+                    status, said = room.run([python, 'python/' + test, 'yokeorange'], timeout=1800)
+                    if status != 0:
+                        raise Wrong(said[-2000:])

@@ -1,0 +1,136 @@
+"""Refusals: each has a place in the pages, and the ways out that they give lead out."""
+import re
+
+from bench.check import counted
+from bench.check.page_checks.case import case, expect, finds_fault
+from bench.check.page_checks.page import PAGES, Wrong, headings, table, tables_with
+from bench.check.page_checks.room import Room
+
+HOUSES = '''n1 v1 x13.001 y52
+n2 v1 x13.002 y52
+n3 v1 x13.002 y52.001
+n4 v1 x13.001 y52.001
+n5 v1 x13.003 y52
+n6 v1 x13.003 y52.001
+w181 v2 Tbuilding=house Nn1,n2,n3,n4,n1
+w182 v2 Tbuilding=house Nn2,n5,n6,n3,n2
+'''
+
+
+NEIGHBOUR = 'w182 v2 dV c0 t i0 u Tbuilding=house Nn2,n5,n6,n3,n2'
+
+
+def neighbour_stays(program, step):
+    """The house is deleted by the step, and the neighbour's is as it was."""
+    with Room(program) as room:
+        room.write('houses.opl', HOUSES)
+        lines = room.session('download houses.opl', step, 'print').splitlines()
+        expect('2 ok', lines[1])
+        for line in (NEIGHBOUR, 'w181 v2 dD c0 t i0 u T N'):
+            if line not in lines:
+                raise Wrong('there is no {}'.format(line))
+
+
+@case('refusal 5: leaving the shared nodes out, or `erase` of the way alone, keeps the house next door')
+def shared_nodes(program):
+    with Room(program) as room:
+        room.write('houses.opl', HOUSES)
+        expect('1 ok\n2 refused 5 n2 w182\n', room.session('download houses.opl', 'delete w181,n1,n2,n3,n4'))
+    neighbour_stays(program, 'delete w181,n1,n4')
+    neighbour_stays(program, 'erase w181')
+
+
+@case('refusal 5: naming the user, or `erase` with the nodes, harms the house next door, and the check sees it')
+def old_shared_nodes(program):
+    finds_fault(lambda: neighbour_stays(program, 'delete w181,w182,n1,n2,n3,n4'))
+    finds_fault(lambda: neighbour_stays(program, 'erase w181,n1,n2,n3,n4'))
+
+
+@case('refusal 7: its four causes, and a `move` that meets it')
+def does_not_fit(program):
+    long = 'a' * 256
+    with Room(program) as room:
+        nodes = ['n{}'.format(number) for number in range(1, 2002)]
+        room.write('long.opl', ''.join('{} v1 x1 y1\n'.format(node) for node in nodes) + 'n3000 v1 x1 y1 Tnote={}\n'.format(long))
+        said = room.session(
+            'download long.opl', 'way T N', 'way T N' + ','.join(nodes), 'way T N' + ','.join(nodes[:2000]), 'relation T M' + ','.join(['n1@'] * 32001),
+            'relation T M' + ','.join(['n1@'] * 32000), 'node x1 y1 T{}=1'.format(long), 'node x1 y1 Ta={}'.format(long), 'relation T Mn1@' + long,
+            'move n3000 0.1 0', 'tag n3000 Tnote=', 'move n3000 0.1 0')
+        expect(['1 ok', '2 refused 7 w-1', '3 refused 7 w-1', '4 ok w-1', '5 refused 7 r-2', '6 ok r-2', '7 refused 7 n-3', '8 refused 7 n-3',
+                '9 refused 7 r-3', '10 refused 7 n3000', '11 ok', '12 ok'], said.splitlines())
+
+
+@case('refusal 17: a file edited by hand; `purge` and a file with the one object take it anew')
+def anew(program):
+    with Room(program) as room:
+        room.write('way.opl', 'w5 v1 dD\n')
+        room.write('older.opl', 'w5 v1 Thighway=track Nn1,n3\n')
+        expect(['2 refused 17 w5 1', '3 ok', '4 ok', '5 ok'], room.session(
+            'download town.opl', 'download way.opl', 'purge w5', 'download way.opl', 'print').splitlines()[1:5])
+        said = room.session('download way.opl', 'download older.opl', 'purge w5', 'download older.opl')
+        expect('1 ok\n2 refused 17 w5 1\n3 ok\n4 ok\n', said)
+
+
+@case('refusal 4: a conflict goes with `undo` of the download that it came with, with all that was done since')
+def taken_back(program):
+    with Room(program) as room:
+        room.write('later.opl', 'w5 v2 Thighway=track Nn1,n2,n3\n')
+        said = room.session('download town.opl', 'tag w5 Thighway=path', 'download later.opl', 'tag w5 Tref=7', 'count', 'undo 1', 'tag w5 Tref=7', 'count')
+        expect(['1 ok', '2 ok', '3 ok', '4 refused 4 w5', '5 ok', '6 ok', '7 ok', '8 ok'], [line for line in said.splitlines() if line[0] != 'c'])
+        expect(['1', '0'], re.findall(r'conflicts (\d+)', said))
+
+
+@case('the way out of a conflict: the script again over the newer file alone, where its steps are made on what the server has')
+def over_the_newer(program):
+    with Room(program) as room:
+        room.write('later.opl', 'w5 v2 Thighway=track Nn1,n2,n3\n')
+        expect(['1 ok', '2 ok', '3 ok', 'w5 v2 dV c0 t i0 u Thighway=path Nn1,n2,n3'],
+               room.session('download later.opl', 'tag w5 Thighway=path', 'print').splitlines())
+
+
+@case('refusal 14: what `split` mended `combine` refuses, and `undo` takes back')
+def cut_restriction(program):
+    with Room(program) as room:
+        room.write('turn.opl', ''.join('n{} v1 x1.00{} y1\n'.format(n, n) for n in range(1, 5))
+                   + 'w10 v1 Nn1,n2,n3\nw11 v1 Nn3,n4\nr21 v1 Ttype=restriction Mw10@from,n3@via,w11@to\n')
+        expect('1 ok\n2 ok w-1\n3 refused 14 r21\n4 ok\n', room.session('download turn.opl', 'split w10 n2', 'combine w10,w-1', 'undo 1'))
+
+
+@case('refusal 14: a route with all of the ways, or with none, is no hindrance')
+def route(program):
+    with Room(program) as room:
+        room.write('route.opl', ''.join('n{} v1 x1.00{} y1\n'.format(n, n) for n in range(1, 4))
+                   + 'w1 v1 Nn1,n2\nw2 v1 Nn2,n3\nr8 v1 Ttype=route Mn1@stop,w1@\n')
+        said = room.session('download route.opl', 'combine w1,w2', 'members r8 Mn1@stop,w1@,w2@', 'combine w1,w2', 'undo 2', 'members r8 Mn1@stop', 'combine w1,w2')
+        expect('1 ok\n2 refused 14 r8\n3 ok\n4 ok\n5 ok\n6 ok\n7 ok\n', said)
+
+
+@case('the pages have each refusal and each status that the code has, and no other')
+def rows(_):
+    listed = table('number', 'reply').rows
+    expect(sorted(counted.refusals()), sorted({int(row[0]) for row in listed if re.match('`refused {}[ `]'.format(row[0]), row[1])}))
+    told = {int(row[0]): re.sub(' [A-Z]+$', '', row[1].strip(' `')) for row in table('code', 'text').rows}
+    expect({number: 'editor: ' + words if number else '' for number, words in counted.statuses().items()}, told)
+    for heading in [heading for page in PAGES for heading in headings(page)]:
+        number = re.fullmatch('Refusal ([0-9]+)', heading.text)
+        if number and int(number[1]) not in counted.refusals():
+            raise Wrong('{} has a heading {}'.format(heading.page, heading.text))
+
+
+def orders():
+    """The refusals of each step in their order, by the words of the steps, where a page has them."""
+    found = {}
+    for order in tables_with('step', 'in this order'):
+        for step, numbers in order.rows:
+            found.update({word: numbers for word in re.findall('`([a-z]+)`', step)})
+    return found
+
+
+@case('the order of refusals of each step names refusals that there are, that of `move` 7 among them')
+def orders_named(_):
+    for step, numbers in orders().items():
+        for number in re.findall(r'\b[0-9]+\b', numbers):
+            if int(number) not in counted.refusals():
+                raise Wrong('the order of refusals of {} names {}'.format(step, number))
+    if orders() and not re.search(r'\b7\b', orders().get('move', '')):
+        raise Wrong('the order of refusals of `move` names no 7')

@@ -1,0 +1,169 @@
+"""Uploads: the documents for a server, its answers, and a whole upload in stages."""
+import pathlib
+import re
+import sys
+
+from bench.check.page_checks.case import case, expect, indent
+from bench.check.page_checks.page import TOP, Wrong, all_blocks, blocks_with
+from bench.check.page_checks.room import Room, random_steps, town
+
+CHANGESET = 4711
+
+
+MOST_CHUNKS = 10
+
+
+def uploads_of(output):
+    """Each upload in an output: the output up to its end, and the lines of its chunks without their heads."""
+    ends = [found.end() for found in re.finditer(r'^upload changes .*\n(?:(?:chunk|create|modify|delete) .*\n)*', output, re.M)]
+    for end in ends:
+        until = output[:end]
+        changes, chunks = map(int, re.findall(r'^upload changes (\d+) chunks (\d+)$', until, re.M)[-1])
+        told = until[until.rindex('\nupload changes '):]
+        yield until, changes, [part.splitlines()[1:] for part in re.split(r'^(?=chunk )', told, flags=re.M)[1:]]
+
+
+def as_osmium_writes(change):
+    """A line of an upload as osmium writes the change, in OPL, that it read in an osmChange document."""
+    verb, line = change.split(' ', 1)
+    if verb == 'delete':
+        line += ' dD c0 t i0 u T' + {'n': ' x y', 'w': ' N', 'r': ' M'}[line[0]]
+    line = re.sub('%10([0-9a-f]{4})%', r'%1\1%', line)      # it reads U+10FFFF, and leaves the zero out when it writes OPL
+    return line.replace(' c0 ', ' c{} '.format(CHANGESET), 1)
+
+
+def same_in_osmchange(room, output, chunks):
+    """The document of each chunk has just its changes, as osmium reads it."""
+    room.write('out.txt', output)
+    for at, chunk in enumerate(chunks):
+        status, said = room.run([sys.executable, 'python/osmchange.py', 'out.txt', str(at + 1), str(CHANGESET)])
+        expect(0, status)
+        verbs = [change.split(' ')[0] for change in chunk]
+        expect([verb for place, verb in enumerate(verbs) if place == 0 or verbs[place - 1] != verb],
+               re.findall(r'^  <(create|modify|delete)>$', said, re.M))
+        room.write('chunk.osc', said)
+        status, said = room.run(['osmium', 'cat', 'chunk.osc', '-f', 'opl'])
+        expect((0, [as_osmium_writes(change) for change in chunk]), (status, said.splitlines()))
+
+
+def random_uploads(room, seed):
+    """The uploads of a random session over a town of 3,000 objects and some files that tell of it anew, those with few chunks."""
+    room.write('town.opl', town(3000))
+    (room.folder / 'random.script').write_bytes(random_steps(room, seed, 300))
+    # U+007F is no text for the API, so a document with it isn't made
+    for path in filter(pathlib.Path.is_file, room.folder.iterdir()):
+        path.write_bytes(re.sub(b'\x7f|%0*7[fF]%', b'', path.read_bytes()))
+    status, said = room.run(['yokeorange', 'random.script'])
+    expect(0, status)
+    return [upload for upload in uploads_of(said) if len(upload[2]) <= MOST_CHUNKS]
+
+
+@case('`osmchange.py` has as many changes as `upload` counts, and osmium reads each of them as it stands there')
+def osmchange(program):
+    seen = set()
+    for seed in (1, 3):
+        with Room(program) as room:
+            for output, changes, chunks in random_uploads(room, seed):
+                expect(changes, sum(map(len, chunks)))
+                same_in_osmchange(room, output, chunks)
+                seen.update(change.split(' ')[0] + change.split(' ')[1][0] for chunk in chunks for change in chunk)
+    expect({verb + kind for verb in ('create', 'modify', 'delete') for kind in 'nwr'}, seen)
+
+
+UPLOAD = TOP / 'examples' / 'upload'
+
+
+STAGES = [(11, 1, 1), (19, 1, 2), (22, 1, 3)]      # the script's lines up to an upload, the chunk that was taken, and its answers
+
+
+@case('examples/upload: each stage is a beginning of the whole script, and `answers.py` makes its answer files')
+def whole_upload(program):
+    with Room(program) as room:
+        room.folder = room.folder / 'upload'
+        lines = (UPLOAD / 'mill.script').read_text().splitlines(True)
+        want = (UPLOAD / 'mill.expected').read_text()
+        expect((0, want), room.run(['yokeorange', 'mill.script']))
+        for count, chunk, number in STAGES:
+            room.write('stage.script', ''.join(lines[:count]))
+            status, said = room.run(['yokeorange', 'stage.script'])
+            expect((0, True), (status, want.startswith(said)))
+            room.write('stage.txt', said)
+            made = room.run([sys.executable, '../python/answers.py', 'stage.txt', str(chunk), 'result-{}.xml'.format(number)])
+            expect((0, (UPLOAD / 'answers-{}'.format(number)).read_text()), made)
+            for other in {1, 2, 3} - {number}:
+                status, said = room.run([sys.executable, '../python/answers.py', 'stage.txt', str(chunk), 'result-{}.xml'.format(other)])
+                if status != 1 or 'Traceback' in said:
+                    raise Wrong('the answers to another chunk are taken: {}'.format(said))
+
+
+@case('examples/upload: what the server took, by osmium, over the extract is what the session prints')
+def whole_upload_by_osmium(program):
+    with Room(program) as room:
+        room.folder = room.folder / 'upload'
+        lines = (UPLOAD / 'mill.script').read_text().splitlines(True)
+        expect((0, ''), room.run(['osmium', 'sort', 'extract.opl', 'fresh.opl', '-o', 'area.osh.pbf']))
+        expect((0, ''), room.run(['osmium', 'time-filter', 'area.osh.pbf', '-o', 'area.osm.pbf']))
+        ids, documents = {}, []
+        for count, chunk, number in STAGES:
+            room.write('stage.txt', room.session(*''.join(lines[:count]).splitlines()))
+            status, said = room.run([sys.executable, '../python/osmchange.py', 'stage.txt', str(chunk), '4711'])
+            expect(0, status)
+            for line in (UPLOAD / 'answers-{}'.format(number)).read_text().splitlines():
+                if line.startswith('create '):
+                    old, new = [key[1:] for key in line.split(' ')[1:3]]
+                    ids[old] = new
+            for old, new in ids.items():
+                said = re.sub(r'( (?:id|ref)=")%s"' % old, r'\g<1>%s"' % new, said)
+            said = re.sub(r' version="(\d+)"', lambda found: ' version="{}"'.format(int(found[1]) + 1), said)     # as it is behind the change
+            room.write('took-{}.osc'.format(number), said)
+            documents.append('took-{}.osc'.format(number))
+        status, said = room.run(['osmium', 'apply-changes', 'area.osm.pbf', *documents, '-f', 'opl'])
+        content = lambda line: re.sub(r' c\d+ t\S* i\d+ u\S* ', ' ', line)
+        printed = [line for line in (UPLOAD / 'mill.expected').read_text().split('27 ok\n')[1].splitlines() if ' dV ' in line]
+        sort_tags = lambda line: re.sub(r' T(\S*)', lambda found: ' T' + ','.join(sorted(found[1].split(','))), line)
+        expect((0, sorted(map(content, printed))), (status, sorted(sort_tags(content(line)) for line in said.splitlines())))
+
+
+@case('the case of the gate on a whole upload is examples/upload')
+def same_upload(_):
+    bundle = (TOP / 'crates' / 'session_cases' / 'data' / 'whole_upload.txt').read_text()
+    files = dict(re.findall(r'^= file (\S+)\n((?:(?!= ).*\n)*)', bundle, re.M))
+    expect(['answers-1', 'answers-2', 'answers-3', 'drawn.opl', 'extract.opl', 'fresh.opl', 'script'], sorted(files))
+    for name, text in files.items():
+        expect((UPLOAD / ('mill.script' if name == 'script' else name)).read_text(), text)
+    expect((UPLOAD / 'mill.expected').read_text(), bundle.split('= expect done\n')[1])
+
+
+@case('`osmchange.py` ends with 1 and says why where there is no such chunk')
+def no_chunk(program):
+    with Room(program) as room:
+        room.write('none.txt', room.session('download town.opl', 'upload 1'))
+        room.write('one.txt', room.session('download town.opl', 'tag n1 Tref=7', 'upload 1'))
+        for words, text in [([], 'osmchange.py OUTPUT CHUNK CHANGESET'), (['one.txt', '0', '1'], 'osmchange.py OUTPUT CHUNK CHANGESET'),
+                            (['gone.txt', '1', '1'], 'gone.txt'), (['none.txt', '1', '1'], 'no upload'), (['town.opl', '1', '1'], 'no upload'),
+                            (['one.txt', '2', '1'], 'no chunk 2')]:
+            status, said = room.run([sys.executable, 'python/osmchange.py', *words])
+            if status != 1 or text not in said or 'Traceback' in said:
+                raise Wrong('{}: status {}\n{}'.format(words, status, indent(said)))
+
+
+@case('no recipe confirms a file without an answer')
+def confirmed(_):
+    answered = {name for block in all_blocks() if block.kind == 'answers' for name in block.words[:1] if re.search('^(create|modify|delete) ', block.text, re.M)}
+    answered |= {path.name for path in UPLOAD.glob('answers-*') if re.search('^(create|modify|delete) ', path.read_text(), re.M)}
+    scripts = [block.text for block in all_blocks() if block.kind in ('script', 'sh')] + [(UPLOAD / 'mill.script').read_text()]
+    named = [name for text in scripts for name in re.findall(r'^confirm (\S+)$', text, re.M)]
+    if len(named) < 10:
+        raise Wrong('only {} were found'.format(named))
+    expect([], [name for name in named if name not in answered])
+
+
+@case('an answer that never came is confirmed by nobody: the steps of the page, with a slip in the name of a file')
+def not_sent_twice(program):
+    with Room(program) as room:
+        step = [line for line in blocks_with('send.txt 1 result.xml -o answers-1')[0].splitlines() if 'answers.py' in line][0]
+        room.write('send.script', 'download monday.opl\nnode x13.004 y52 T\nupload 10\n')
+        expect((0, ''), room.sh('python3 python/session.py send.script -o send.txt\n'))
+        status, said = room.sh(step.replace('result.xml', 'resutl.xml') + '\n')
+        expect((1, True), (status, 'resutl.xml' in said))
+        expect('4 refused 19', room.session(*(room.folder / 'send.script').read_text().splitlines(), 'confirm answers-1', 'upload 10').splitlines()[6])
