@@ -56,7 +56,7 @@ ACROSS = [
 
 @case('a merge joins object by object: each row of the page, from both sides, and what finds it')
 def across_objects(program):
-    query = phrase(r'`(find relation and not changed and .*?)`')[1]
+    query = phrase(r'`(find relation and not changed and .*?)`')
     for before, step, others, wanted, found, asked in ACROSS:
         with Room(program) as room:
             room.write('high.opl', ''.join(line + '\n' for line in before))

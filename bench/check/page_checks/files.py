@@ -102,7 +102,7 @@ def stricter_than_osmium(program):
 @case('which fault comes first in tags and members')
 def first_broken(program):
     numbers = {row[1]: row[0] for row in table(*FAULTS).rows}
-    found = re.findall(r'`([TM]\S*)`(?: is (\w+)|, since)', phrase('the first broken thing counts.*')[0])
+    found = re.findall(r'`([TM]\S*)`(?: is (\w+)|, since)', phrase('the first broken thing counts.*'))
     if len(found) < 7:
         raise Wrong('{} were found'.format(found))
     with Room(program) as room:

@@ -54,11 +54,11 @@ def text_of(page):
 
 
 def phrase(pattern):
-    """The one match of a pattern in what the pages tell."""
-    found = [hit for page in PAGES for hit in re.finditer(pattern, text_of(page), re.M)]
+    """What a pattern's group is, or all of it, in what the pages tell: the same wherever it stands."""
+    found = {hit[hit.lastindex or 0] for page in PAGES for hit in re.finditer(pattern, text_of(page), re.M)}
     if len(found) != 1:
-        raise Wrong('{} places have {}'.format(len(found), pattern))
-    return found[0]
+        raise Wrong('{} unlike places have {}'.format(len(found) or 'no', pattern))
+    return found.pop()
 
 
 # ---- blocks ----

@@ -1,0 +1,65 @@
+"""Tables, pictures and numbers that programs write into the pages. A table is found by its first row and a picture by the
+remark before it, in whatever page they stand."""
+import pathlib
+import re
+
+from bench.check import counted
+
+TOP = pathlib.Path(__file__).resolve().parents[2]
+# what changed stays as it was told then
+LEFT_OUT = ['CHANGELOG.md']
+
+
+def pages():
+    """The pages into which something may be written, by name."""
+    names = [path.name for path in TOP.glob('*.md')] + sorted(str(path.relative_to(TOP)) for path in (TOP / 'docs').glob('**/*.md'))
+    return {name: (TOP / name).read_text(encoding='utf-8') for name in names if name not in LEFT_OUT}
+
+
+class Written:
+    """The pages as they are, and as a program makes them."""
+
+    def __init__(self):
+        self.was = pages()
+        self.texts, self.faults = dict(self.was), []
+
+    def put(self, pattern, text, name):
+        """Puts a text in the place of the one match of a pattern."""
+        found = [(page, re.search(pattern, was, re.M)) for page, was in self.texts.items() for _ in re.findall(pattern, was, re.M)]
+        if len(found) != 1:
+            self.faults.append('{} pages have {}'.format(len(found) or 'no', name))
+            return
+        page, hit = found[0]
+        self.texts[page] = self.texts[page][:hit.start()] + text + self.texts[page][hit.end():]
+
+    def put_table(self, rows):
+        """Puts a table, as lines, in the place of the one that begins with the same row."""
+        self.put(r'^{}\n(?:\|.*\n)+'.format(re.escape(rows[0])), '\n'.join(rows) + '\n', 'the table ' + rows[0])
+
+    def put_tables(self, lines):
+        """Puts tables with an empty line between them."""
+        for table in '\n'.join(lines).split('\n\n'):
+            self.put_table(table.split('\n'))
+
+    def put_picture(self, mark, drawn):
+        """Puts a picture of plain text after its remark."""
+        self.put(r'^{}\n```.*\n(?:(?!```).*\n)*```\n'.format(re.escape(mark)), '{}\n```\n{}```\n'.format(mark, drawn), mark)
+
+    def put_numbers(self):
+        """Puts the numbers that programs count."""
+        counts = counted.numbers()
+        self.texts = {page: counted.corrected(text, counts) for page, text in self.texts.items()}
+
+    def write(self):
+        """Writes the pages that are others than they were."""
+        for page, text in self.texts.items():
+            if text != self.was[page]:
+                (TOP / page).write_text(text, encoding='utf-8')
+
+    def differences(self, command):
+        """What isn't so, a sentence each, and the command that mends it."""
+        for page, text in self.texts.items():
+            if text != self.was[page]:
+                lines = self.was[page].split('\n')
+                changed = next((line for line in text.split('\n') if line not in lines), '')
+                yield '{} is not as `{}` makes it: {}'.format(page, command, changed[:160])
