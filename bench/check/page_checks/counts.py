@@ -56,3 +56,10 @@ def promises(_):
 @case('the picture of the layers is that of `bench/check/layers`')
 def layers(_):
     agrees('layers')
+
+
+@case('each picture of docs/pictures is as `bench/pictures` makes it, and can be read')
+def pictures(_):
+    done = subprocess.run([TOP / 'bench' / 'pictures'], stdout=subprocess.PIPE, stderr=subprocess.STDOUT, text=True)
+    if done.returncode != 0:
+        raise Wrong(done.stdout[-4000:])
