@@ -1,16 +1,27 @@
 #!/usr/bin/env python3
-"""Tests of bench/wrong/run that need no toolkit: how functions are found, and what a check's words come to."""
+"""Tests of bench/wrong/run that need no toolkit: how functions are found, what a check's words come to, and which libraries each
+kit takes."""
+import contextlib
 import importlib.machinery
 import importlib.util
+import io
+import os
 import pathlib
 import sys
+import tempfile
 import threading
+import types
 import unittest
+from unittest import mock
 
 LOADER = importlib.machinery.SourceFileLoader('run', str(pathlib.Path(__file__).resolve().parent / 'run'))
 RUN = importlib.util.module_from_spec(importlib.util.spec_from_loader('run', LOADER))
 sys.modules['run'] = RUN
 LOADER.exec_module(RUN)
+from bench.wrong import kits                                                            # noqa: E402
+from launcher import crates as crates_txt, keys                                         # noqa: E402
+from launcher.store import Store                                                        # noqa: E402
+from launcher.toolkit import Toolkit                                                    # noqa: E402
 
 SOURCE = '''//! A module.
 pub trait Rule {
@@ -221,6 +232,161 @@ class TheRounds(unittest.TestCase):
 
     def test_a_check_that_was_killed_says_nothing(self):
         self.assertEqual({'one': RUN.UNSURE}, self.run_all([edit('one', 'f')], lambda edits: '').told)
+
+
+# ---- kits ----
+
+LOGIC = 'dac8208d650f15bf'
+PROVED = 'logic=proved functions=3 sum={} native=nat,char,string logic-built=trusted libraries-built=trusted statements=trusted'.format(LOGIC)
+CHAIN = {'low': [], 'middle': ['low'], 'high': ['middle']}
+
+
+class StandInCrate:
+    """A crate of a stand-in for rt: its library is a folder with one file, and it notes which were built."""
+
+    built, stamps = [], 0
+    allowed, cuts_libraries = (), False
+
+    def __init__(self, root, name, deps):
+        self.name, self.deps, self.folder = name, deps, '{}/crates/{}'.format(root, name)
+        self.rlib = '{}/out/rlib/{}.rlib'.format(self.folder, name)
+
+    def below(self):
+        return [it for dep in self.deps for it in [*dep.below(), dep]]
+
+    def stamp(self):
+        StandInCrate.stamps += 1
+        return repr([self.name, [dep.stamp() for dep in self.deps]])
+
+    def build_rlib(self, flags, anew):
+        StandInCrate.built.append(self.name)
+        pathlib.Path(self.rlib).mkdir(parents=True)
+        pathlib.Path(self.rlib, 'format').write_text('built')
+        return 0
+
+
+def stand_in(**more):
+    """The names of an rt that keeps nothing."""
+    def crates_of(root, aside):
+        found = {}
+        for name, below in CHAIN.items():
+            found[name] = StandInCrate(root, name, [found[it] for it in below])
+        return list(found.values())
+
+    rtlib = types.SimpleNamespace(guarded=lambda: [], Crate=StandInCrate)
+    return types.SimpleNamespace(Crate=StandInCrate, crates_of=crates_of, free=lambda: 0, handles_of=lambda root: (), need=lambda crate: 0,
+                                 must_fail=lambda crate, edit, flags: (True, 'must-fail low/x.edit: refused, as it must be'), processors=lambda: 1,
+                                 read_edit=None, rtlib=rtlib, **more)
+
+
+class KitsThatKeepNothing(unittest.TestCase):
+    """Libraries of a kit as `rattle-kit-13b`, over a small checkout, with a launcher's folder of its own."""
+
+    def setUp(self):
+        holder = tempfile.TemporaryDirectory(prefix='kits-')
+        self.addCleanup(holder.cleanup)
+        self.addCleanup(os.chdir, os.getcwd())
+        self.addCleanup(setattr, StandInCrate, 'stamp', StandInCrate.stamp)
+        self.room, StandInCrate.built, StandInCrate.stamps = pathlib.Path(holder.name), [], 0
+        self.top = self.room / 'top'
+        for name in CHAIN:
+            (self.top / 'crates' / name / 'src').mkdir(parents=True)
+            (self.top / 'crates' / name / 'src' / 'lib.rt').write_text('// {}\n'.format(name))
+        (self.top / 'crates.txt').write_text(''.join('{}: {}\n'.format(name, ' '.join(below)) for name, below in CHAIN.items()))
+        for patch in (mock.patch.dict(os.environ, {'XDG_CACHE_HOME': str(self.room / 'cache')}),
+                      mock.patch.object(kits.toolkit, 'find', lambda store: Toolkit('/kit', 'a kit logic ' + LOGIC, 'this kit'))):
+            patch.start()
+            self.addCleanup(patch.stop)
+        self.store = Store(str(self.room / 'cache' / 'yokeorange'))
+
+    def keep(self, *names, verdict=PROVED):
+        """The launcher keeps the libraries of these crates."""
+        self.store.make(str(self.top))
+        listed = crates_txt.read(str(self.top), list(CHAIN))
+        all_keys = keys.of_crates(listed, keys.of_texts(str(self.top), listed), 'this kit')
+        for name in names:
+            pathlib.Path(self.store.part(name)).mkdir()
+            pathlib.Path(self.store.part(name), 'format').write_text('kept')
+            self.store.keep(name, all_keys[name], verdict)
+
+    def laid(self, *names):
+        """What the libraries below these crates come from, and which were built."""
+        (self.room / 'try').mkdir()
+        kit = kits.kit_of(stand_in(), self.top, str(self.room / 'try' / 'repo'), str(self.room / 'try'))
+        with contextlib.redirect_stdout(io.StringIO()):
+            kit.lay(names, 1)
+        libraries = {name: pathlib.Path(crate.rlib, 'format') for name, crate in kit.crates.items()}
+        return {name: path.read_text() for name, path in libraries.items() if path.exists()}, StandInCrate.built
+
+    def test_what_it_lacks_is_built_below_what_is_tried(self):
+        self.assertEqual(({'low': 'built', 'middle': 'built'}, ['low', 'middle']), self.laid('high'))
+
+    def test_nothing_is_built_below_the_lowest(self):
+        self.assertEqual(({}, []), self.laid('low'))
+
+    def test_what_the_launcher_kept_is_taken(self):
+        self.keep('low', 'middle')
+        self.assertEqual(({'low': 'kept', 'middle': 'kept'}, []), self.laid('high'))
+
+    def test_a_library_of_another_text_is_not_taken(self):
+        self.keep('low', 'middle')
+        (self.top / 'crates' / 'middle' / 'src' / 'lib.rt').write_text('// another\n')
+        self.assertEqual(({'low': 'kept', 'middle': 'built'}, ['middle']), self.laid('high'))
+
+    def test_a_library_over_one_that_was_built_is_not_taken(self):
+        self.keep('middle')
+        self.assertEqual(({'low': 'built', 'middle': 'built'}, ['low', 'middle']), self.laid('high'))
+
+    def test_a_library_whose_bytes_changed_is_not_taken(self):
+        self.keep('low')
+        pathlib.Path(self.store.rlib('low'), 'format').write_text('another')
+        self.assertEqual(({'low': 'built'}, ['low']), self.laid('middle'))
+
+    def test_a_verdict_that_leaves_something_out_is_not_taken(self):
+        self.keep('low', verdict=PROVED + ' incremental=trusted')
+        self.assertEqual(({'low': 'built'}, ['low']), self.laid('middle'))
+
+    def test_a_library_of_another_toolkit_is_not_taken(self):
+        self.keep('low')
+        with mock.patch.object(kits.toolkit, 'find', lambda store: Toolkit('/kit', 'a kit logic ' + LOGIC, 'another kit')):
+            self.assertEqual(({'low': 'built'}, ['low']), self.laid('middle'))
+
+    def test_what_is_kept_stays_as_it_was(self):
+        self.keep('low')
+        self.laid('middle')
+        self.assertEqual('kept', pathlib.Path(self.store.rlib('low'), 'format').read_text())
+
+    def test_a_sum_is_reckoned_once(self):
+        kit = kits.kit_of(stand_in(), self.top, str(self.room / 'repo'), str(self.room))
+        self.assertEqual(3, len({kit.stamp(name) for name in CHAIN} | {kit.stamp(name) for name in CHAIN}))
+        self.assertEqual(3, StandInCrate.stamps)
+
+    def test_what_rt_says_of_an_edit_that_is_tried_alone(self):
+        rt = stand_in()
+        kit = kits.kit_of(rt, self.top, str(self.room / 'repo'), str(self.room))
+        for well, said, result in [
+                (True, 'refused, as it must be: src/a.rt:1:1: error', kits.REFUSED),
+                (False, 'NOT REFUSED: the crate is still proved with this edit', kits.MISSED),
+                (False, 'BAD EDIT: an old text is in src/a.rt 2 times, and not once', kits.BAD),
+                (False, 'BAD EDIT: it did not reach the prover; the first lines of what it said:\nsrc/a.rt:1:1: error[E0308]: types', kits.BAD),
+                (False, 'BAD EDIT: it did not reach the prover; the first lines of what it said:\n', kits.UNSURE)]:
+            rt.must_fail = lambda crate, edit, flags: (well, 'must-fail low/x.edit: ' + said)
+            self.assertEqual(result, kit.must_fail('low', 'x.edit')[0], said)
+
+
+class WhichKit(unittest.TestCase):
+    def test_one_that_lacks_a_name_is_refused(self):
+        rt = stand_in()
+        del rt.crates_of
+        with self.assertRaises(SystemExit) as why:
+            kits.kit_of(rt, '/top', '/root', '/room')
+        self.assertIn('crates_of', str(why.exception))
+
+    def test_one_that_keeps_is_known_by_its_names(self):
+        for more, wanted in [({}, 'Building'), (dict.fromkeys(kits.READ_OF_KEEPING), 'Keeping')]:
+            with mock.patch.object(kits, wanted) as kit:
+                kits.kit_of(stand_in(**more), '/top', '/root', '/room')
+            kit.assert_called_once()
 
 
 if __name__ == '__main__':
