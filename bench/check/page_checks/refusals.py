@@ -3,7 +3,8 @@ import re
 
 from bench.check import counted
 from bench.check.page_checks.case import case, expect, finds_fault
-from bench.check.page_checks.page import PAGES, Wrong, headings, table, tables_with
+from bench.check.page_checks.entries import entries
+from bench.check.page_checks.page import PAGES, Wrong, headings, table
 from bench.check.page_checks.room import Room
 
 HOUSES = '''n1 v1 x13.001 y52
@@ -117,20 +118,16 @@ def rows(_):
             raise Wrong('{} has a heading {}'.format(heading.page, heading.text))
 
 
-def orders():
-    """The refusals of each step in their order, by the words of the steps, where a page has them."""
-    found = {}
-    for order in tables_with('step', 'in this order'):
-        for step, numbers in order.rows:
-            found.update({word: numbers for word in re.findall('`([a-z]+)`', step)})
-    return found
-
-
-@case('the order of refusals of each step names refusals that there are, that of `move` 7 among them')
-def orders_named(_):
-    for step, numbers in orders().items():
-        for number in re.findall(r'\b[0-9]+\b', numbers):
-            if int(number) not in counted.refusals():
-                raise Wrong('the order of refusals of {} names {}'.format(step, number))
-    if orders() and not re.search(r'\b7\b', orders().get('move', '')):
-        raise Wrong('the order of refusals of `move` names no 7')
+@case('each line of a script names its refusals in their order, each by its link, and each refusal stands at a line that gives it')
+def orders(_):
+    given = set()
+    for entry in entries():
+        order = entry.parts['Refuses']
+        links = re.findall(r'\[([0-9]+)\]\([^)]*#refusal-([0-9]+)\)', order)
+        given.update(int(number) for number, _ in links)
+        bare = re.search(r'\b[0-9]+\b', re.sub(r'\[[^\]]*\]\([^)]*\)|Never .*', '', order))
+        if bare or any(number != link for number, link in links):
+            raise Wrong('{}: a refusal without its link: {}'.format(', '.join(entry.words), order))
+    # an editor of a meeting that waits refuses each line by 37
+    expect(sorted(set(counted.refusals()) - {37}), sorted(given - {37}))
+    expect(['7'], [number for entry in entries() if entry.words == ['move'] for number in re.findall(r'\[(7)\]', entry.parts['Refuses'])])
