@@ -1,114 +1,183 @@
-"""Makes the manual page yokeorange(1) from the tables of docs/, so that it can't say other things than they do.
+"""Makes the manual pages in docs/man/ from the pages of docs/, so that they can't say other things than these do.
 
-A table is found by its heading row, on whichever page it stands; one that isn't there any more stops the making.
+A manual page is made of parts: a text that stands here, a section of a page by its heading, or one table of it. A section that
+isn't there any more stops the making.
 """
 import pathlib
 import re
+import textwrap
 
 from launcher.messages import Stop
 
-OPTIONS = ('option', 'what it bounds', 'N', 'without it')
-LINES = ('line', 'what it does')
-STATUSES = ('code', 'text', 'cause', 'way out')
-REFUSALS = ('number', 'reply', 'cause', 'way out')
-MARK = re.compile(r'\*\*(.+?)\*\*|`([^`]+)`|\[([^\]]*)\]\([^)]*\)')
+WIDTH = 78
+FENCE = '```'
+MARK = re.compile(r'\*\*(.+?)\*\*|`([^`]+)`|\[((?:`[^`]*`|[^\]`])*)\]\([^)]*\)|(?<![*\w])\*([^*\s][^*]*)\*')
+LABELLED = re.compile(r'\*\*([A-Z][a-z, ]+)\.\*\* ?(.*)', re.S)
 
+FOLDER = pathlib.Path('docs', 'man')
+
+
+# ---- the pages ----
 
 def cells(line):
     """The cells of a table's row: a | that is written \\| or stands in a `word` isn't the end of one."""
-    parts = re.split(r'((?:\\\||`[^`]*`|[^|`])*)\|', line.strip().strip('|') + '|')
+    parts = re.split(r'((?:\\\||`[^`]*`|[^|`])*)\|', line.strip()[1:])
     return tuple(it.replace('\\|', '|').strip() for it in parts[1::2])
 
 
-def tables(page, heading):
-    """The rows of each table of a page that has this heading row."""
-    found, lines = [], page.splitlines()
-    for at, line in enumerate(lines):
-        if line.startswith('|') and cells(line) == heading:
-            rows = []
-            for row in lines[at + 2:]:
-                if not row.startswith('|'):
-                    break
-                rows.append(cells(row))
-            found.append(rows)
+def section(page, heading):
+    """The lines of a page under a heading, up to the next one of its level or above; those before the first for no heading."""
+    found, level, fenced = [], None if heading else 0, False
+    for line in page.splitlines():
+        fenced ^= line.startswith(FENCE)
+        marks, _, text = line.partition(' ')
+        is_heading = not fenced and re.fullmatch('#+', marks)
+        if level is None:
+            level = len(marks) if is_heading and text == heading else None
+        elif is_heading and (len(marks) <= level or not heading and len(marks) > 1):
+            break
+        elif not (is_heading and len(marks) == 1):
+            found.append(line)
+    if level is None:
+        raise Stop('no section is headed "{}", from which a manual page is made'.format(heading))
     return found
 
+
+def ends(line):
+    """Whether a line ends the paragraph before it."""
+    return not line.strip() or line.startswith((FENCE, '|', '#')) or re.match(r'(- |\d+\. )', line)
+
+
+def blocks(lines):
+    """The blocks of a page in their order: each a kind, and what it holds."""
+    at = 0
+    while at < len(lines):
+        line, first = lines[at], at
+        at += 1
+        if line.startswith(FENCE):
+            at = lines.index(FENCE, at) + 1
+            yield 'code', lines[first + 1:at - 1]
+        elif line.startswith('|'):
+            while at < len(lines) and lines[at].startswith('|'):
+                at += 1
+            yield 'table', [cells(row) for row in lines[first:at] if not re.fullmatch(r'[|\s:-]+', row)]
+        elif line.startswith('#'):
+            yield 'heading', (line.count('#'), line.lstrip('# '))
+        elif line.strip():
+            while at < len(lines) and not ends(lines[at]):
+                at += 1
+            text = ' '.join(it.strip() for it in lines[first:at])
+            item = re.match(r'(?:(-)|(\d+\.)) (.*)', text, re.S)
+            yield ('item', (item[2] or '\\(bu', item[3])) if item else ('text', text)
+
+
+# ---- roff ----
 
 def plain(text):
     """Text as roff has it, with nothing in it that roff reads as its own."""
     text = text.replace('\\', '\\e').replace('-', '\\-').replace("'", '\\(aq').replace('^', '\\(ha').replace('~', '\\(ti')
-    return text.replace('`', '\\(ga')
+    return ''.join(it if it < '\x7f' else '\\[u{:04X}]'.format(ord(it)) for it in text.replace('`', '\\(ga'))
 
 
 def roff(text):
-    """A text of a page in roff: `words` and **words** are bold, links are their text."""
+    """A text of a page in roff: `words` and **words** are bold, *words* are italic, links are their text."""
     found, at = '', 0
     for mark in MARK.finditer(text):
+        bold, word, link, italic = mark.groups()
         found += plain(text[at:mark.start()])
-        bold, word, link = mark.groups()
-        found += '\\fB{}\\fR'.format(plain(bold or word)) if link is None else roff(link)
+        if link is not None:
+            found += roff(link)
+        elif italic is not None:
+            found += '\\fI{}\\fR'.format(plain(italic))
+        else:
+            found += '\\fB{}\\fR'.format(plain(word) if word else roff(bold).replace('\\fR', '\\fB'))
         at = mark.end()
-    found += plain(text[at:])
-    return '\\&' + found if found.startswith('.') else found
+    return found + plain(text[at:])
 
 
-def items(rows):
-    """A list: a word or form, and what is said of it."""
-    return ''.join('.TP\n{}\n{}\n'.format(roff(word), roff(text)) for word, text in rows)
+def safe(line):
+    """A line of text that roff doesn't take for a request."""
+    return '\\&' + line if line.startswith(('.', "'")) else line
 
 
-def rows_of(pages, heading):
-    """All rows of the tables with a heading row, page after page."""
-    found = [row for page in pages for table in tables(page, heading) for row in table]
-    if not found:
-        raise Stop('no page has the table | {} | from which the manual page is made'.format(' | '.join(heading)))
-    return found
+def filled(text):
+    """A paragraph in lines of some width."""
+    lines = textwrap.wrap(roff(text), WIDTH, break_long_words=False, break_on_hyphens=False)
+    return ''.join(safe(line) + '\n' for line in lines)
 
 
-def made(pages, version):
-    """The manual page, from the texts of the pages and the version."""
-    options = [('`{}`'.format(it[0].strip('`')), '{}; {}, {} without it.'.format(sentence(it[1]), it[2], it[3]))
-               for it in rows_of(pages, OPTIONS)]
-    statuses = [(it[0], ' '.join(part for part in (it[1] and it[1] + ':', it[2]) if part)) for it in rows_of(pages, STATUSES)]
-    refusals = [('{} ({})'.format(it[0], it[1]), it[2]) for it in rows_of(pages, REFUSALS)]
-    return PAGE.format(version=plain(version), options=items(options), lines=items(rows_of(pages, LINES)),
-                       statuses=items(statuses), refusals=items(refusals))
+def tagged(tag, text):
+    """A tag, and what is said of it."""
+    return '.TP\n{}\n{}'.format(safe(roff(tag)), filled(text))
 
 
-def sentence(text):
-    """A text that begins with a capital letter."""
-    return text[:1].upper() + text[1:]
+def row(heading, parts):
+    """A row of a table: the first cell is a tag, and the cells after the second say what they are."""
+    said = [text if at == 0 or name == 'it says' else '{}: {}'.format(name, text)
+            for at, (name, text) in enumerate(zip(heading[1:], parts[1:])) if text]
+    return tagged(parts[0] or '\\ ', '; '.join(said)) if parts[0] else '.IP\n' + filled('; '.join(said))
 
 
-def of(home, version):
-    """The manual page of a checkout."""
-    pages = [path.read_text(encoding='utf-8') for path in sorted(pathlib.Path(home, 'docs').glob('**/*.md'))]
-    return made(pages, version)
+def written(block):
+    """A block in roff."""
+    kind, held = block
+    if kind == 'heading':
+        level, text = held
+        return '.SH {}\n'.format(roff(text).upper().replace('\\FB', '\\fB').replace('\\FR', '\\fR')) if level <= 2 else '.SS {}\n'.format(roff(text))
+    if kind == 'code':
+        return '.PP\n.RS 4\n.nf\n{}.fi\n.RE\n'.format(''.join(safe(plain(line)) + '\n' for line in held))
+    if kind == 'table':
+        return ''.join(row(held[0], it) for it in held[1:])
+    if kind == 'item':
+        return '.IP {} 4\n{}'.format(*(held[0], filled(held[1])))
+    label = LABELLED.fullmatch(held)
+    return tagged('**{}**'.format(label[1]), label[2]) if label and label[2] else '.PP\n' + filled(label[1] + ':' if label else held)
 
 
-PAGE = '''.\\" Made from the tables of docs/ by bench/release \\-\\-manual: change those.
-.TH YOKEORANGE 1 "" "yokeorange {version}" "Yokeorange"
-.SH NAME
-yokeorange \\- edit OpenStreetMap data by a script, without a screen or a network
-.SH SYNOPSIS
+def body(found):
+    """Blocks in roff: right after a heading a paragraph needs no sign."""
+    text = ''.join(written(block) for block in found)
+    return re.sub(r'^(\.S[HS] .*\n)\.PP\n(?!\.RS)', r'\1', text, flags=re.M)
+
+
+# ---- the manual pages ----
+
+class Part:
+    """What one section of a manual page is made of: a section of a page, under a heading of its own or under that one's."""
+
+    def __init__(self, page, heading, title=None, kinds=None):
+        self.page, self.heading, self.title, self.kinds = page, heading, title, kinds
+
+    def text(self, pages):
+        """The part in roff."""
+        title = [('heading', (2, self.title or self.heading))] if self.title != '' else []
+        found = [it for it in blocks(section(pages[self.page], self.heading)) if not self.kinds or it[0] in self.kinds]
+        return body(title + found)
+
+
+NAMES = '''.SH NAME
+{name} \\- {what}
+'''
+ALSO = '''.SH SEE ALSO
+{others}
+.PP
+The repository's docs/ has these pages with links, a tour (TOUR.md), how\\-tos (HOWTO/), and what is proved (PROOF.md).
+'''
+RUN = '''.SH SYNOPSIS
 .B yokeorange
 [\\fB\\-\\-max\\-objects\\fR \\fIN\\fR] [\\fB\\-\\-max\\-file\\fR \\fIN\\fR] \\fISCRIPT\\fR
 .SH DESCRIPTION
 .B yokeorange
 runs one script over downloaded files in OPL, the text format of
 .BR osmium (1),
-and writes a reply for each step, and the data that the script asks for, to standard output. It opens no connection and
-changes no file. A refused step changes nothing, and the session goes on: the exit status 0 says that the script ran to its
-end, and not that each step was done. Names of files are relative to the folder in which it is started.
-.SH OPTIONS
-{options}.TP
-\\fB\\-\\-\\fR
-Ends the options: a script whose name begins with \\- stands after it.
-.SH LINES OF A SCRIPT
-{lines}.SH EXIT STATUS
-{statuses}.SH REFUSALS
-The reply to a refused step is \\fILINE\\fR \\fBrefused\\fR \\fINUMBER\\fR and what it concerns.
-{refusals}.SH EXAMPLE
+and writes a reply for each step, and the data that the script asks for, to
+standard output. It opens no connection and changes no file. A refused step
+changes nothing, and the session goes on: the exit status 0 says that the
+script ran to its end, and not that each step was done. Names of files are
+relative to the folder in which it is started.
+'''
+EXAMPLE = '''.SH EXAMPLE
+.RS 4
 .nf
 download town.opl
 node x13.65 y0.05 Tamenity=bench
@@ -116,8 +185,48 @@ way Thighway=footway Nn2,n\\-1
 tag w5 Tname=Main%20%Street
 print
 .fi
-.SH SEE ALSO
-.BR osmium (1).
-The repository's docs/ has the guide (GUIDE.md), the refusals and how to go on (REFUSALS.md), the grammar of the files (OPL.md)
-and what is proved (PROOF.md).
+.RE
 '''
+
+COMMANDS, SCRIPTS, REFUSALS, FILES, QUERIES = 'COMMANDS.md', 'SCRIPTS.md', 'REFUSALS.md', 'BAD-FILES.md', 'QUERIES.md'
+FAMILIES = ('Files', 'New objects', 'Changes of one object', 'Deletions', 'Ways cut, joined, reversed', 'Some faults', 'Steps', 'Looks',
+            'Settling conflicts', 'Uploads', 'Sessions', 'Meetings')
+
+# The name and section of each manual page, what it is about, and its parts.
+MANUALS = {
+    ('yokeorange', 1): ('edit OpenStreetMap data by a script, without a screen or a network', [
+        RUN, Part(SCRIPTS, 'The command line', 'Options', ('table', 'item')), Part(COMMANDS, '', 'Lines of a script', ('table',)),
+        Part(SCRIPTS, 'The exit status', 'Exit status', ('text',)), Part(REFUSALS, 'Statuses', '', ('table',)), Part(SCRIPTS, 'Limits', kinds=('table',)),
+        EXAMPLE]),
+    ('yokeorange-script', 5): ('the lines of a script of yokeorange, and the replies', [
+        Part(SCRIPTS, 'Lines'), Part(SCRIPTS, 'Words'), Part(SCRIPTS, 'Replies'), Part(SCRIPTS, 'Steps and groups'),
+        Part(SCRIPTS, 'Ids of new objects'), Part(COMMANDS, '', 'Commands'), *(Part(COMMANDS, it) for it in FAMILIES), Part(QUERIES, 'Queries')]),
+    ('yokeorange-refusals', 7): ('each refusal and status of yokeorange, with its cause and way out', [
+        Part(REFUSALS, '', 'Description'), Part(REFUSALS, 'Refusals of a step'), Part(REFUSALS, 'Statuses'),
+        *(Part(FILES, it) for it in ('Refusal 20, fault by fault', 'Refusals 26 and 27: answer files', 'Refusals 30 and 31: saved sessions',
+                                     'Status 4: a bad line', 'Status 5: a script that is too long'))]),
+}
+
+
+def file_name(name, number):
+    """The file of a manual page."""
+    return '{}.{}'.format(name, number)
+
+
+def made(manual, pages, version):
+    """A manual page, from the texts of the pages and the version."""
+    name, number = manual
+    what, parts = MANUALS[manual]
+    others = ['.BR {} ({})'.format(plain(other), at) for other, at in MANUALS if other != name] + ['.BR osmium (1)']
+    return ''.join([
+        '.\\" Made from the pages of docs/ by bench/release \\-\\-manual: change those.\n',
+        '.TH {} {} "" "yokeorange {}" Yokeorange\n'.format(plain(name).upper(), number, plain(version)),
+        NAMES.format(name=plain(name), what=plain(what)),
+        *(part if isinstance(part, str) else part.text(pages) for part in parts),
+        ALSO.format(others=',\n'.join(others).replace('),', ') ,'))])
+
+
+def of(home, version):
+    """The manual pages of a checkout, by the names of their files."""
+    pages = {name: pathlib.Path(home, 'docs', name).read_text(encoding='utf-8') for name in (COMMANDS, SCRIPTS, REFUSALS, FILES, QUERIES)}
+    return {file_name(*manual): made(manual, pages, version) for manual in MANUALS}

@@ -7,9 +7,11 @@ import sys
 
 from bench.check import counted
 from bench.check.page_checks.case import case, expect, finds_fault
-from bench.check.page_checks.page import (FRONT, MOST_WORDS, OTHERS, PAGES, Block, Wrong, headings, lines_of, link_of, links, links_lead,
+from bench.check.page_checks.entries import HEADS, NEEDED, entries
+from bench.check.page_checks.page import (FRONT, MOST_WORDS, OTHERS, PAGES, TOP, Block, Wrong, headings, lines_of, link_of, links, links_lead,
                                           shows_its_name, tables, text_of, words, writes_whole)
 from bench.check.page_checks.room import Room
+from launcher import main as launcher, manual
 
 NAMELESS = Block(1, 'opl', ['part.opl'], 'n1 v1 x1 y1\n')
 # what somebody looks for is at most so many links from the first page
@@ -81,20 +83,22 @@ def nearest(pages):
     return min((distances()[page] for page in pages if page in distances()), default=FARTHEST + 1)
 
 
-def entries():
-    """The pages that have an entry of each line of a script: a heading, or a row of a table that begins with it."""
-    found = {verb: set() for verb in counted.verbs()}
-    for page in PAGES:
-        places = [heading.text for heading in headings(page)] + [row[0] for table in tables(page) for row in table.rows]
-        for place in places:
-            for word in re.findall(r'`([a-z]+)', place) or re.findall(r'^([a-z]+)\b', place):
-                found.get(word, set()).add(page)
-    return found
-
-
-@case('each line of a script has an entry, two links from the first page at most')
+@case('each line of a script has one entry, two links from the first page at most, and its page a link to it')
 def lines_near(_):
-    expect([], [verb for verb, pages in entries().items() if nearest(pages) > FARTHEST])
+    expect(counted.verbs(), sorted(word for entry in entries() for word in entry.words))
+    for entry in entries():
+        if nearest([entry.page]) > FARTHEST:
+            raise Wrong('{} is too far'.format(entry.words))
+        if not any((link.target, link.anchor) == (entry.page, entry.anchor) for link in links(entry.page)):
+            raise Wrong('{} has no link to {}'.format(entry.page, entry.anchor))
+
+
+@case('all entries have the same heads in the same order, and the forms are those of their words')
+def heads_alike(_):
+    for entry in entries():
+        expect([head for head in HEADS if head in entry.heads], entry.heads)
+        expect(HEADS[:NEEDED], entry.heads[:NEEDED])
+        expect(entry.words, list(dict.fromkeys(re.findall(r'`([a-z]+)', entry.parts['Form']))))
 
 
 @case('each word with which an entry of the table of lines begins is one of a script')
@@ -140,6 +144,19 @@ def front_page(_):
 
 
 # ---- what stands beside the pages ----
+
+@case('the manual pages in docs/man are what bench/release --manual makes of the pages, and man reads them without a warning')
+def manuals(_):
+    made = manual.of(TOP, launcher.version().partition(',')[0].strip())
+    expect(sorted(made), sorted(path.name for path in (TOP / manual.FOLDER).iterdir()))
+    for name, text in made.items():
+        path = TOP / manual.FOLDER / name
+        if path.read_text(encoding='utf-8') != text:
+            raise Wrong('{} is another one: bench/release --manual'.format(name))
+        if shutil.which('man'):
+            done = subprocess.run(['man', '--warnings', '-l', str(path)], stdout=subprocess.PIPE, stderr=subprocess.PIPE, text=True)
+            expect((0, ''), (done.returncode, done.stderr))
+
 
 @case('the toolkit that README.md names is the one that is here')
 def toolkit(_):
