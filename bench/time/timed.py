@@ -61,7 +61,10 @@ class Command:
         """How many instructions one run takes, by valgrind's callgrind."""
         said = subprocess.run(['valgrind', '--tool=callgrind', '--callgrind-out-file=/dev/null'] + self.words, cwd=folder,
                               stdout=subprocess.DEVNULL, stderr=subprocess.PIPE, text=True, check=True).stderr
-        return int(re.search(r'Collected : (\d+)', said).group(1))
+        found = re.search(r'Collected : (\d+)', said)
+        if not found:
+            sys.exit('callgrind counts no instructions of {}'.format(self.words[0]))
+        return int(found[1])
 
 
 def end_of(path):
