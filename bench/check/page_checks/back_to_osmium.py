@@ -91,7 +91,7 @@ def change_file(program):
         room.write('part.txt', room.session('download gone.opl', 'delete n8', 'download part.opl', 'tag n9 Tref=1', 'print'))
         status, said = room.run([sys.executable, 'python/changes.py', 'part.opl', 'part.txt'])
         expect((0, ['9']), (status, re.findall('<node id="(.*?)"', said)))
-        # relations of relations: what is made behind its members, and what is deleted before them
+        # relations of relations: what is made after its members, and what is deleted before them
         room.write('nested.opl', 'n1 v1 x1 y1\nr1 v1 Mr2@,n1@\nr2 v1 Mr4@\nr3 v1 Mr3@,r1@\nr4 v1 Mr2@\n')
         room.write('nested.txt', room.session('download nested.opl', 'delete r1,r2,r3,r4', 'relation T Mn1@', 'relation T Mn1@', 'relation T Mr-2@',
                                               'members r-1 Mr-2@,r-3@', 'print'))

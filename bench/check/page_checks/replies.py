@@ -134,7 +134,7 @@ def slips(program):
                 raise Wrong('{}: {}'.format(line, said))
 
 
-@case('behind a refused `resume` an upload has no changes and a `save` no objects; an empty answer file confirms nothing with an ok')
+@case('after a refused `resume` an upload has no changes and a `save` no objects; an empty answer file confirms nothing with an ok')
 def over_nothing(program):
     with Room(program) as room:
         expect(['1 refused 19', '2 ok', 'upload changes 0 chunks 0', '3 ok', 'session 1 1', 'session end'],

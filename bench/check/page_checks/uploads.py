@@ -114,7 +114,7 @@ def whole_upload_by_osmium(program):
                     ids[old] = new
             for old, new in ids.items():
                 said = re.sub(r'( (?:id|ref)=")%s"' % old, r'\g<1>%s"' % new, said)
-            said = re.sub(r' version="(\d+)"', lambda found: ' version="{}"'.format(int(found[1]) + 1), said)     # as it is behind the change
+            said = re.sub(r' version="(\d+)"', lambda found: ' version="{}"'.format(int(found[1]) + 1), said)     # as it is after the change
             room.write('took-{}.osc'.format(number), said)
             documents.append('took-{}.osc'.format(number))
         status, said = room.run(['osmium', 'apply-changes', 'area.osm.pbf', *documents, '-f', 'opl'])
