@@ -9,7 +9,7 @@ HELP = '''usage: ./editor [--max-objects N] [--max-file N] SCRIPT
        ./editor --look SCRIPT
        ./editor --prove
 
-Runs a script over OPL files (docs/GUIDE.md), and writes the replies and the data to standard output. The first time it
+Runs a script over OPL files (docs/TOUR.md), and writes the replies and the data to standard output. The first time it
 proves the program's crates and builds the program. On this machine that takes {minutes}, as far as the sources
 tell, up to {memory} of memory, and {disk} of disk until it is done. It may be interrupted, and goes on later from what is
 proved. Then it starts at once, until the sources change.
@@ -29,7 +29,7 @@ JOBS=N ./editor    proves N crates at a time, with N jobs (as many as there are 
 A script whose name begins with - stands after --. The exit status is the program's own (docs/REFUSALS.md, "Statuses"); 1 where
 it couldn't be proved or built, 127 where the Rattle toolkit is missing, 130 after Ctrl-C.
 The log is {log}.
-Read on: README.md, then docs/GUIDE.md.
+Read on: README.md, then docs/TOUR.md and docs/COMMANDS.md.
 '''
 BRIEF = '''usage: ./editor [--max-objects N] [--max-file N] SCRIPT
        ./editor --look SCRIPT      runs it unproved, in about three minutes

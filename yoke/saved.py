@@ -1,6 +1,6 @@
 """A saved session, read without the program: of each object its base, what it is here, and what it is in conflict with.
 
-The lines are those that `save` writes (docs/GUIDE.md, "save, resume"). Of a large session most objects are only looked at
+The lines are those that `save` writes (docs/SAVING.md). Of a large session most objects are only looked at
 by key, so a line is taken apart when it is asked for.
 """
 from yoke import opl

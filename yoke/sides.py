@@ -1,6 +1,6 @@
 """Sides of an object beside each other, in words: what differs between them, part by part.
 
-A part is one tag, the place, the nodes or the members, as in a merge (docs/GUIDE.md, "A second download").
+A part is one tag, the place, the nodes or the members, as in a merge (docs/MERGING.md).
 """
 from yoke import opl
 

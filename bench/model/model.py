@@ -4,7 +4,7 @@ folder, and ends as `editor` has to end.
 It was written from README.md and docs/ alone, by an engineer who had not seen the crates; nine of its readings were
 turned when the first comparison had made the guide plainer, and others when docs/ said more of `save`, `fuse` and
 meetings. A difference from the program is a bug, here or there, or a sentence that the documents lack. A new command is
-added to it from its section of docs/GUIDE.md. It takes well-formed scripts for granted, and ends with a message on a line
+added to it from its section of the pages in docs/. It takes well-formed scripts for granted, and ends with a message on a line
 that it can't read; files may be as bad as they like.
 """
 import calendar

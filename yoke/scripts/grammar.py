@@ -1,6 +1,6 @@
 """The lines of a script: which are lines, and of those that aren't the cause.
 
-It is the grammar of docs/GUIDE.md ("Scripts") and docs/OPL.md, one function for each item, and it has to agree with the
+It is the grammar of docs/SCRIPTS.md, docs/COMMANDS.md and docs/OPL.md, one function for each item, and it has to agree with the
 program on every line: `yoke/tests/test_lint.py` holds it to that. A script is a text in which bytes that aren't UTF-8
 stand as lone surrogates (`text_of`), since such bytes do no harm in a comment.
 """

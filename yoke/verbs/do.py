@@ -11,7 +11,7 @@ from yoke.trouble import Refused, Trouble
 from yoke.verbs import expand
 
 SUMMARY = 'run a script over the session, and keep what it did if no step was refused'
-DETAILS = """The script has the lines of docs/GUIDE.md. Files that it names are seen from the folder where yoke runs.
+DETAILS = """The script has the lines of docs/COMMANDS.md. Files that it names are seen from the folder where yoke runs.
 What yoke does itself stands in no script: save, resume, confirm, serve. New objects may have names in it: yoke expand --help."""
 
 OURS = {
