@@ -113,9 +113,9 @@ def tagged(tag, text):
 
 def row(heading, parts):
     """A row of a table: the first cell is a tag, and the cells after the second say what they are."""
-    said = [text if at == 0 or name == 'it says' else '{}: {}'.format(name, text)
+    told = [text if at == 0 or name == 'it says' else '{}: {}'.format(name, text)
             for at, (name, text) in enumerate(zip(heading[1:], parts[1:])) if text]
-    return tagged(parts[0] or '\\ ', '; '.join(said)) if parts[0] else '.IP\n' + filled('; '.join(said))
+    return tagged(parts[0], '; '.join(told)) if parts[0] else '.IP\n' + filled('; '.join(told))
 
 
 def written(block):
@@ -123,13 +123,14 @@ def written(block):
     kind, held = block
     if kind == 'heading':
         level, text = held
-        return '.SH {}\n'.format(roff(text).upper().replace('\\FB', '\\fB').replace('\\FR', '\\fR')) if level <= 2 else '.SS {}\n'.format(roff(text))
+        return '.SH {}\n'.format(roff(text.upper())) if level <= 2 else '.SS {}\n'.format(roff(text))
     if kind == 'code':
         return '.PP\n.RS 4\n.nf\n{}.fi\n.RE\n'.format(''.join(safe(plain(line)) + '\n' for line in held))
     if kind == 'table':
         return ''.join(row(held[0], it) for it in held[1:])
     if kind == 'item':
-        return '.IP {} 4\n{}'.format(*(held[0], filled(held[1])))
+        mark, text = held
+        return '.IP {} 4\n{}'.format(mark, filled(text))
     label = LABELLED.fullmatch(held)
     return tagged('**{}**'.format(label[1]), label[2]) if label and label[2] else '.PP\n' + filled(label[1] + ':' if label else held)
 
@@ -143,7 +144,10 @@ def body(found):
 # ---- the manual pages ----
 
 class Part:
-    """What one section of a manual page is made of: a section of a page, under a heading of its own or under that one's."""
+    """What a manual page takes from a section of a page, all of it or blocks of some kinds.
+
+    Its title is that section's heading, or another one; with an empty one it goes on under the title before.
+    """
 
     def __init__(self, page, heading, title=None, kinds=None):
         self.page, self.heading, self.title, self.kinds = page, heading, title, kinds
@@ -161,7 +165,8 @@ NAMES = '''.SH NAME
 ALSO = '''.SH SEE ALSO
 {others}
 .PP
-The repository's docs/ has these pages with links, a tour (TOUR.md), how\\-tos (HOWTO/), and what is proved (PROOF.md).
+The repository's docs/ has these pages with links, a tour (TOUR.md), how\\-tos
+(HOWTO/), and what is proved (PROOF.md).
 '''
 RUN = '''.SH SYNOPSIS
 .B yokeorange
@@ -201,7 +206,7 @@ MANUALS = {
     ('yokeorange-script', 5): ('the lines of a script of yokeorange, and the replies', [
         Part(SCRIPTS, 'Lines'), Part(SCRIPTS, 'Words'), Part(SCRIPTS, 'Replies'), Part(SCRIPTS, 'Steps and groups'),
         Part(SCRIPTS, 'Ids of new objects'), Part(COMMANDS, '', 'Commands'), *(Part(COMMANDS, it) for it in FAMILIES), Part(QUERIES, 'Queries')]),
-    ('yokeorange-refusals', 7): ('each refusal and status of yokeorange, with its cause and way out', [
+    ('yokeorange-refusals', 7): ('refusals and statuses of yokeorange, with ways out', [
         Part(REFUSALS, '', 'Description'), Part(REFUSALS, 'Refusals of a step'), Part(REFUSALS, 'Statuses'),
         *(Part(FILES, it) for it in ('Refusal 20, fault by fault', 'Refusals 26 and 27: answer files', 'Refusals 30 and 31: saved sessions',
                                      'Status 4: a bad line', 'Status 5: a script that is too long'))]),
