@@ -488,7 +488,7 @@ def run(script, program='yokeorange', folder='.', allow_refused=False, max_objec
     """
     text, found = str(script), shutil.which(program)
     if found is None:
-        raise FileNotFoundError('there is no program {}: README, "Try it", puts it on the path'.format(program))
+        raise FileNotFoundError('there is no program {}: README, "Get it", puts it on the path'.format(program))
     steps = file_steps(text, folder)
     files = [path for _, path in steps]
     for path in (output, keep):

@@ -137,7 +137,7 @@ class Sending(Commands):
             self.refuses(words, 'answers-1', 'answers.py', 'send.txt', number, result)
 
     def test_the_bench_is_not_sent_twice(self):
-        """A typing error in a file's name, and the steps of the guide from there on."""
+        """A typing error in a file's name, and the steps of docs/HOWTO/send-by-hand.md from there on."""
         self.assertEqual(self.command('answers.py', 'send.txt', '1', 'resutl.xml', '-o', 'answers-1')[0], 1)
         self.write('go.script', 'download high.opl\nnode x13 y52 T\ntag n8 Tref=7\nupload 1\nconfirm answers-1\nupload 1\n')
         status, _, error = self.command('session.py', 'go.script', '-o', 'next.txt')

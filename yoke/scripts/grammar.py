@@ -16,7 +16,7 @@ KINDS = {'n': 'node', 'w': 'way', 'r': 'relation'}
 QUERY_MOST = 1000       # words of a query
 NESTING_MOST = 64       # `not`, `child`, `parent` and brackets round a word of a query
 
-# Each verb with its form, as the guide has it.
+# Each verb with its form, as docs/COMMANDS.md has it.
 FORMS = {
     'download': 'download FILE [Bwest,south,east,north] [Fkey=value]', 'generate': 'generate N', 'import': 'import FILE', 'resume': 'resume FILE',
     'begin': 'begin', 'end': 'end', 'undo': 'undo N', 'redo': 'redo N', 'print': 'print', 'count': 'count', 'conflicts': 'conflicts', 'save': 'save',
