@@ -34,4 +34,6 @@ pub mod Runs
 pub mod Sounds
 pub mod ClearLaw
 pub mod Accepted
+pub mod Fronts
+pub mod FreshIds
 mod Examples

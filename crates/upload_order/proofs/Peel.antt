@@ -122,6 +122,17 @@ module _ (t : TableValue) where
     by_found go (Some q) e (inl s) = subst (λ (x : Key). IsIn x left) s (found_in (is_ready (mine_refers t) left) left q e).0
     by_found go (Some q) e (inr j) = (in_filter (λ x. not (is_key x q)) left k (go (without q left) k j)).0
 
+  abbrev pub StuckFrom : ℕ → Type 0
+  StuckFrom n = (left : List Key) (k : Key) → IsIn k (peel (mine_refers t) n left).stuck → IsIn k left
+
+  -- what is stuck was to go
+  pub stuck_from : (n : ℕ) → StuckFrom n
+  stuck_from zero left k i = i
+  stuck_from (suc n) left k i = by_found (stuck_from n) (find (is_ready (mine_refers t) left) left) i where
+    by_found : StuckFrom n → (o : Option Key) → IsIn k (peel_found left o (λ k. peel (mine_refers t) n (without k left))).stuck → IsIn k left
+    by_found go None j = j
+    by_found go (Some q) j = (in_filter (λ x. not (is_key x q)) left k (go (without q left) k j)).0
+
   -- each stuck key refers to one that is stuck
   abbrev pub StuckRefers : ℕ → Type 0
   StuckRefers n = (left : List Key) → length left ≤ n → (k : Key) → IsIn k (peel (mine_refers t) n left).stuck → list_any (mine_refers t k) (peel (mine_refers t) n left).stuck ≡ true

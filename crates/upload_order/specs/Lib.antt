@@ -10,3 +10,4 @@ pub mod Rename
 pub mod Bases
 pub mod World
 pub mod Run
+pub mod Fronts

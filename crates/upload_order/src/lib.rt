@@ -27,6 +27,6 @@ mod sending;
 mod waiting;
 
 pub use change::{Change, Changes};
-pub use laws::stuck_is_greatest;
+pub use laws::{fresh_ids_exist, servers_stay_sound, stuck_is_greatest, taken_one_by_one};
 pub use planning::plan;
 pub use refusal::PlanRefusal;
