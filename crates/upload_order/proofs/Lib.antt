@@ -37,3 +37,5 @@ pub mod Accepted
 pub mod Fronts
 pub mod FreshIds
 mod Examples
+mod PlanExamples
+mod WorldExamples
