@@ -7,3 +7,4 @@ mod Rehearsals
 pub mod Answering
 pub mod Walking
 mod Unsoundness
+pub mod Picking

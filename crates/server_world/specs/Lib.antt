@@ -9,4 +9,5 @@ pub mod Starts
 pub mod Kept
 pub mod Sent
 pub mod Rehearsed
+pub mod Picks
 pub mod Unsound

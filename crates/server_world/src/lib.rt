@@ -15,6 +15,7 @@
 mod bases;
 mod entry;
 mod free;
+mod laws;
 mod names;
 mod objects;
 mod pairs;
@@ -26,6 +27,7 @@ mod starts;
 mod world;
 
 pub use entry::WorldEntry;
+pub use laws::{a_server_exists, rehearsal_is_run, sends_are_runs};
 pub use refusal::{WorldFault, WorldRefusal};
 pub use rehearsal::{Rehearsal, rehearse};
 pub use sending::Sent;

@@ -1,0 +1,33 @@
+//! What the definitions mean.
+ghost use Rattle.std.specs.Prelude.{◌≡◌, ◌+◌, ℕ, [], ◌∷◌, List, length, Option, Some, None};
+ghost use Rattle.osm_table.specs.Table.{TableValue};
+ghost use Rattle.upload_order.specs.declared.change.Change.{Change};
+ghost use Rattle.upload_order.specs.Run.{run_from};
+ghost use Rattle.upload_order.specs.World.{World, Refusal, refusal, after, IsSoundWorld, Holds, Alone};
+ghost use Rattle.server_world.specs.Bases.{of_bases};
+ghost use Rattle.server_world.specs.Picks.{free_picks, told_of, RunsTo};
+ghost use Rattle.server_world.specs.Rehearsed.{rehearsed};
+ghost use Rattle.server_world.specs.Sent.{pick_for};
+ghost use Rattle.server_world.specs.Unsound.{first_unsound};
+
+/// Law: a rehearsal is the run of the changes, with the least free id for each object that is made.
+pub fn rehearsal_is_run()
+    ensures { (t : TableValue) (w : World) (cs : List Change) → rehearsed t 0 w cs ≡ told_of (length cs) (run_from 1 w cs (free_picks w t cs)) }
+{}
+
+/// Law: so is what is sent one change after the other, up to the first that is refused. How many are taken, the world after
+/// them and why the next one is refused are those of that run.
+pub fn sends_are_runs()
+    ensures none { (t : TableValue) (w : World) → RunsTo t w w [] 0 None }
+    ensures refused { (t : TableValue) (w : World) (c : Change) (cs : List Change) (why : Refusal) → refusal w c (pick_for w t c) ≡ Some why → RunsTo t w w (c ∷ cs) 0 (Some why) }
+    ensures taken { (t : TableValue) (w v : World) (c : Change) (cs : List Change) (count : ℕ) (why : Option Refusal) → refusal w c (pick_for w t c) ≡ None → RunsTo t (after w c (pick_for w t c)) v cs count why → RunsTo t w v (c ∷ cs) (count + 1) why }
+{}
+
+/// Law: there is a server as the promises of uploads want it, the one that has the bases of the table. It has them, and nothing
+/// else in it refers to what is deleted, whatever the table is; and it is sound where no object of it refers to what isn't
+/// there, as one may where downloads disagree.
+pub fn a_server_exists()
+    ensures holds { (t : TableValue) → Holds (of_bases t) t }
+    ensures alone { (t : TableValue) → Alone (of_bases t) t }
+    ensures sound { (t : TableValue) → first_unsound (of_bases t) ≡ None → IsSoundWorld (of_bases t) }
+{}
