@@ -8,3 +8,4 @@ pub mod Answering
 pub mod Walking
 mod Unsoundness
 pub mod Picking
+mod Examples
