@@ -19,8 +19,9 @@ def pages():
 class Written:
     """The pages as they are, and as a program makes them."""
 
-    def __init__(self):
-        self.was = pages()
+    def __init__(self, texts=None):
+        """Over the pages of this repository, or over texts by their names."""
+        self.was = texts or pages()
         self.texts, self.faults = dict(self.was), []
 
     def put(self, pattern, text, name):

@@ -2,8 +2,9 @@
 import subprocess
 
 from bench.check import counted
-from bench.check.page_checks.case import case, finds_fault
+from bench.check.page_checks.case import case, expect, finds_fault
 from bench.check.page_checks.page import FRONT, PAGES, TOP, Wrong, text_of
+from bench.check.written import Written
 
 
 def told_right(text):
@@ -34,6 +35,19 @@ def old_numbers(_):
 def last_line(_):
     if '`{passes} passed, 0 failed`'.format(**counted.numbers()) not in text_of(FRONT):
         raise Wrong('{} has no `{passes} passed, 0 failed`'.format(FRONT, **counted.numbers()))
+
+
+TABLE = ['| a | b |', '|---|---|', '| 1 | 2 |']
+
+
+@case('a table is found by its first row, in whatever page; one that is nowhere or in two places is told')
+def tables_found(_):
+    old = '| a | b |\n|---|---|\n| 0 | 0 |\n| 3 | 4 |\n'
+    for texts, after, faults in [({'x': 'x\n', 'y': 'y\n\n' + old + '\nz\n'}, 'y\n\n' + '\n'.join(TABLE) + '\n\nz\n', 0), ({'y': 'y\n'}, 'y\n', 1),
+                                 ({'x': old, 'y': old}, old, 1)]:
+        written = Written(texts)
+        written.put_table(TABLE)
+        expect((after, faults), (written.texts['y'], len(written.faults)))
 
 
 def agrees(program):
