@@ -60,6 +60,15 @@ def links_read(_):
     expect(None, link_of('README.md', 1, 'https://osm.org/x#y'))
 
 
+NAMED = re.compile(r'(?<![\w/.-])((?:bench|docs|examples|launcher|yoke)/[a-z0-9_./-]*[a-z0-9_])(?![\w/*-]|[.][a-z])')
+
+
+@case('each file and program of the repository that a page names is there')
+def all_named_are_there(_):
+    expect([], ['{}, line {}: {}'.format(page, number, name) for page in PAGES + OTHERS for number, line in enumerate(lines_of(page), 1)
+                for name in NAMED.findall(line) if not (TOP / name).exists()])
+
+
 @functools.lru_cache(maxsize=None)
 def distances():
     """How many links each page is from the first one."""
