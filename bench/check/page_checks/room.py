@@ -46,8 +46,11 @@ class Room:
 
     def run(self, words, text=None, timeout=300):
         """Status and output, the error stream among it, of a command, which has so many seconds."""
-        done = subprocess.run(words, cwd=self.folder, env=self.environment, input=text, text=True, timeout=timeout,
-                              stdout=subprocess.PIPE, stderr=subprocess.STDOUT, errors='surrogateescape')
+        try:
+            done = subprocess.run(words, cwd=self.folder, env=self.environment, input=text, text=True, timeout=timeout,
+                                  stdout=subprocess.PIPE, stderr=subprocess.STDOUT, errors='surrogateescape')
+        except subprocess.TimeoutExpired as late:
+            raise Wrong('it had not ended after {} seconds: {}'.format(timeout, ' '.join(map(str, words)))) from late
         return done.returncode, done.stdout
 
     def sh(self, text, shell='sh -eu'):
