@@ -38,6 +38,7 @@ class Limits:
     map_nodes: int = 50_000                 # nodes within a box of `map`
     user_changes: Optional[int] = None      # changes of a user in all, before a 429
     map_bytes: Optional[int] = None         # bytes that `map` answers in all, before a 509
+    says_what_is_gone: bool = True          # whether a 410 has a text; some have none
     retry_after: int = 1                    # seconds, as the header Retry-After of a 429 and a 509 says
 
 
@@ -484,7 +485,8 @@ class Upload:
     def _check_deletion(self, xml: ElementTree.Element, old: Element, is_placeholder: bool) -> None:
         """410, 409 or 412 where an element can't be deleted."""
         if not old.visible:
-            raise Refusal(410, 'The {} with the id {} has already been deleted'.format(old.kind, old.number))
+            text = 'The {} with the id {} has already been deleted'.format(old.kind, old.number)
+            raise Refusal(410, text if self.database.limits.says_what_is_gone else '')
         if not is_placeholder:
             self._check_version(self._number(xml, 'version', 'Version is required when updating'), old)
         ways, relations = (self.database.referring(old.key, letter) for letter in 'wr')

@@ -4,11 +4,12 @@ Each verb of `yoke` is told to it with the session before and after; each change
 is held against it. It raises `Failed` where an edit is lost, where something is sent that the mapper didn't edit, where
 something is created twice, and where the work of others is overwritten unseen.
 """
+import collections
 import functools
 import re
-from typing import Any, Dict, List, NamedTuple, Optional, Tuple
+from typing import Any, Dict, Iterable, List, NamedTuple, Optional, Tuple
 
-from yoke.testing.elements import Element, of_opl
+from yoke.testing.elements import Element, of_opl, opl
 from yoke.testing.server import MAPPER, StrictServer
 
 
@@ -85,12 +86,32 @@ class Wish(NamedTuple):
     seen: int
 
 
+class Wishes(collections.UserDict):
+    """The wishes by key and part, where those of one key are at hand."""
+
+    def __init__(self, others=()):
+        self._parts: Dict[str, set] = collections.defaultdict(set)      # by key
+        super().__init__(others)
+
+    def __setitem__(self, place: Tuple[str, str], wish: Wish) -> None:
+        self.data[place] = wish
+        self._parts[place[0]].add(place[1])
+
+    def __delitem__(self, place: Tuple[str, str]) -> None:
+        del self.data[place]
+        self._parts[place[0]].discard(place[1])
+
+    def of(self, key: str) -> Parts:
+        """The wishes of an object by part."""
+        return {part: self.data[key, part] for part in self._parts.get(key, ())}
+
+
 class Ledger:
     """What the mapper has edited and the server hasn't got yet; each change of the server is held against it."""
 
     def __init__(self, server: StrictServer):
         self.server = server
-        self.wishes: Dict[Tuple[str, str], Wish] = {}       # by key and part
+        self.wishes = Wishes()
         self.names: Dict[str, str] = {}                     # the keys that new objects got
         self.read = 0                                       # changes of the server that were looked at
         self.landed = 0                                     # changes of the mapper among them
@@ -101,11 +122,8 @@ class Ledger:
             return tuple(self.renamed(one) for one in value)
         return self.names.get(value, value) if isinstance(value, str) and re.fullmatch('[nwr]-[0-9]+', value) else value
 
-    def of_key(self, key: str) -> Parts:
-        return {part: wish for (one, part), wish in self.wishes.items() if one == key}
-
     def drop(self, key: str) -> None:
-        for part in self.of_key(key):
+        for part in self.wishes.of(key):
             del self.wishes[key, part]
 
     # ---- what the mapper did ----
@@ -193,8 +211,8 @@ class Ledger:
         changed = difference(before, parts(element))
         if not changed:
             raise Failed('{} {} v{} changes nothing'.format(verb, element.key, element.version))
-        if verb == 'create' and set(self.of_key(key)) != set(changed):
-            raise Failed('{} was created as {}, and had to be {}'.format(key, changed, self.of_key(key)))
+        if verb == 'create' and set(self.wishes.of(key)) != set(changed):
+            raise Failed('{} was created as {}, and had to be {}'.format(key, changed, self.wishes.of(key)))
         for part, value in changed.items():
             wish = self.wishes.pop((key, part), None)
             if wish is None or self.renamed(wish.value) != self.renamed(value):
@@ -207,6 +225,23 @@ class Ledger:
         seen, there = (parts(self._version(element.key, version)) for version in (wish.seen, element.version - 1))
         if (seen != there) if part == 'there' else (seen.get(part) != there.get(part)):
             raise Failed('{} v{} overwrites the {} of others, who changed it after v{}'.format(element.key, element.version, part, wish.seen))
+
+    # ---- the end of a day ----
+
+    def compare(self, printed: Iterable[Element], may_be_older: bool) -> None:
+        """Failed where the session has an object otherwise than the server: by version and content.
+
+        `may_be_older` tells that the session may not know the last version, where that is of somebody else.
+        """
+        for element in printed:
+            there = self.server.database.current(element.key)
+            if may_be_older and there is not None and element.version < there.version:
+                later = [one for one in self.server.database.versions[element.key] if one.version > element.version]
+                if any(one.user == MAPPER.name for one in later):
+                    raise Failed('the session has {}, and the mapper sent {}'.format(opl(element), opl(later[-1])))
+                there = next((one for one in self.server.database.versions[element.key] if one.version == element.version), None)
+            if there is None or (element.version, element.content) != (there.version, there.content):
+                raise Failed('the session has {}, and the server {}'.format(opl(element), there and opl(there)))
 
     def _version(self, key: str, version: int) -> Element:
         return next(element for element in self.server.database.versions[key] if element.version == version)

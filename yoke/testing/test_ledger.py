@@ -5,7 +5,7 @@
 import unittest
 
 from yoke.testing.elements import lines_of_opl
-from yoke.testing.ledger import Failed, Ledger, Wish, difference, parts, read_session
+from yoke.testing.ledger import Failed, Ledger, Wish, Wishes, difference, parts, read_session
 from yoke.testing.server import MAPPER, StrictServer
 
 TOWN = ['n1 v1 dV Tname=a x1.0000000 y2.0000000', 'n2 v1 dV T x1.1000000 y2.0000000', 'n3 v1 dV T x1.2000000 y2.0000000',
@@ -209,6 +209,43 @@ class Refreshed(LedgerTest):
     def test_a_withdrawn_deletion_waits_for_its_resolve(self):
         self.edited(gone('n3'))
         self.ledger.kept(session('known n3 live same withdrawn\nbase {0}\ntheirs {0}\n'.format(BASE['n3'])))
+
+
+class Compared(LedgerTest):
+
+    def printed(self, *lines):
+        return list(lines_of_opl([*(line for line in TOWN if line[:2] not in [one[:2] for one in lines]), *lines]))
+
+    def test_a_session_that_is_the_server(self):
+        self.ledger.compare(self.printed(), may_be_older=False)
+
+    def test_one_that_has_another_content_or_more(self):
+        for line in ('n1 v1 dV Tname=b x1.0000000 y2.0000000', 'n1 v1 dD', 'n9 v1 dV T x1.0000000 y2.0000000', 'w5 v4 dV Thighway=path Nn1,n2'):
+            self.assert_fails('the session has ' + line[:2], self.ledger.compare, self.printed(line), True)
+
+    def test_one_that_is_older(self):
+        self.server.edit('modify', 'n1', tags={'name': 'theirs'})
+        self.ledger.compare(self.printed(), may_be_older=True)
+        self.assert_fails('the session has n1', self.ledger.compare, self.printed(), False)
+
+    def test_one_that_is_older_than_what_the_mapper_sent(self):
+        self.edited(own('n1', NAMED))
+        self.named(1)
+        self.assert_fails('and the mapper sent n1', self.ledger.compare, self.printed(), True)
+
+
+class OfOneKey(unittest.TestCase):
+
+    def test_wishes_that_come_and_go(self):
+        wishes = Wishes({('n1', 'there'): 1, ('n1', 'place'): 2, ('n2', 'there'): 3})
+        wishes['n1', 'place'] = 4
+        self.assertEqual(wishes.of('n1'), {'there': 1, 'place': 4})
+        copy = Wishes(wishes)
+        self.assertEqual(wishes.pop(('n1', 'there')), 1)
+        self.assertIsNone(wishes.pop(('n1', 'there'), None))
+        del wishes['n1', 'place']
+        self.assertEqual((wishes.of('n1'), wishes.of('n9'), wishes), ({}, {}, {('n2', 'there'): 3}))
+        self.assertEqual(copy.of('n1'), {'there': 1, 'place': 4})
 
 
 class Parts(unittest.TestCase):

@@ -254,6 +254,8 @@ class Refusals(ServerTest):
 
     def test_what_is_deleted(self):
         self.assert_not_taken('<delete><node id="5" C version="4"/></delete>', 410, 'The node with the id 5 has already been deleted')
+        self.server.limits.says_what_is_gone = False
+        self.assert_not_taken('<delete><node id="5" C version="4"/></delete>', 410, '')
         self.assert_not_taken('<modify><node id="5" C version="3" lat="1" lon="1"/></modify>', 409,
                               'Version mismatch: Provided 3, server had: 4 of Node 5')
 
