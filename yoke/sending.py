@@ -41,7 +41,7 @@ from yoke.api import Limits, Server
 from yoke.session import Session
 from yoke.trouble import Clash, NoAnswer, Refused, ServerRefused, Trouble
 
-CHUNK = 1000                # changes in a document, if not told otherwise
+CHUNK = 1000                # changes in a document, unless --chunk names another number
 SILENCES = 3                # documents in a row that got no answer and weren't taken, before a send ends
 WAITS = (10, 60)            # seconds between them
 FENCE_WAITS = (5, 15, 60)   # seconds in which a changeset that is closed may still be at work
@@ -204,7 +204,8 @@ class Sending:
             if self._found():       # a proxy had sent it twice, and this is the answer to the second time
                 return Outcome.TAKEN
             self._remove('osc')
-            raise Clash(str(refused) + users(refused.text)) from None
+            keys = users(refused.text)
+            raise Clash(str(refused) + ('; where it doesn\'t know them: yoke refresh ' + ' '.join(keys) if keys else ''), keys) from None
         if refused.status == 413 and (self.changeset.count or len(chunk) > 1):
             self.note('{}'.format(refused))
             self.size = self.size if self.changeset.count else len(chunk) // 2
@@ -358,10 +359,9 @@ def noted(day):
 
 
 def users(text):
-    """The way on where a 412 names users that the session may not know."""
+    """The keys of the users that a 412 names, the first twenty: the session may not know them."""
     found = re.search('used (?:by|in) (way|relation)s? ([0-9, ]+)', text)
-    keys = ['{}{}'.format(found[1][0], number) for number in re.findall('[0-9]+', found[2])] if found else []
-    return '; where it doesn\'t know them: yoke refresh ' + ' '.join(keys[:20]) if keys else ''
+    return ['{}{}'.format(found[1][0], number) for number in re.findall('[0-9]+', found[2])[:20]] if found else []
 
 
 def check_server(day, server):

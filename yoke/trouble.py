@@ -23,9 +23,16 @@ class Usage(Trouble):
 
 
 class Clash(Trouble):
-    """Somebody was faster, or a conflict isn't resolved yet: `yoke refresh`, `yoke conflicts`, `yoke resolve`."""
+    """Somebody was faster, or a conflict isn't resolved yet: `yoke refresh`, `yoke conflicts`, `yoke resolve`.
+
+    `keys` are objects that the session may not know, and that a refresh has to ask for.
+    """
 
     code = 4
+
+    def __init__(self, message, keys=()):
+        super().__init__(message)
+        self.keys = list(keys)
 
 
 class NoAnswer(Trouble):

@@ -126,5 +126,73 @@ class Refresh(ServerTest):
         self.assertIn('--api', self.err)
 
 
+class SendAndRefresh(ServerTest):
+    """`yoke send --refresh` goes on by itself, as far as nobody has to choose."""
+
+    def test_somebody_was_faster(self):
+        self.begin('tag w5 Tsurface=asphalt', 'tag n8 Tbackrest=yes')
+        self.server.before('upload', 1, lambda: self.server.edit('modify', 'w5', tags={'highway': 'residential', 'name': 'Main Street'}))
+        self.server.before('upload', 2, lambda: self.server.edit('modify', 'n8', tags={'amenity': 'bench', 'ref': '7'}))
+        self.assertEqual(0, self.send('--refresh'), self.err)
+        self.assertIn('joined w5 Main Street: both sides changed it, in unlike parts; version 4 by somebody\n', self.out)
+        self.assertEqual(self.theirs()['w5'].tags, {'highway': 'residential', 'name': 'Main Street', 'surface': 'asphalt'})
+        self.assertEqual(self.theirs()['n8'].tags, {'amenity': 'bench', 'ref': '7', 'backrest': 'yes'})
+        self.assertEqual((2, 1), (self.server.answers['upload 409'], self.server.answers['upload 200']))
+
+    def test_a_conflict_ends_it(self):
+        self.begin('tag n8 Tbackrest=yes', 'tag w5 Tsurface=asphalt')
+        self.server.before('upload', 1, lambda: self.server.edit('modify', 'n8', tags={'amenity': 'bench', 'backrest': 'no'}))
+        self.assertEqual(Clash.code, self.send('--refresh'))
+        self.assertIn('backrest: was (none), mine yes, theirs no', self.out)
+        self.assertIn('1 in conflict: yoke resolve, and send again', self.err)
+        self.assertEqual(1, len(self.server.history))
+        self.assertEqual(Clash.code, self.send('--refresh'))
+        self.done('resolve', 'n8', 'theirs')
+        self.assertEqual(0, self.send('--refresh'), self.err)
+        self.assertEqual(self.theirs()['n8'].tags['backrest'], 'no')
+
+    def test_users_that_the_session_does_not_know(self):
+        self.begin('delete n3')
+        self.server.edit('create', 'w-1', nodes=[1, 3])
+        self.assertEqual(Clash.code, self.send('--refresh'))
+        self.assertIn('n3: deleted here, and the server uses it now', self.out)
+        self.done('resolve', 'n3', 'theirs')
+        self.assertEqual(0, self.send('--refresh'), self.err)
+        self.assertTrue(self.server.database.is_there('n3'))
+
+    def test_deleted_by_both(self):
+        for says in (True, False):
+            with self.subTest(says=says):
+                self.server.limits.says_what_is_gone = says
+                key = 'n8' if says else 'r9'
+                if says:
+                    self.begin('delete n8')
+                else:
+                    self.do('delete r9')
+                self.server.edit('delete', key)
+                self.assertEqual(0, self.send('--refresh'), self.err)
+                self.assertIn('410', self.err)
+                self.assertIn('nothing is left to send', self.out)
+
+    def test_what_brings_nothing_newer_ends_it(self):
+        self.begin('tag n8 Tbackrest=yes', town=self.town.replace('n8 v2', 'n8 v3'))
+        self.assertEqual(Clash.code, self.send('--refresh'))
+        self.assertIn('Version mismatch: Provided 3, server had: 2 of Node 8', self.err)
+        self.assertEqual(1, self.server.answers['upload 409'])
+
+    def test_without_it_a_send_ends(self):
+        self.begin('tag w5 Tsurface=asphalt')
+        self.server.edit('modify', 'w5', tags={'highway': 'residential', 'name': 'Main Street'})
+        self.assertEqual(Clash.code, self.send())
+        self.assertEqual('do', self.day.last().verb)
+
+    def test_it_ends_where_somebody_never_stops(self):
+        self.begin('tag w5 Tsurface=asphalt')
+        self.server.watch = lambda when, operation: (when, operation) == ('before', 'upload') and self.server.edit('modify', 'w5', tags={
+            'highway': 'residential', 'note': str(len(self.server.history))})
+        self.assertEqual(Clash.code, self.send('--refresh'))
+        self.assertEqual(21, self.server.answers['upload 409'])
+
+
 if __name__ == '__main__':
     unittest.main()

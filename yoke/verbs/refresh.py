@@ -1,5 +1,8 @@
 """`yoke refresh`: what the server has by now of all that the edits rest on."""
-from yoke import api, opl
+from dataclasses import dataclass
+from typing import List
+
+from yoke import api, opl, sides
 from yoke.progress import note
 from yoke.sending import check_server, note_server
 from yoke.session import Session
@@ -26,21 +29,47 @@ def run(arguments):
             raise Usage('a key is n, w or r and a number that a server gave, as w5, and not {}'.format(key))
     server, session = api.server_of(arguments, note), Session.of(arguments)
     with session.day.locked():
-        session.check_settled()
-        check_server(session.day, server)
-        keys = session.ask(['find ' + NEEDED]).found()
-        things, never = fetch(server, sorted({*keys, *arguments.keys}, key=opl.rank))
-        count = merge(session, server, things)
-        known = session.known()
-    left = [one for one in known.values() if one.conflict != 'none']
-    print('{} objects asked for, {} newer ones merged'.format(len(things) + len(never), count))
-    for key in never:
+        news = bring(session, server, arguments.keys)
+    show(news, server)
+    return Clash.code if news.left or news.never else 0
+
+
+@dataclass
+class News:
+    """What a refresh brought: how many objects it asked for, the keys that the server never had, how many newer ones were
+    merged, and of the objects `saved.Known` those that both sides changed, joined, and those that are in conflict."""
+
+    asked: int
+    never: List[str]
+    merged: int
+    joined: List
+    left: List
+
+
+def bring(session, server, keys=()):
+    """Asks the server for what the edits rest on, and for the objects with these keys, and merges it; the folder has to be locked."""
+    session.check_settled()
+    check_server(session.day, server)
+    found = session.ask(['find ' + NEEDED]).found()
+    things, never = fetch(server, sorted({*found, *keys}, key=opl.rank))
+    newer = merge(session, server, things)
+    known = session.known()
+    joined = [known[key] for key in newer if key in known and known[key].edit == 'changed' and known[key].conflict == 'none']
+    return News(len(things) + len(never), never, len(newer), joined, [one for one in known.values() if one.conflict != 'none'])
+
+
+def show(news, server):
+    """Says what a refresh brought."""
+    print('{} objects asked for, {} newer ones merged'.format(news.asked, news.merged))
+    for one in news.joined:
+        by = ' by {}'.format(sides.plain(one.base.user)) if one.base.user else ''
+        print('joined {}: both sides changed it, in unlike parts; version {}{}'.format(sides.title(one.mine), one.base.version, by))
+    for key in news.never:
         print('{} never existed at {}'.format(key, server.address))
-    for one in left:
+    for one in news.left:
         conflicts.show(one)
-    if left:
-        print('{} in conflict'.format(len(left)))
-    return Clash.code if left or never else 0
+    if news.left:
+        print('{} in conflict'.format(len(news.left)))
 
 
 def fetch(server, keys):
@@ -55,7 +84,7 @@ def fetch(server, keys):
 
 
 def merge(session, server, things):
-    """Merges objects into the session, as a download does, and keeps it where that changed it; answers with how many were newer."""
+    """Merges objects into the session, as a download does, and keeps it where that changed it; answers with the keys of the newer ones."""
     before = session.known()
     newer = [thing for thing in things if is_news(before.get(thing.key), thing)]
     if newer:
@@ -63,7 +92,7 @@ def merge(session, server, things):
         session.day.write('fresh.opl', ''.join(opl.line(thing) + '\n' for thing in newer))
         session.edit('refresh', ['download ' + opl.escape(str(session.day.path('fresh.opl').resolve()))])
         session.day.remove('fresh.opl')
-    return len(newer)
+    return [thing.key for thing in newer]
 
 
 def is_news(known, thing):

@@ -3,12 +3,14 @@ from yoke import api, opl, sending
 from yoke.progress import note
 from yoke.sending import Sending
 from yoke.session import Session
-from yoke.trouble import NoAnswer, Usage
+from yoke.trouble import Clash, NoAnswer, Usage
+from yoke.verbs import refresh
 
 SUMMARY = 'send the edits, chunk by chunk; goes on where it ended'
 DETAILS = """It may end anywhere: the same command again goes on. Where an answer is lost it looks what the server took, and
 sends nothing twice. OpenStreetMap asks for a comment that says what was done and why, and for the source; before many
 edits of one kind read its rules for imports and automated edits."""
+MOST = 20       # how often one command refreshes: somebody who edits the same objects all the time is to be talked to
 
 
 def add_arguments(parser):
@@ -17,6 +19,7 @@ def add_arguments(parser):
     parser.add_argument('--source', metavar='TEXT', help='where it is known from, such as survey')
     parser.add_argument('--tag', metavar='KEY=VALUE', action='append', default=[], help='another tag of the changeset; may come again')
     parser.add_argument('--chunk', metavar='N', type=int, default=sending.CHUNK, help='changes in a document, 1 to 10,000 (%(default)s)')
+    parser.add_argument('--refresh', action='store_true', help='where somebody was faster, refresh and go on, unless something is in conflict then')
     parser.add_argument('--dry', action='store_true', help='show what would be sent, and ask no server')
 
 
@@ -31,12 +34,30 @@ def run(arguments):
     one = Sending(session, server, tags, arguments.chunk, note)
     with session.day.locked():
         try:
-            one.run()
+            deliver(one, MOST if arguments.refresh else 0)
         except NoAnswer as silence:
             raise NoAnswer('{}; the same command again goes on from here'.format(silence)) from None
     print('{} changes sent{}'.format(one.sent, ' in ' + ', '.join('changeset ' + number for number in one.used) if one.used else ''))
     print('nothing is left to send')
     return 0
+
+
+def deliver(one, refreshes):
+    """Sends; where somebody was faster it refreshes, so many times at most. Clash where something is in conflict, or nothing came that is newer."""
+    while True:
+        try:
+            return one.run()
+        except Clash as clash:
+            if not refreshes:
+                raise
+            note(str(clash))
+            news = refresh.bring(one.session, one.server, clash.keys)
+            refresh.show(news, one.server)
+            if news.left:
+                raise Clash('{} in conflict: yoke resolve, and send again'.format(len(news.left))) from None
+            if not news.merged:
+                raise
+            refreshes -= 1
 
 
 def tags_of(arguments):
