@@ -22,6 +22,7 @@ from typing import Dict, Iterator, List, Mapping as MappingOf, Optional, Tuple
 from yoke import opl
 from yoke.formats.features import Feature
 from yoke.formats.mapping import Left, Mapping
+from yoke.table import Table
 
 UNITS = 10 ** 7         # of a place in a degree
 MOST_NODES = 2000       # of a way
@@ -30,6 +31,7 @@ WORLD = (-180 * UNITS, -90 * UNITS, 180 * UNITS, 90 * UNITS)
 SINGLE = {'MultiPoint': 'Point', 'MultiLineString': 'LineString', 'MultiPolygon': 'Polygon'}
 
 Place = Tuple[int, int]
+Shape = Tuple[str, str, Tuple]      # the kind of a geometry, its places, and the tags: what is alike in all of them is the same
 Box = Tuple[int, int, int, int]     # west, south, east, north
 
 
@@ -38,14 +40,16 @@ class Drawing:
     """New objects, whose keys mean something in this drawing alone.
 
     `within` is the box in which all places lie; `latitude_first` tells that the file has latitudes before longitudes.
-    `nodes_there` are the keys of nodes that the session has, by their places; corners there are these nodes. `left` has
-    what was left out: where it stands, and why. `notes` counts what else a reader ought to know.
+    `nodes_there` are the keys of nodes that the session has, by their places; corners there are these nodes. `there` are the
+    keys of objects that the session has, by their `Shape`: what is the same is left out. `left` has what was left out: where
+    it stands, and why. `notes` counts what else a reader ought to know.
     """
 
     mapping: Mapping = field(default_factory=Mapping)
     within: Box = WORLD
     latitude_first: bool = False
     nodes_there: MappingOf[Place, str] = field(default_factory=dict)
+    there: MappingOf[Shape, str] = field(default_factory=dict)
     read: int = 0
     left: List[Tuple[str, str]] = field(default_factory=list)
     notes: Counter = field(default_factory=Counter)
@@ -73,9 +77,12 @@ class Drawing:
             self.notes += notes
 
     def _add_once(self, where: str, kind: str, shape, tags: Dict[str, str]):
-        same = kind, repr(shape), tuple(sorted(tags.items()))
+        same = shape_of(kind, shape, tags)
         if same in self._known:
             raise Left('it is the same as {}'.format(self._known[same]))
+        parts = [shape_of('LineString', line, tags) for line in shape] if kind == 'MultiLineString' else [same]
+        if all(part in self.there for part in parts):
+            raise Left('the session has it already, as {}'.format(','.join(self.there[part] for part in parts)))
         {'Point': self._point, 'LineString': self._line, 'MultiLineString': self._lines, 'Polygon': self._area}[kind](shape, tags)
         self._known[same] = where
 
@@ -207,6 +214,47 @@ class Drawing:
             yield 'note: {}: {}'.format(note, count)
         for where, why in self.left:
             yield 'left out: {}: {}'.format(where, why)
+
+
+def shape_of(kind: str, places, tags: MappingOf[str, str]) -> Shape:
+    """A geometry and its tags as something to compare. Places are one, a list, or lists of lists, as the kind has them."""
+    return kind, repr(places), tuple(sorted(tags.items()))
+
+
+def shapes_of(found: Table) -> Dict[Shape, str]:
+    """The keys of a session's objects by their shapes, where they are such as an import makes, and have tags."""
+    paths, shapes = {}, {}
+    for key, known in found.things.items():
+        thing = known.mine
+        if thing is None:
+            continue
+        if key[0] == 'w':
+            paths[key] = [place_of(node) if node else None for node in map(found.mine, thing.nodes)]
+        for kind, places in _forms(thing, paths) if thing.tags else ():
+            shapes.setdefault(shape_of(kind, places, _without_type(thing)), key)
+    return shapes
+
+
+def _forms(thing: opl.Object, paths: MappingOf[str, List[Place]]) -> Iterator[Tuple[str, object]]:
+    """The geometries that an import would make this object of."""
+    if thing.key[0] == 'n':
+        yield 'Point', place_of(thing)
+    elif thing.key[0] == 'w':
+        yield 'LineString', paths[thing.key]
+        if thing.nodes[:1] == thing.nodes[-1:]:
+            yield 'Polygon', [[paths[thing.key]]]
+    elif thing.tags.get('type') == 'multipolygon' and all(key in paths for key, _ in thing.members):
+        polygons = []
+        for key, role in thing.members:
+            if role == 'outer' or not polygons:
+                polygons.append([])
+            polygons[-1].append(paths[key])
+        yield 'Polygon', polygons
+
+
+def _without_type(thing: opl.Object) -> Dict[str, str]:
+    """The tags, of a multipolygon those that its feature had."""
+    return {key: value for key, value in thing.tags.items() if (key, value) != ('type', 'multipolygon')} if thing.key[0] == 'r' else thing.tags
 
 
 def box_of(text: str) -> Box:

@@ -8,7 +8,7 @@ import io
 import json
 from dataclasses import dataclass, field
 from decimal import Decimal, InvalidOperation
-from typing import Any, Dict, List, Optional
+from typing import Any, Dict, List, Optional, Tuple
 
 LON = ('lon', 'lng', 'long', 'longitude', 'x')      # names of columns, in the order in which they are looked for
 LAT = ('lat', 'latitude', 'y')
@@ -118,9 +118,18 @@ def _feature(where: str, found) -> Feature:
 def read_csv(data: bytes, lon: Optional[str] = None, lat: Optional[str] = None) -> List[Feature]:
     """The rows of a CSV as points; its first line has the names of the columns.
 
-    The sign between fields is that of `,`, `;`, tab and `|` which the first line has most of. `lon` and `lat` name the
-    columns of degrees; without them the usual names are looked for. A comma as the point of a number is taken where it
-    isn't the sign between fields.
+    `lon` and `lat` name the columns of degrees; without them the usual names are looked for. A comma as the point of a
+    number is taken where it isn't the sign between fields.
+    """
+    names, rows, sign = read_rows(data)
+    x, y = _column(names, lon, LON, 'longitude', '--lon'), _column(names, lat, LAT, 'latitude', '--lat')
+    return [_row('line {}'.format(line), names, row, x, y, sign) for line, row in rows]
+
+
+def read_rows(data: bytes) -> Tuple[List[str], List[Tuple[int, List[str]]], str]:
+    """The names of the columns of a CSV, its rows, each with the number of its line, and the sign between fields.
+
+    That sign is the one of `,`, `;`, tab and `|` which the first line has most of. ValueError where the file is none.
     """
     text = text_of(data)
     first = text.lstrip('\r\n').split('\n')[0]
@@ -136,8 +145,7 @@ def read_csv(data: bytes, lon: Optional[str] = None, lat: Optional[str] = None) 
     twice = next((name for name in names if name and names.count(name) > 1), None)
     if twice:
         raise ValueError('the column {} stands twice'.format(twice))
-    x, y = _column(names, lon, LON, 'longitude', '--lon'), _column(names, lat, LAT, 'latitude', '--lat')
-    return [_row('line {}'.format(line), names, row, x, y, sign) for line, row in numbered[1:]]
+    return names, numbered[1:], sign
 
 
 def _column(names: List[str], given: Optional[str], usual, what: str, option: str) -> int:

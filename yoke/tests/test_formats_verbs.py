@@ -116,6 +116,23 @@ class Verbs(FolderTest):
         found = self.table()
         self.assertEqual((len(found.new()), found.mine('r-20').members), (20, (('w-17', 'outer'), ('w-18', 'inner'))))
 
+    def test_import_of_a_part(self):
+        self.write('houses.geojson', HOUSES)
+        self.assertIn('features: 2 read, 2 taken, 0 left out\nobjects: 6 nodes, 2 ways, 0 relations\n', self.done('import', 'houses.geojson', '--within', '13,52,14,53', '--features', '1-2'))
+        self.assertIn('features: 4 read, 2 taken, 2 left out', self.done('import', 'houses.geojson', '--within', '13,52,14,53', '--features', '2-5'))
+        for words, code, text in [(['--features', '8-9'], 1, 'the file has 7 features'), (['--features', '3-2'], 2, 'two numbers'), (['--features', '0-2'], 2, 'two numbers'),
+                                  (['--features', 'all'], 2, 'two numbers')]:
+            self.assertIn(text, self.yoke('import', 'houses.geojson', *words, code=code))
+        self.assertEqual(self.states(), 3)
+
+    def test_the_same_import_again_does_nothing(self):
+        self.write('houses.geojson', HOUSES)
+        self.done('import', 'houses.geojson', '--within', '13,52,14,53')
+        said = self.yoke('import', 'houses.geojson', '--within', '13,52,14,53', code=1)
+        self.assertIn('left out: feature 1: the session has it already, as w-15\n', said)
+        self.assertIn('yoke: nothing is done: no feature was taken', said)
+        self.assertIn('features: 7 read, 5 taken, 2 left out', self.done('import', 'houses.geojson', '--within', '13,52,14,53', '--again'))
+
     def test_import_of_csv(self):
         self.write('addresses.csv', ADDRESSES)
         self.write('town.rules', RULES)
@@ -182,7 +199,7 @@ class Verbs(FolderTest):
     def test_lint(self):
         self.write('a.script', 'node x1 y1 T as a\n\ntag a ref=1\nimport town.opl\ntag a Tref=2\nprint \n')
         self.assertEqual(self.yoke('lint', 'a.script', code=1), 'a.script:3: ref=1 has no T before it: tags are Tkey=value, or T alone\n    written  tag a ref=1\n'
-                         '    right    tag n-1 Tref=1\na.script:6: a blank stands behind the last word\n    written  print \n    right    print\n2 bad lines\n')
+                         '    right    tag n-1 Tref=1\na.script:6: a blank stands after the last word\n    written  print \n    right    print\n2 bad lines\n')
         self.write('a.script', b'# \xff\r\nprint\r\n')
         self.assertEqual(self.done('lint', 'a.script'), 'no bad lines\n')
         self.write('a.script', 'print\ntag b T\nnode x1 y1 T as b\n')

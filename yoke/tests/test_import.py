@@ -117,6 +117,25 @@ class GeoJson(unittest.TestCase):
         self.assertEqual(list(picture.lines()), ['n-1 T x2 y2', 'n-3 T x3 y3', 'w-2 Ta=b Nn5,n-1', 'w-4 Ta=b Nn5,n-3'])
         self.assertEqual(dict(picture.notes), {'corners that are nodes of the session': 1, 'corners that are shared': 1})
 
+    def test_what_the_session_has_is_left_out(self):
+        found = features.read_geojson(HOUSES) + features.read_geojson(geojson(
+            shape('MultiLineString', [[[1, 1], [2, 2]], [[3, 3], [4, 4]]]), shape('MultiPolygon', [[[[5, 5], [6, 5], [6, 6]]], [[[7, 7], [8, 7], [8, 8]], [[7.5, 7.2], [7.6, 7.2], [7.6, 7.3]]]])))
+        lines = list(drawn(found).lines())
+        again = sessions.opened(['import new.opl'], new_opl=''.join(line + '\n' for line in lines))
+        shapes = drawing.shapes_of(again)
+        picture = drawn(found, there=shapes)
+        self.assertEqual((picture.taken, list(picture.lines())), (0, []))
+        keys = {why.rsplit(' ', 1)[1] for _, why in picture.left if why.startswith('the session has it already, as ')}
+        self.assertEqual(len(keys), 8)
+        self.assertTrue(any(',' in key for key in keys))
+        self.assertEqual(drawn(features.read_geojson(HOUSES.replace(b'"terrace"', b'"house"')), there=shapes).taken, 1)
+        self.assertEqual(drawn(features.read_geojson(HOUSES.replace(b'[13.1004, 52.1]', b'[13.1005, 52.1]')), there=shapes).taken, 1)
+
+    def test_objects_that_no_import_makes_have_no_shape(self):
+        found = sessions.opened(['download town.opl'], town_opl='n1 v1 T x1 y1\nn2 v1 Ta=b x2 y2\nw1 v1 Ta=b Nn1,n9\nw2 v1 Nn1,n2\nr1 v1 Ttype=multipolygon Mw1@outer,w9@inner\n'
+                                'r2 v1 Ttype=multipolygon,a=b Mn1@\nr3 v1 Ttype=multipolygon,a=b M\nn3 v2 dD\n')
+        self.assertEqual({key for (kind, _, _), key in drawing.shapes_of(found).items() if kind != 'LineString'}, {'n2', 'r3'})
+
     def test_latitude_first(self):
         picture = drawn(features.read_geojson(geojson(shape('Point', [52.1, 13.1]))), latitude_first=True, within=drawing.box_of('13,52,14,53'))
         self.assertEqual(list(picture.lines()), ['n-1 Ta=b x13.1 y52.1'])

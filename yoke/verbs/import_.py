@@ -1,6 +1,7 @@
 """`yoke import`: features of GeoJSON or CSV as new objects of the session."""
 import os
 import pathlib
+import re
 import tempfile
 
 from yoke import day, opl, table
@@ -10,7 +11,8 @@ from yoke.session import Session
 from yoke.trouble import Refused, Trouble, Usage
 
 SUMMARY = 'make new objects of the features of a GeoJSON or CSV file'
-DETAILS = """A feature comes whole or not at all; corners at one place are one node. Each feature that is left out is told with the cause.
+DETAILS = """A feature comes whole or not at all; corners at one place are one node. Each feature that is left out is named with the cause.
+What the session has already, at the same places and with the same tags, is left out, so the same file again does nothing.
 Without --within the bounds are those of the session's nodes, and a tenth more on each side. docs/COMPANION-FORMATS.md has
 the form of the file of --tags. Before you import into OpenStreetMap: https://wiki.openstreetmap.org/wiki/Import/Guidelines"""
 LEAST = 10 ** 5     # by how much the session's own box is widened at least, in units of 10^-7 degree
@@ -24,6 +26,8 @@ def add_arguments(parser):
     parser.add_argument('--latitude-first', action='store_true', help='in FILE the latitude stands before the longitude')
     parser.add_argument('--lon', metavar='COLUMN', help='the column of the longitude of a CSV')
     parser.add_argument('--lat', metavar='COLUMN', help='the column of the latitude of a CSV')
+    parser.add_argument('--features', metavar='N-M', help='only the features N to M of the file, of which the first is 1')
+    parser.add_argument('--again', action='store_true', help='also features that the session has already')
     parser.add_argument('--join', action='store_true', help='corners where the session has a node are that node')
     parser.add_argument('--all', action='store_true', help='do nothing where a feature is left out')
     parser.add_argument('--report', metavar='FILE', help='write what was left out into a file, and not to standard output')
@@ -57,10 +61,24 @@ def run(arguments):
 def draw(arguments, found):
     """The new objects of the file that the words name, over a session."""
     there = {drawing.place_of(known.mine): key for key, known in reversed(list(found.things.items())) if known.mine and key[0] == 'n'}
-    picture = drawing.Drawing(rules(arguments.tags), bounds(arguments, there), arguments.latitude_first, there if arguments.join else {})
-    for feature in read(arguments):
+    picture = drawing.Drawing(rules(arguments.tags), bounds(arguments, there), arguments.latitude_first, there if arguments.join else {},
+                              {} if arguments.again else drawing.shapes_of(found))
+    for feature in part(read(arguments), arguments.features):
         picture.add(feature)
     return picture
+
+
+def part(found, text):
+    """The features of a file that `N-M` names; all where it is None."""
+    if text is None:
+        return found
+    numbers = re.fullmatch('([1-9][0-9]*)-([1-9][0-9]*)', text)
+    first, last = map(int, numbers.groups()) if numbers else (1, 0)
+    if first > last:
+        raise Usage('--features wants two numbers, as 1-1000, and not {}'.format(text))
+    if first > len(found):
+        raise Refused('nothing is done: the file has {} features'.format(len(found)))
+    return found[first - 1:last]
 
 
 def read(arguments):
