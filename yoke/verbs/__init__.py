@@ -13,7 +13,7 @@ end there: `to-josm` is `to_josm.py`, `import` is `import_.py`.
 import importlib
 import keyword
 
-NAMES = ['start', 'do', 'status', 'diff', 'undo', 'send', 'refresh', 'conflicts', 'resolve', 'show', 'insert', 'add-member', 'lint', 'expand',
+NAMES = ['start', 'do', 'status', 'diff', 'undo', 'send', 'refresh', 'conflicts', 'resolve', 'tag', 'show', 'insert', 'add-member', 'turns', 'lint', 'expand',
          'josm', 'to-josm', 'osc', 'geojson', 'import']
 
 

@@ -32,28 +32,41 @@ def run(arguments):
     check(name, lines, session.day.folder)
     with session.day.locked():
         expanded = expand.expand(name, lines, table.next_new(session.day.last().text()))
-        answer = perform(session, name, expanded, arguments)
+        began = session.known()
+        answer = perform(session, 'do', name, expanded, arguments.keep, arguments.strict)
+        kept = arguments.keep or not answer.refused()
+        too = changed_too(began, session.known(), expanded.lines) if kept else []
+    show(name, answer, kept)
+    if too:
+        print('changed with it: {}'.format(','.join(too)))
+    return end(session, answer, arguments.keep, arguments.strict)
+
+
+def end(session, answer, keep, strict=False):
+    """The exit code of what was done; says what was kept. Refused where nothing is kept."""
     refused = answer.refused()
-    show(name, answer, kept=arguments.keep or not refused)
-    if refused and not arguments.keep:
+    if refused and not keep:
         raise Refused('nothing is kept: {} of {} steps {} refused'.format(len(refused), len(answer.replies) - 1, 'was' if len(refused) == 1 else 'were')
-                      if not arguments.strict else 'nothing is kept: it ended at line {}'.format(refused[0].line))
+                      if not strict else 'nothing is kept: it ended at line {}'.format(refused[0].line))
     print('kept as {}'.format(session.day.last().path))
     return 1 if refused else 0
 
 
-def perform(session, name, expanded, arguments):
-    """The Answer to the steps, with the numbers of the script's own lines; with --strict no further than the first refused one."""
+def perform(session, verb, name, expanded, keep, strict=False):
+    """The Answer to the steps, with the numbers of the script's own lines; with `strict` no further than the first refused one.
+
+    What was done is kept as the work of a verb: where nothing was refused, or with `keep`.
+    """
     try:
-        answer = session.edit('do', expanded.lines, allow_refused=True, keep_refused=arguments.keep and not arguments.strict)
+        answer = session.edit(verb, expanded.lines, allow_refused=True, keep_refused=keep and not strict)
     except BadLine as bad:
         number = expanded.numbers[bad.line - 1]
         raise BadLine('{}:{}: {}'.format(name, number, cause(expanded.lines, bad)), number) from None
     refused = answer.refused()
-    if refused and arguments.strict:
+    if refused and strict:
         answer.replies = [reply for reply in answer.replies if reply.line <= refused[0].line]
-        if arguments.keep:
-            session.edit('do', before(expanded.lines, refused[0].line))
+        if keep:
+            session.edit(verb, before(expanded.lines, refused[0].line))
     for reply in answer.replies:
         reply.line = expanded.numbers[reply.line - 1] if reply.line <= len(expanded.numbers) else reply.line
     return answer
@@ -113,6 +126,16 @@ def show(name, answer, kept):
         if reply.verb != 'save':
             for text in reply.text:
                 print(text)
+
+
+def changed_too(before, after, lines):
+    """The relations that lines changed without naming them, as the routes of a way that was split; by rank.
+
+    What a download brought is none of it: its base is another one.
+    """
+    named = {key for line in lines for key in re.split('[ \t,]+', line)}
+    return [key for key, known in after.items() if key[0] == 'r' and key in before and key not in named
+            and before[key].base == known.base and before[key].mine != known.mine]
 
 
 def given_up(answer):
