@@ -84,12 +84,12 @@ def degrees(number):
 
 
 def tags(pairs, text=quote):
-    """Tags as they stand behind a `T`, in the order of the mapping."""
+    """Tags as they stand after a `T`, in the order of the mapping."""
     return ','.join('{}={}'.format(text(key), text(value)) for key, value in pairs.items())
 
 
 def members(pairs, text=quote):
-    """Members, pairs of key and role, as they stand behind an `M`."""
+    """Members, pairs of key and role, as they stand after an `M`."""
     return ','.join('{}@{}'.format(key, text(role)) for key, role in pairs)
 
 

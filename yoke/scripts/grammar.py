@@ -74,13 +74,13 @@ def is_skipped(line: str) -> bool:
 def check_line(line: str) -> str:
     """The verb of a line that isn't skipped; Bad where it is none of a script's."""
     if line[0] in BLANKS or line[-1] in BLANKS:
-        bad('a blank stands {}', 'before the first word' if line[0] in BLANKS else 'behind the last word')
+        bad('a blank stands {}', 'before the first word' if line[0] in BLANKS else 'after the last word')
     verb, *words = words_of(line)
     if verb not in FORMS:
         bad('there is no line {}', verb)
     if verb in ALONE:
         if words:
-            bad('nothing stands behind {}, and here is {}', verb, words[0])
+            bad('nothing stands after {}, and here is {}', verb, words[0])
     else:
         READERS[verb](words)
     return verb
@@ -90,7 +90,7 @@ def check_line(line: str) -> str:
 
 @dataclass
 class Place:
-    """Where the next line of a script stands: behind none, in a group, in a meeting."""
+    """Where the next line of a script stands: after none, in a group, in a meeting."""
 
     is_first: bool = True
     in_group: bool = False
@@ -110,7 +110,7 @@ class Place:
             bad('there is no group to end')
 
     def go_on(self, verb: str):
-        """Goes behind a line with the verb."""
+        """Goes after a line with the verb."""
         self.in_meeting = self.in_meeting or (self.is_first and verb == 'serve')
         self.in_group = verb == 'begin' or (self.in_group and verb != 'end')
         self.is_first = False
@@ -179,7 +179,7 @@ def check_tags(text: str) -> Dict[str, str]:
 
 
 def letter(word: str, sign: str, what: str) -> str:
-    """What stands behind the letter of a word."""
+    """What stands after the letter of a word."""
     if not word.startswith(sign):
         bad('{} has no {} before it: {}', word, sign, what)
     return word[len(sign):]
@@ -207,7 +207,7 @@ def check_members_word(word: str) -> List[Tuple[str, str]]:
         key, at, role = member.partition('@')
         check_key(key)
         if not at:
-            bad('the member {} has no @ behind its key', member)
+            bad('the member {} has no @ after its key', member)
         found.append((key, check_text(role, 'the role')))
     return found
 
@@ -215,7 +215,7 @@ def check_members_word(word: str) -> List[Tuple[str, str]]:
 def check_coordinate(text: str) -> int:
     """Degrees, in units of 10^-7."""
     if not COORDINATE.fullmatch(text):
-        bad('{} is no number of degrees: 1 to 3 digits, and at most 7 behind a point', text or '(nothing)')
+        bad('{} is no number of degrees: 1 to 3 digits, and at most 7 after a point', text or '(nothing)')
     whole, _, part = text.lstrip('-').partition('.')
     units = int(whole) * 10 ** 7 + int(part.ljust(7, '0'))
     return -units if text[0] == '-' else units
@@ -255,7 +255,7 @@ def check_box(text: str):
 
 
 def check_part(words: List[str]):
-    """What may stand behind a `download FILE` and a `fetch M`: a box, and tags."""
+    """What may stand after a `download FILE` and a `fetch M`: a box, and tags."""
     if words and words[0].startswith('B'):
         check_box(words.pop(0)[1:])
     if words and words[0].startswith('F'):
@@ -343,7 +343,7 @@ def _take(waiting):
 
 
 def _follow(word, waiting):
-    """A word behind a factor; whether there is a factor then too."""
+    """A word after a factor; whether there is a factor then too."""
     if word in ('and', 'or'):
         if word == 'or' and waiting and waiting[-1] == 'or':
             waiting.pop()

@@ -31,7 +31,7 @@ def findings(lines: List[str]) -> List[Finding]:
 
 
 def _line(number: int, line: str, place: grammar.Place) -> List[Finding]:
-    """What is wrong with a line that stands there; the place goes behind it."""
+    """What is wrong with a line that stands there; the place goes after it."""
     right = None
     try:
         verb = grammar.check_line(line)

@@ -35,7 +35,7 @@ def _mine(table: Table, key: str) -> opl.Object:
 
 
 def _place(after: str, nodes: List[str], way: str) -> int:
-    """The place behind a node, or behind so many."""
+    """The place after a node, or after so many."""
     if after in nodes:
         return nodes.index(after) + 1
     if after.isdigit() and int(after) <= len(nodes):

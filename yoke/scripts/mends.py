@@ -10,7 +10,7 @@ from typing import List, Optional
 from yoke import opl
 from yoke.scripts import grammar
 
-# What each verb has behind it: keys, one key, coordinates, and the words that begin with a letter.
+# What comes after each verb: keys, one key, coordinates, and the words that begin with a letter.
 SLOTS = {
     'node': ['x', 'y', 'T'], 'way': ['T', 'N'], 'relation': ['T', 'M'], 'tag': ['KEYS', 'T'], 'move': ['KEYS', 'D', 'D'], 'place': ['KEY', 'x', 'y'],
     'nodes': ['KEY', 'N'], 'members': ['KEY', 'M'], 'delete': ['KEYS'], 'erase': ['KEYS'], 'purge': ['KEYS'], 'split': ['KEY', 'KEYS'],

@@ -16,9 +16,9 @@ from yoke.scripts import grammar
 
 NAME = re.compile('[A-Za-z_][A-Za-z0-9_-]*', re.ASCII)
 MAKES = {'node': 'n', 'way': 'w', 'relation': 'r'}
-WORDS = {'node': 3, 'way': 2, 'relation': 2}        # behind the verb, without a name
+WORDS = {'node': 3, 'way': 2, 'relation': 2}        # after the verb, without a name
 KEYS = {'tag': (0,), 'move': (0,), 'place': (0,), 'nodes': (0,), 'members': (0,), 'delete': (0,), 'erase': (0,), 'purge': (0,), 'split': (0, 1),
-        'combine': (0,), 'reverse': (0,), 'squeeze': (0,), 'fuse': (0,), 'resolve': (0,)}       # which words behind a verb are keys
+        'combine': (0,), 'reverse': (0,), 'squeeze': (0,), 'fuse': (0,), 'resolve': (0,)}       # which words after a verb are keys
 
 
 class BadName(Exception):
@@ -97,7 +97,7 @@ class _Expander:
         return (line, False) if words == before and not name else (' '.join(words), True)
 
     def _number(self, number: int, verb: str, words: List[str]):
-        """Counts the ids that a line takes; behind a `split` nobody knows the next one."""
+        """Counts the ids that a line takes; after a `split` nobody knows the next one."""
         if verb in MAKES and self.next_new is not None:
             self.next_new += 1
         elif verb == 'split':
@@ -114,7 +114,7 @@ class _Expander:
         if name in self.names:
             raise BadName(number, 'the name {} is given already'.format(name))
         if self.next_new is None:
-            raise BadName(number, 'how many objects a split makes isn\'t known before: put it behind the last line that gives a name')
+            raise BadName(number, 'how many objects a split makes isn\'t known before: put it after the last line that gives a name')
         self.names[name] = '{}-{}'.format(letter, self.next_new - 1)
 
     def _keys(self, number: int, word: str, letter: str = '') -> str:

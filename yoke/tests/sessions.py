@@ -39,7 +39,7 @@ def session(lines, **files):
 
 
 def goes_on(text, lines, **files):
-    """The Answer to lines in one group over a saved session, and to a save behind them."""
+    """The Answer to lines in one group over a saved session, and to a save after them."""
     return ran(['resume s.saved', 'begin'] + list(lines) + ['end', 'save'], s_saved=text, **files)
 
 

@@ -73,7 +73,7 @@ def written(text, state='1-0a1b'):
 
 
 def after(text, plan):
-    """The table behind the steps of a plan, of which each has to be taken."""
+    """The table after the steps of a plan, of which each has to be taken."""
     output = sessions.goes_on(text, plan.lines)
     if output.refused():
         raise AssertionError((output.refused(), plan.lines))

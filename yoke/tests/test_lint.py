@@ -235,12 +235,12 @@ class Mends(unittest.TestCase):
                 ('tag n1 Ta=%', 'the value % has a % that is no escape: it is written %25%'), ('tag n1 Ta=%0%', 'the value %0% has an escape of no character'),
                 ('tag n1 Ta=b=c', 'the tag a=b=c has two =: in a key or a value it is written %3d%'), ('tag q1 T', 'q1 is no key: n, w or r and an id, as n1 and w-2'),
                 ('tag n1,n0 T', 'n0 is no key: n, w or r and an id, as n1 and w-2'), ('way T Nw1', 'w1 is no node in Nw1'),
-                ('relation T Mn1', 'the member n1 has no @ behind its key'), ('upload 0', '0 is no number from 1 to 10000'),
+                ('relation T Mn1', 'the member n1 has no @ after its key'), ('upload 0', '0 is no number from 1 to 10000'),
                 ('find way and', 'the query ends where a word like way or Thighway=* is wanted'), ('find ( way', "a bracket isn't closed"),
                 ('find way )', 'there is no bracket to close'), ('find way node', 'before node an and, an or or a ) is wanted'),
                 ('find highway=path', 'highway=path is no word of a query where it stands'), ('download', 'FILE is missing'),
                 ('download a B1,2,3', 'B1,2,3 is no box: it has west, south, east and north'), ('resolve n1 ours', 'ours is no choice: mine, theirs, mix or parts'),
-                ('tag n1 Tname=\udcff', "the value ? has bytes that aren't UTF-8"), ('print x', 'nothing stands behind print, and here is x')]:
+                ('tag n1 Tname=\udcff', "the value ? has bytes that aren't UTF-8"), ('print x', 'nothing stands after print, and here is x')]:
             found, = lint.findings([line])
             self.assertEqual(found.cause, cause)
 

@@ -9,7 +9,7 @@ SUMMARY = 'put a node into a way, where it lies nearest, or at a place'
 def add_arguments(parser):
     parser.add_argument('node', metavar='NODE')
     parser.add_argument('way', metavar='WAY')
-    parser.add_argument('--after', metavar='N', help='a node of the way, or the number of a place: 1 is behind the first node, 0 the front')
+    parser.add_argument('--after', metavar='N', help='a node of the way, or the number of a place: 1 is after the first node, 0 the front')
 
 
 def run(arguments):

@@ -47,7 +47,7 @@ def run(arguments):
 
 
 def words(how, rest):
-    """The words of a `resolve` line behind the key; Usage where they are none."""
+    """The words of a `resolve` line after the key; Usage where they are none."""
     if how in SIDES and not rest:
         return how
     if how == 'mix' and len(rest) == 2 and all(side in SIDES for side in rest):

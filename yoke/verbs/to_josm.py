@@ -10,7 +10,7 @@ from yoke.trouble import Refused
 SUMMARY = 'write the session as a file for JOSM, with what is edited marked as edited'
 DETAILS = """Open FILE in JOSM, edit, save it, and bring it back by `yoke josm FILE`. JOSM doesn't upload it: the session does, by
 `yoke send`. In the meantime the session may go on."""
-KEPT = 3        # sessions that were written for JOSM, kept so that its edits can be told from those here
+KEPT = 3        # sessions that were written for JOSM, kept so that its edits can be told apart from those here
 
 
 def add_arguments(parser):
