@@ -374,6 +374,56 @@ class KitsThatKeepNothing(unittest.TestCase):
             self.assertEqual(result, kit.must_fail('low', 'x.edit')[0], said)
 
 
+class StandInKept:
+    """What a kit as `rattle-kit-13f` keeps beside itself: the libraries of these names."""
+
+    names, told = (), []
+
+    def __init__(self, crates):
+        self.crates = crates
+
+    def key(self, crate):
+        return 'key of ' + crate.name
+
+    def give(self, crate, tests, key):
+        StandInKept.told.append((crate.name, key))
+        return crate.name in StandInKept.names
+
+    def is_built(self, crate):
+        StandInKept.told.append((crate.name, 'is built'))
+
+
+class AKitThatKeeps(unittest.TestCase):
+    """Libraries of a kit as `rattle-kit-13f`."""
+
+    def kit(self):
+        """The kit over the chain of crates, in a folder that is removed."""
+        holder = tempfile.TemporaryDirectory(prefix='kits-')
+        self.addCleanup(holder.cleanup)
+        self.addCleanup(os.chdir, os.getcwd())
+        StandInCrate.built, StandInKept.told = [], []
+        rt = stand_in(Kept=StandInKept, copy_crates=lambda top, root: os.mkdir(root), stamp_of=lambda crate, stamps: 'sum of ' + crate.name,
+                      REFUSED='refused', AT_LIMIT='at its limit', BAD='bad', MISSED='missed')
+        rt.crates_of = lambda root, of_all=rt.crates_of: of_all(root, None)
+        return rt, kits.kit_of(rt, '/top', holder.name + '/repo', holder.name)
+
+    def test_what_is_kept_is_given_and_the_rest_built(self):
+        StandInKept.names = ('low',)
+        _, kit = self.kit()
+        with contextlib.redirect_stdout(io.StringIO()) as said:
+            kit.lay(['high'], 1)
+        self.assertEqual(['middle'], StandInCrate.built)
+        self.assertEqual([('low', 'key of low'), ('low', 'is built'), ('middle', 'key of middle'), ('middle', 'is built')], StandInKept.told)
+        self.assertIn('middle: rt ci kept no proof of it', said.getvalue())
+        self.assertEqual('sum of low', kit.stamp('low'))
+
+    def test_what_rt_says_of_an_edit_that_is_tried_alone(self):
+        rt, kit = self.kit()
+        for kind, result in [('refused', kits.REFUSED), ('at its limit', kits.REFUSED), ('bad', kits.BAD), ('missed', kits.MISSED), ('?', kits.UNSURE)]:
+            rt.must_fail = lambda crate, edit, flags: (kind, 'must-fail low/x.edit: said')
+            self.assertEqual((result, 'must-fail low/x.edit: said'), kit.must_fail('low', 'x.edit'))
+
+
 class WhichKit(unittest.TestCase):
     def test_one_that_lacks_a_name_is_refused(self):
         rt = stand_in()
