@@ -21,7 +21,7 @@ from yoke.testing.server import TOKEN, StrictServer
 
 SECONDS = 3600      # the longest that one command may take
 TAKEN = 7           # commands by hand for a document: make it, send it, read the status, make the answers, two lines into the script, run it, look
-UNANSWERED = 3      # make it, send it, read the status; then it is done again, or refused
+NOT_TAKEN = 3       # make it, send it, read the status; then it is done again, or refused
 LOOKED_UP = 1       # ask for what the changeset has, where no answer came
 CHANGESET = 2       # open it, close it
 NEWER = 4           # fetch what is newer, make OPL of it, a line into the script and run it, look for conflicts
@@ -126,5 +126,5 @@ class WorkDay:
         answers, faults = self.server.answers, [met.split(' ')[0] for met in self.server.faults.met if met.endswith(' upload')]
         refused = sum(count for name, count in answers.items() if name.startswith('upload 4'))
         unsent = sum(fault.endswith('-before') for fault in faults)
-        return (TAKEN * answers['upload 200'] + UNANSWERED * (refused + unsent) + LOOKED_UP * len(faults)
+        return (TAKEN * answers['upload 200'] + NOT_TAKEN * (refused + unsent) + LOOKED_UP * len(faults)
                 + CHANGESET * answers['create 200'] + NEWER * self.refreshes + CONFLICT * self.resolved)
