@@ -14,11 +14,11 @@ use Rattle.merge_cases.specs.declared.pick.Pick.TheVariants as pick
 use Rattle.merge_cases.specs.Case.{is_withdrawal}
 use Rattle.merge_cases.specs.Join.{both_of, picked, picked_by}
 use Rattle.merge_cases.proofs.JoinedOf.{TakesOver, takes}
-use Rattle.resolution.specs.declared.choice.Side.{Side}
-use Rattle.resolution.specs.declared.choice.Side.TheVariants as side
-use Rattle.resolution.specs.declared.choice.Choice.{Choice}
-use Rattle.resolution.specs.declared.choice.Choice.TheVariants as choice
-use Rattle.resolution.specs.Resolve.{chosen, mix_of, of_side, parts_of, settled_body, settled_tag}
+use Rattle.merge_cases.specs.declared.choice.Side.{Side}
+use Rattle.merge_cases.specs.declared.choice.Side.TheVariants as side
+use Rattle.merge_cases.specs.declared.choice.Choice.{Choice}
+use Rattle.merge_cases.specs.declared.choice.Choice.TheVariants as choice
+use Rattle.merge_cases.specs.Resolve.{chosen, mix_of, of_side, parts_of, settled_body, settled_tag}
 use Rattle.tool_api.specs.Staged.{refers_by}
 
 -- the content has the key's kind, and each of its references is one of mine or of theirs

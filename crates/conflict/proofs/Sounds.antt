@@ -23,8 +23,8 @@ use Rattle.osm_table.proofs.SameLaws.{same_mine_decides}
 use Rattle.dataset.specs.Sound.{IsSound, IsSoundEntry, IsNumber, WhyFits, IsLive}
 use Rattle.dataset.proofs.Changes.{incomplete_entry}
 use Rattle.dataset.proofs.Ids.{told_id, base_fits}
-use Rattle.resolution.specs.declared.choice.Choice.{Choice}
-use Rattle.resolution.specs.Resolve.{resolved}
+use Rattle.merge_cases.specs.declared.choice.Choice.{Choice}
+use Rattle.merge_cases.specs.Resolve.{resolved}
 use Rattle.tool_api.specs.declared.refusal.Refusal.TheVariants.{InUse, Unfit}
 use Rattle.tool_api.specs.Checks.{is_named}
 use Rattle.tool_api.specs.Closing.{makes_unfit}

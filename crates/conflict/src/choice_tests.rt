@@ -1,13 +1,12 @@
 //! Whether an object can be settled so.
 ghost use Rattle.std.specs.Prelude.{◌≡◌, Some, IfOk};
 ghost use Rattle.std.specs.Option.{option_copied};
-ghost use Rattle.resolution.specs.Resolve.{can_choose, can_mix, unclashing};
+ghost use Rattle.merge_cases.specs.Resolve.{can_choose, can_mix, unclashing};
 ghost use Rattle.tool_api.specs.Resolve.{choice_test, clashing_test};
 
-use merge_cases::{Pick, tag_pick};
+use merge_cases::{Choice, Pick, TagKey, TagKeys, tag_pick};
 use osm_base::{Content, Key};
 use osm_table::{Base, Conflict, EntryParts, SharedEntry, Why};
-use resolution::{Choice, TagKey, TagKeys};
 use std::alloc::AllocError;
 use tool_api::Refusal;
 

@@ -1,15 +1,15 @@
 //! What becomes of an object in conflict by a choice.
 ghost use Rattle.std.specs.Prelude.{◌≡◌, IfOk};
 ghost use Rattle.std.specs.Option.{option_copied};
-ghost use Rattle.resolution.specs.Keys.{is_listed};
-ghost use Rattle.resolution.specs.Resolve.{of_side, mixed, settled, side_of_key, settled_tag, in_parts, mix_of, parts_of, chosen, resolved};
+ghost use Rattle.merge_cases.specs.Keys.{is_listed};
+ghost use Rattle.merge_cases.specs.Resolve.{of_side, mixed, settled, side_of_key, settled_tag, in_parts, mix_of, parts_of, chosen, resolved};
 
 use merge_cases::{
-    Pick, TagRule, body_pick, is_withdrawal, picked, picked_by, tag_pick, with_body,
+    Choice, Pick, Side, TagKeys, TagRule, body_pick, is_withdrawal, picked, picked_by, tag_pick,
+    with_body,
 };
 use osm_base::Content;
 use osm_table::{Base, Conflict, Entry, EntryParts, SharedEntry};
-use resolution::{Choice, Side, TagKeys};
 use std::alloc::{AllocError, Global};
 
 fn of_side<'a>(side: Side, mine: &'a Content, theirs: &'a Content) -> &'a Content
@@ -64,7 +64,7 @@ struct ByKey<'a> {
 }
 
 impl<'a> TagRule for ByKey<'a> {
-    ghost use Rattle.resolution.specs.Resolve.{settled_tag};
+    ghost use Rattle.merge_cases.specs.Resolve.{settled_tag};
 
     ghost whose = { λ rule. settled_tag rule.listed.now rule.base.now rule.mine.now rule.theirs.now };
 

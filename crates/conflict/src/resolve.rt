@@ -8,8 +8,8 @@ use crate::choice_tests::choice_test;
 use crate::choosing::resolved;
 use crate::settling::settle_plan;
 use dataset::DataSet;
+use merge_cases::Choice;
 use osm_base::Key;
-use resolution::Choice;
 use std::alloc::AllocError;
 use tool_api::{Command, Job, Plan, Refusal, Undoable, Verb};
 

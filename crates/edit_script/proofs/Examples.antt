@@ -14,8 +14,8 @@ use Rattle.map_search.specs.Words.{tag_word, state_word, kind_word, joining_word
 use Rattle.opl_text.specs.Text.{unescaped}
 use Rattle.opl_line.specs.Field.{tags_text, tag_into, refs_text, ref_into, ref_text, members_text}
 use Rattle.opl_file.specs.declared.fault.FileFault.TheVariants.{Twice}
-use Rattle.resolution.specs.declared.choice.Choice.TheVariants as choice
-use Rattle.resolution.specs.declared.choice.Side.TheVariants as side
+use Rattle.merge_cases.specs.declared.choice.Choice.TheVariants as choice
+use Rattle.merge_cases.specs.declared.choice.Side.TheVariants as side
 use Rattle.tool_api.specs.declared.job.Job.TheVariants as job
 use Rattle.tool_api.specs.declared.refusal.Refusal.TheVariants.{InUse, NoFinding, NotSamePlace}
 use Rattle.edit_script.specs.declared.line.ScriptLine.TheVariants.{Skipped, Asks}

@@ -10,7 +10,7 @@ use Rattle.opl_text.specs.Time.{◌>>=◌}
 use Rattle.opl_line.specs.Cut.{split, before, after}
 use Rattle.opl_line.specs.Field.{is}
 use Rattle.opl_line.proofs.Fronts.{pieces_behind, split_front}
-use Rattle.resolution.specs.Keys.{is_listed, are_tag_keys}
+use Rattle.merge_cases.specs.Keys.{is_listed, are_tag_keys}
 use Rattle.tool_api.proofs.Bools.{left_alone}
 use Rattle.edit_script.specs.Items.{all_of, tag_keys_of}
 use Rattle.edit_script.proofs.Lists.{onto_items, onto_items-more}

@@ -10,8 +10,8 @@ use Rattle.osm_base.specs.Number.{key_text}
 use Rattle.map_search.specs.Reading.{query_of_words}
 use Rattle.opl_text.specs.Text.{unescaped}
 use Rattle.opl_text.specs.Time.{◌>>=◌}
-use Rattle.resolution.specs.declared.choice.Choice.{Choice}
-use Rattle.resolution.specs.declared.choice.Choice.TheVariants as choice
+use Rattle.merge_cases.specs.declared.choice.Choice.{Choice}
+use Rattle.merge_cases.specs.declared.choice.Choice.TheVariants as choice
 use Rattle.tool_api.specs.declared.job.Job.TheVariants as job
 use Rattle.edit_script.specs.declared.step.Act.{Act}
 use Rattle.edit_script.specs.declared.step.Act.TheVariants as act

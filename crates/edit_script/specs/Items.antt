@@ -21,9 +21,9 @@ use Rattle.opl_line.specs.Field.{is, tags_text, refs_text, members_text}
 use Rattle.opl_line.specs.Spelling.{ok_of}
 -- a line is cut into its words as a query is
 pub use Rattle.map_search.specs.Words.{has_byte, words_of}
-use Rattle.resolution.specs.Keys.{are_tag_keys}
-use Rattle.resolution.specs.declared.choice.Side.{Side}
-use Rattle.resolution.specs.declared.choice.Side.TheVariants as side
+use Rattle.merge_cases.specs.Keys.{are_tag_keys}
+use Rattle.merge_cases.specs.declared.choice.Side.{Side}
+use Rattle.merge_cases.specs.declared.choice.Side.TheVariants as side
 
 -- a thing, where no word is left
 abbrev pub alone : {A : Type 0} → A → List (List ℕ) → Option A

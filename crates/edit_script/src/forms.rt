@@ -14,8 +14,8 @@ use crate::items::{
 use crate::meeting::meeting_form;
 use crate::numbers::{count_word, size_word, streets_word};
 use crate::step::Act;
+use merge_cases::Choice;
 use opl_text::{Pool, read_escaped};
-use resolution::Choice;
 use tool_api::Job;
 
 /// What the words of a line ask for.

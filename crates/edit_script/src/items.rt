@@ -8,16 +8,16 @@ ghost use Rattle.opl_line.specs.Field.{is};
 ghost use Rattle.opl_line.specs.Line.{is_blank};
 ghost use Rattle.osm_base.specs.Number.{key_text};
 ghost use Rattle.osm_base.specs.Coord.{coord_text};
-ghost use Rattle.resolution.specs.Keys.{is_listed};
+ghost use Rattle.merge_cases.specs.Keys.{is_listed};
 ghost use Rattle.edit_script.specs.Answers.{Gives, IsRefused};
 ghost use Rattle.edit_script.specs.Items.{alone, one_word, two_words, three_words, file_word, four_texts, optional, has_location, keys_word, tags_word, refs_word, members_word, place_texts, place_words, box_between, area_text, wanted_text, side_word, texts_of, tag_keys_of, tag_keys_word};
 
 use crate::fault::Unread;
 use map_search::{Query, read_query};
+use merge_cases::{Side, TagKeys};
 use opl_line::{cut, is_blank, read_members, read_refs, read_tags};
 use opl_text::{Pool, read_escaped};
 use osm_base::{Area, Coord, Key, Keys, Members, Refs, Tags, Text, coord_of, read_coord, read_key};
-use resolution::{Side, TagKeys};
 
 /// The first word of the bytes, and what stands behind it.
 pub fn next_word(bytes: &[u8]) -> Option<(&[u8], &[u8])>

@@ -5,7 +5,7 @@
 //! undone inside one, each job well formed, and no line of a meeting in a script that is none
 //! (`specs/Place`). `write_reply` appends the one text of a reply (`specs/Reply`). It stands on
 //! `opl_line` for tags, references and members, on `opl_file` for the cut into lines, on
-//! `map_search` for queries and for the cut of a line into words, on `resolution` for the ways out
+//! `map_search` for queries and for the cut of a line into words, on `merge_cases` for the ways out
 //! of a conflict, and on `tool_api` for jobs and their refusals.
 //!
 //! The first word of a line finds its form. A new line wants a definition in `specs/Forms` and a

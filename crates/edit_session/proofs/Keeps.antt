@@ -28,9 +28,9 @@ use Rattle.edit_session.specs.Runs.{AreSound}
 use Rattle.edit_session.specs.Said.{is_running, file_says, act_says, IsKept, AreKept, alone}
 use Rattle.edit_session.specs.Session.{met, run, states_before}
 use Rattle.edit_session.specs.Turn.{Turn, file_turn, act_turn, skipped_turn}
-use Rattle.kept_edits.specs.Kept.{is_edited, Keeps}
-use Rattle.kept_edits.proofs.Merges.{same_kept}
-use Rattle.kept_edits.proofs.Runs.{job_step_keeps}
+use Rattle.editor_laws.specs.Kept.{is_edited, Keeps}
+use Rattle.editor_laws.proofs.KeptMerges.{same_kept}
+use Rattle.editor_laws.proofs.KeptRuns.{job_step_keeps}
 
 module _ (s : State) (sound : IsSound s.now) (k : Key) (e : Entry) (is : entry_of s.now k ≡ Some e) (edits : is_edited e ≡ true) where
   still : Keeps e (entry_of s.now k)

@@ -16,9 +16,9 @@ use Rattle.edit_script.specs.declared.step.Step.{Step}
 use Rattle.edit_script.specs.declared.reply.StepReply.TheVariants.{Done}
 use Rattle.edit_script.specs.Place.{is_meeting}
 use Rattle.edit_script.specs.Script.{steps_of}
-use Rattle.readable_tables.specs.Texts.{IsTextTable}
-use Rattle.readable_tables.proofs.Readable.{readable}
-use Rattle.readable_tables.proofs.Scripts.{IfSteps, StepsBringTexts, script_brings}
+use Rattle.editor_laws.specs.Texts.{IsTextTable}
+use Rattle.editor_laws.proofs.TextReadable.{readable}
+use Rattle.editor_laws.proofs.TextScripts.{IfSteps, StepsBringTexts, script_brings}
 use Rattle.edit_session.specs.declared.files.Fetched.{Fetched}
 use Rattle.edit_session.specs.declared.files.Fetched.TheVariants.{Missing, TooLong, Whole}
 use Rattle.edit_session.specs.declared.limits.Limits.{Limits}
@@ -33,7 +33,7 @@ use Rattle.edit_session.specs.Session.{met, run, states_before, steps_in, steps_
 use Rattle.edit_session.specs.Meet.{first_seat, own_machine}
 use Rattle.edit_session.specs.Settled.{of_saved, resumed}
 use Rattle.edit_session.specs.Turn.{Turn, done_turn, looked, resume_turn, settled_turn, skipped_turn, step_turn, still_turn, turn, turn_text}
-use Rattle.readable_meetings.proofs.Meetings as meetings
+use Rattle.many_editors.proofs.MeetingTexts as meetings
 use Rattle.edit_session.proofs.SeatTexts.{seats_texts}
 use Rattle.edit_session.proofs.Texts.{AreTextTables, first_texts, run_texts}
 

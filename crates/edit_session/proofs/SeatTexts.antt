@@ -15,11 +15,11 @@ use Rattle.edit_history.specs.Machine.{State}
 use Rattle.many_editors.specs.Meeting.{Editor, answered, first_editor, lost, states}
 use Rattle.many_editors.specs.Serving.{objects_served}
 use Rattle.many_editors.specs.States.{world_of}
-use Rattle.readable_tables.specs.Texts.{IsTextTable}
-use Rattle.readable_tables.proofs.Files.{IsTextObject}
-use Rattle.readable_tables.proofs.Scripts.{ActBringsTexts, StepsBringTexts}
-use Rattle.readable_meetings.specs.Meetings.{IsTextEditor, IsTextMeeting}
-use Rattle.readable_meetings.proofs.Meetings.{answered_texts, at_texts, fetch_texts, send_texts, served_texts}
+use Rattle.editor_laws.specs.Texts.{IsTextTable}
+use Rattle.editor_laws.proofs.TextFiles.{IsTextObject}
+use Rattle.editor_laws.proofs.TextScripts.{ActBringsTexts, StepsBringTexts}
+use Rattle.many_editors.specs.Texts.{IsTextEditor, IsTextMeeting}
+use Rattle.many_editors.proofs.MeetingTexts.{answered_texts, at_texts, fetch_texts, send_texts, served_texts}
 use Rattle.edit_session.specs.declared.limits.Limits.{Limits}
 use Rattle.edit_session.specs.declared.loading.Found.{Found}
 use Rattle.edit_session.specs.declared.loading.Found.TheVariants as found

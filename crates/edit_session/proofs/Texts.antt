@@ -30,16 +30,16 @@ use Rattle.edit_script.specs.declared.step.Act.TheVariants as act
 use Rattle.edit_script.specs.declared.step.Step.{Step}
 use Rattle.edit_script.specs.declared.reply.StepRefusal.{StepRefusal}
 use Rattle.edit_history.specs.declared.edit_step.EditStep.TheVariants.{Begin, End, Redo, Undo}
-use Rattle.seen_bases.specs.Editing.{EachTable}
-use Rattle.seen_bases.proofs.Steps.{ran_tables, refused_tables}
-use Rattle.readable_tables.specs.Texts.{BringsTexts, IsTextTable}
-use Rattle.readable_tables.proofs.City.{city_texts}
-use Rattle.readable_tables.proofs.Confirming.{LeadsToTexts, confirm_texts, diff_texts}
-use Rattle.readable_tables.proofs.Files.{IsTextObject, filtered_texts, new_texts, read_texts}
-use Rattle.readable_tables.proofs.Jobs.{job_keeps}
-use Rattle.readable_tables.proofs.Resuming.{HasTable, saved_texts}
-use Rattle.readable_tables.proofs.Scripts.{ActBringsTexts, StepsBringTexts}
-use Rattle.readable_tables.proofs.Steps.{steps_keep}
+use Rattle.editor_laws.specs.Editing.{EachTable}
+use Rattle.editor_laws.proofs.SeenSteps.{ran_tables, refused_tables}
+use Rattle.editor_laws.specs.Texts.{BringsTexts, IsTextTable}
+use Rattle.editor_laws.proofs.TextCity.{city_texts}
+use Rattle.editor_laws.proofs.TextConfirming.{LeadsToTexts, confirm_texts, diff_texts}
+use Rattle.editor_laws.proofs.TextFiles.{IsTextObject, filtered_texts, read_texts}
+use Rattle.editor_laws.proofs.TextJobs.{job_keeps}
+use Rattle.editor_laws.proofs.TextResuming.{HasTable, saved_texts}
+use Rattle.editor_laws.proofs.TextScripts.{ActBringsTexts, StepsBringTexts}
+use Rattle.editor_laws.proofs.TextSteps.{steps_keep}
 use Rattle.edit_session.specs.declared.files.Fetched.{Fetched}
 use Rattle.edit_session.specs.declared.files.Fetched.TheVariants.{Missing, TooLong, Whole}
 use Rattle.edit_session.specs.declared.limits.Limits.{Limits}
@@ -51,6 +51,7 @@ use Rattle.edit_session.specs.Fetch.{reading}
 use Rattle.edit_session.specs.Given.{Given, first_given}
 use Rattle.edit_session.specs.Session.{run, states_before}
 use Rattle.edit_session.specs.Settled.{confirmed, of_answers, of_saved, resumed}
+use Rattle.edit_session.proofs.NewTexts.{new_texts}
 use Rattle.edit_session.specs.Turn.{Turn, act_turn, confirm_turn, file_turn, job_turn, resume_turn, settled_turn, skipped_turn, step_turn, turn}
 
 -- What a step finds.

@@ -18,8 +18,8 @@ use Rattle.edit_script.specs.Place.{is_meeting}
 use Rattle.edit_history.specs.declared.counts.Group.{Group}
 use Rattle.edit_history.specs.declared.counts.Group.TheVariants.{Running}
 use Rattle.edit_history.specs.Machine.{State, first_state}
-use Rattle.kept_edits.specs.Kept.{is_edited, Keeps}
-use Rattle.kept_edits.specs.Steps.{job_says}
+use Rattle.editor_laws.specs.Kept.{is_edited, Keeps}
+use Rattle.editor_laws.specs.Steps.{job_says}
 use Rattle.edit_session.specs.declared.limits.Limits.{Limits}
 use Rattle.edit_session.specs.declared.loading.Found.{Found}
 use Rattle.edit_session.specs.declared.loading.Found.TheVariants as found

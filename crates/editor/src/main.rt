@@ -10,8 +10,7 @@ ghost use Rattle.command_line.specs.Words.{command_of};
 ghost use Rattle.tool_api.specs.declared.verb.Verb.{Verb};
 ghost use Rattle.edit_session.specs.StatusText.{number_of};
 
-use all_tools::run_editor;
-use edit_session::Status;
+use edit_session::{Status, run_editor};
 use osm_outside::{HostShelf, HostSink};
 use std::alloc::AllocError;
 use std::env;

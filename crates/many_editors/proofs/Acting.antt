@@ -23,11 +23,11 @@ use Rattle.upload_order.specs.World.{content_in}
 use Rattle.upload_order.proofs.Basics.{none_some}
 use Rattle.placeholder.specs.declared.answer.Answer.{Answer}
 use Rattle.server_world.specs.Codes.{Objects}
-use Rattle.seen_bases.specs.Bases.{Mentions}
-use Rattle.seen_bases.specs.Bases.Mentions.{has_key}
-use Rattle.seen_bases.specs.Editing.{EachTable}
-use Rattle.seen_bases.proofs.Lists.{all_more}
-use Rattle.seen_bases.proofs.Steps.{job_tables, kept_tables, refused_tables}
+use Rattle.editor_laws.specs.Bases.{Mentions}
+use Rattle.editor_laws.specs.Bases.Mentions.{has_key}
+use Rattle.editor_laws.specs.Editing.{EachTable}
+use Rattle.editor_laws.proofs.SeenLists.{all_more}
+use Rattle.editor_laws.proofs.SeenSteps.{job_tables, kept_tables, refused_tables}
 use Rattle.many_editors.specs.declared.act.MeetAct.{MeetAct}
 use Rattle.many_editors.specs.declared.act.MeetAct.TheVariants as act
 use Rattle.many_editors.specs.States.{IsFromStates, IsServer}

@@ -1,7 +1,10 @@
-//! What joined tags are, said with no walk over them.
+//! What is joined of three contents, said with no walk over their tags, and what a choice by parts adds to it.
 ghost use Rattle.std.specs.Prelude.{◌≡◌, T, ℕ, List, Some, None};
 ghost use Rattle.osm_base.specs.Tags.{Pair, are_tags, value_of};
-ghost use Rattle.merge_cases.specs.Join.{joined_tags, tag_value};
+ghost use Rattle.osm_base.specs.declared.content.Content.{Content};
+ghost use Rattle.merge_cases.specs.declared.choice.Side.{Side};
+ghost use Rattle.merge_cases.specs.Join.{joined, joined_tags, tag_value};
+ghost use Rattle.merge_cases.specs.Resolve.{in_parts};
 
 /// Law: of each key the tags that come of three have the value that `pick3` gives of its three values,
 /// where no such tag is a value too, and no tags come only where it gives none of some key.
@@ -9,4 +12,11 @@ pub fn each_tag_is_picked()
     ensures value { (b m t tags : List Pair) → T (are_tags m) → T (are_tags t) → joined_tags b m t ≡ Some tags
         → (key : List ℕ) → tag_value b m t key ≡ Some (value_of tags key) }
     ensures clash { (b m t : List Pair) → joined_tags b m t ≡ None → (key : List ℕ) × (tag_value b m t key ≡ None) }
+{}
+
+/// Law: where nothing clashes, the content that comes in parts is the one that a merge would join,
+/// whatever keys are listed and whichever side is named.
+pub fn parts_settle_clashes_alone()
+    ensures { (body : Side) (listed : List (List ℕ)) (base mine theirs content : Content) → joined base mine theirs ≡ Some content
+        → in_parts body listed base mine theirs ≡ Some content }
 {}

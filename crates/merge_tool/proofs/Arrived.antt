@@ -34,9 +34,9 @@ use Rattle.tool_api.specs.Planned.{IsReady}
 use Rattle.tool_api.specs.Staged.{staged, stage_of, verdict_at, is_candidate, is_clash, lost_of, refers_by, back, bared}
 use Rattle.tool_api.specs.Merged.{both_keys, reached_keys, wanted, held, named, final, merged, merge, clash_of, clash_test}
 use Rattle.tool_api.proofs.Looks.{next_changed}
-use Rattle.merge_tool.proofs.Outcome.{merged_at}
-use Rattle.merge_tool.proofs.Rows.{theirs_by, verdict_by}
-use Rattle.merge_tool.proofs.Stand.{bared_kept, bared_none, namer, settled, wanted_lost}
+use Rattle.job_laws.proofs.MergeOutcome.{merged_at}
+use Rattle.job_laws.proofs.MergeRows.{theirs_by, verdict_by}
+use Rattle.job_laws.proofs.MergeStand.{bared_kept, bared_none, namer, settled, wanted_lost}
 use Rattle.osm_base.proofs.Lists.{all_at, find_none}
 use Rattle.merge_tool.proofs.Plans.{drafted_is, drafted_sound, no_room, taken_in}
 

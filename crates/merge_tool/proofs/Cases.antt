@@ -28,10 +28,10 @@ use Rattle.merge_cases.specs.declared.verdict.Verdict.TheVariants.{Stay, Mention
 use Rattle.merge_cases.specs.Case.{verdict_of}
 use Rattle.tool_api.specs.Staged.{stage_of, verdict_at, theirs_at, theirs_told, staged, is_candidate, refers_by, against, bared}
 use Rattle.merge_tool.specs.Passes.{Gives, IsPassed, noted, new_bared, early, has_untold_user, is_going, left}
-use Rattle.merge_tool.proofs.Rows.{theirs_by, verdict_by}
-use Rattle.merge_tool.proofs.Fitting.{there}
+use Rattle.job_laws.proofs.MergeRows.{theirs_by, verdict_by}
+use Rattle.job_laws.proofs.MergeFitting.{there}
 use Rattle.merge_tool.proofs.Appends.{has_more}
-use Rattle.merge_tool.proofs.Stand.{bared_none, bared_kept}
+use Rattle.job_laws.proofs.MergeStand.{bared_none, bared_kept}
 use Rattle.merge_tool.proofs.News.{going_told}
 
 -- the case of what is told

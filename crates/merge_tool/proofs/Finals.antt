@@ -15,7 +15,7 @@ use Rattle.closure.specs.Closure.{has}
 use Rattle.tool_api.specs.Staged.{stage_of, theirs_at, lost_of, against, back, bared}
 use Rattle.tool_api.specs.Merged.{both_keys, named_by_firm, named_by_wanted, named_by_held, wanted, held, named, final}
 use Rattle.merge_tool.specs.Passes.{early, firm_refs, is_going, has_untold_user, left}
-use Rattle.merge_tool.proofs.Stand.{wanted_lost}
+use Rattle.job_laws.proofs.MergeStand.{wanted_lost}
 use Rattle.merge_tool.proofs.Bareds.{bared_twice, bared_lost}
 use Rattle.merge_tool.proofs.Untolds.{same_bool, named_by_told, names_are, told_firm, untold_firm, firm_parts}
 use Rattle.merge_tool.proofs.WantedEnds.{lost_same}

@@ -19,9 +19,9 @@ use Rattle.tool_api.specs.Staged.{stage_of, theirs_at, verdict_at, refers_by}
 use Rattle.tool_api.specs.Merged.{both_keys, candidate_content, named_by_firm, named_by_wanted, named_by_held, held, held_start, held_leads}
 use Rattle.merge_tool.specs.Walks.{mine_refs, going_links}
 use Rattle.merge_tool.specs.Passes.{has_untold_user, held_starts, is_going}
-use Rattle.merge_tool.proofs.Rows.{candidate_stays}
-use Rattle.merge_tool.proofs.Stand.{mine_is}
-use Rattle.merge_tool.proofs.Fitting.{fits}
+use Rattle.job_laws.proofs.MergeRows.{candidate_stays}
+use Rattle.job_laws.proofs.MergeStand.{mine_is}
+use Rattle.job_laws.proofs.MergeFitting.{fits}
 use Rattle.merge_tool.proofs.Untolds.{at_from, flat_is, same_bool, calm, named_by_told, told_firm, untold_firm, firm_parts}
 
 module _ (t : TableValue) (m : ToldValue) (sound : IsSound t) (each : (k : Key) → list_any (is_key k) m.order ≡ is_some (told_at m k)) where

@@ -1,12 +1,3 @@
-pub mod Stand
-pub mod Rows
-pub mod Fitting
-pub mod Outcome
-pub mod Places
-pub mod Sounds
-pub mod Untold
-pub mod Conflicts
-pub mod Edits
 pub mod News
 pub mod Appends
 pub mod Bareds

@@ -13,7 +13,7 @@ use Rattle.merge_cases.specs.declared.verdict.Verdict.{Verdict}
 use Rattle.merge_cases.specs.declared.verdict.Verdict.TheVariants.{Stay, Mention, Take, Candidate}
 use Rattle.merge_cases.specs.Case.{verdict_of}
 use Rattle.tool_api.specs.Staged.{theirs_told}
-use Rattle.merge_tool.proofs.Rows.{SaysTold, Says, says}
+use Rattle.job_laws.proofs.MergeRows.{SaysTold, Says, says}
 
 pub theirs_known : (b : Base) (mine : Option Content) (f : Option Conflict) → theirs_told (told_of (Known b mine f)) ≡ b
 theirs_known base.New mine f = refl

@@ -14,8 +14,8 @@ use Rattle.tool_api.specs.Closing.{room_test}
 use Rattle.tool_api.specs.Staged.{stage_of}
 use Rattle.tool_api.specs.Merged.{both_keys, reached_keys, final, merged, merge, clash_test}
 use Rattle.tool_api.proofs.Looks.{next_changed}
-use Rattle.merge_tool.proofs.Outcome.{merged_at}
-use Rattle.merge_tool.proofs.Sounds.{merged_sound}
+use Rattle.job_laws.proofs.MergeOutcome.{merged_at}
+use Rattle.job_laws.proofs.MergeSounds.{merged_sound}
 
 -- a draft that has what is said of each key makes the merged table
 pub drafted_is : (t : TableValue) (m : ToldValue) (d : DraftValue) → ((k : Key) → entry_of (drafted d t) k ≡ final (stage_of t m.told) (both_keys t m.told) k) → d.next ≡ t.next → drafted d t ≡ merged t m.told

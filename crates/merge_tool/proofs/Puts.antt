@@ -15,7 +15,7 @@ use Rattle.tool_api.specs.Staged.{lost_of, bared, back}
 use Rattle.merge_tool.specs.Walks.{is_lost}
 use Rattle.merge_tool.specs.Passes.{noted, is_there}
 use Rattle.merge_tool.proofs.Appends.{has_taken}
-use Rattle.merge_tool.proofs.Stand.{bared_none}
+use Rattle.job_laws.proofs.MergeStand.{bared_none}
 use Rattle.merge_tool.proofs.Bareds.{bared_lost, bared_gone, lost_bared, bared_twice, back_twice}
 
 -- what a draft's table has after one put

@@ -20,9 +20,9 @@ use Rattle.closure.proofs.Walk.{has_append, has_second}
 use Rattle.tool_api.specs.Staged.{stage_of, staged, is_candidate, refers_by, refs_by}
 use Rattle.tool_api.specs.Merged.{both_keys, firm_content, named_by_firm}
 use Rattle.merge_tool.specs.Passes.{firm_refs, has_untold_user}
-use Rattle.merge_tool.proofs.Rows.{theirs_by, verdict_by}
-use Rattle.merge_tool.proofs.Fitting.{fits}
-use Rattle.merge_tool.proofs.Outcome.{has_flat}
+use Rattle.job_laws.proofs.MergeRows.{theirs_by, verdict_by}
+use Rattle.job_laws.proofs.MergeFitting.{fits}
+use Rattle.job_laws.proofs.MergeOutcome.{has_flat}
 use Rattle.merge_tool.proofs.Cases.{uses_at}
 
 -- two tests that say the same

@@ -19,7 +19,7 @@ use Rattle.tool_api.specs.Staged.{stage_of, lost_of, refers_by, bared}
 use Rattle.tool_api.specs.Merged.{both_keys, lost_content, named_by_firm, named_by_wanted, wanted, wanted_start, wanted_leads}
 use Rattle.merge_tool.specs.Walks.{is_lost, lost_refs, lost_links}
 use Rattle.merge_tool.specs.Passes.{has_untold_user, early, firm_refs}
-use Rattle.merge_tool.proofs.Fitting.{fits, not_lost_by}
+use Rattle.job_laws.proofs.MergeFitting.{fits, not_lost_by}
 use Rattle.merge_tool.proofs.Cases.{used_there}
 use Rattle.merge_tool.proofs.Bareds.{lost_bared}
 use Rattle.merge_tool.proofs.Untolds.{at_from, names_are, flat_is, same_bool, named_by_told, told_firm, firm_parts}

@@ -12,7 +12,7 @@ use Rattle.osm_table.specs.Told.{ToldValue}
 use Rattle.dataset.specs.Draft.{DraftValue, drafted}
 use Rattle.closure.specs.Closure.{has, Chain}
 use Rattle.tool_api.specs.Staged.{back, bared}
-use Rattle.merge_tool.specs.Outcomes.{final_at, is_wanted, is_held, is_wanted_name}
+use Rattle.job_laws.specs.MergeOutcomes.{final_at, is_wanted, is_held, is_wanted_name}
 use Rattle.merge_tool.specs.Passes.{IsPassed, early, firm_refs, is_going, is_clashing, held_starts, left}
 use Rattle.merge_tool.specs.Walks.{going_links}
 

@@ -5,7 +5,7 @@ ghost use Rattle.osm_base.specs.Rank.{is_key};
 ghost use Rattle.dataset.specs.Sound.{IsSound};
 ghost use Rattle.closure.specs.Closure.{has};
 ghost use Rattle.merge_tool.specs.Drafts.{AreGoing, AreHeld, AreHeldEnds, AreWantedNames, NamesEnter, firm_names};
-ghost use Rattle.merge_tool.specs.Outcomes.{is_held_name};
+ghost use Rattle.job_laws.specs.MergeOutcomes.{is_held_name};
 ghost use Rattle.merge_tool.specs.Walks.{mine_refs};
 ghost use Rattle.merge_tool.specs.Passes.{has_untold_user, held_starts};
 

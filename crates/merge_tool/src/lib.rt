@@ -8,19 +8,18 @@
 //! walks from these, `holding` from the names of both to the candidates, and `writing` puts what comes back, stays or goes.
 //! Where nothing that is told was known, the lists of the walks are empty, and only `staging` and `naming` cost.
 //! Where there is no object yet, and all to which the told objects refer is told of as there, the table is to have just
-//! what is told. `arrival` plans that as a patch, without a draft and without a look at any reference.
+//! what is told. `arrival` plans that as a patch, without a draft and without a look at any reference. What holds of a merged
+//! table, whatever code makes it, stands in `job_laws`.
 #![tactic(auto)]
 
 mod arrival;
 mod clash;
 mod entries;
 mod holding;
-mod law;
 mod merge;
 mod naming;
 mod staging;
 mod wanting;
 mod writing;
 
-pub use law::{conflicts_of_merges, edits_stay, merged_is_sound, untold_stays};
 pub use merge::{Merge, MergeTool};

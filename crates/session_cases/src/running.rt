@@ -1,11 +1,10 @@
 //! Runs a case.
 
 use crate::poor::PoorTool;
-use all_tools::run_editor;
 use anyhow::{Result, bail};
 use case_files::{Case, Run, Tools, shelf_of, sink_of, tell, words_of};
 use edit_history::{no_boxes, with_box};
-use edit_session::{Status, run_session};
+use edit_session::{Status, run_editor, run_session};
 use osm_outside::{MemoryShelf, MemorySink};
 use std::alloc::{AllocError, Global};
 use tool_api::Verb;

@@ -11,8 +11,8 @@ use Rattle.osm_table.specs.declared.entry.Base.TheVariants.{Live, Gone}
 use Rattle.osm_table.specs.declared.entry.Why.TheVariants.{Changed, Held, Withdrawn}
 use Rattle.osm_table.specs.declared.entry.Entry.{Entry}
 use Rattle.osm_table.specs.declared.entry.Entry.TheVariants.{Incomplete, Known}
-use Rattle.resolution.specs.declared.choice.Choice.TheVariants as choice
-use Rattle.resolution.specs.declared.choice.Side.TheVariants as side
+use Rattle.merge_cases.specs.declared.choice.Choice.TheVariants as choice
+use Rattle.merge_cases.specs.declared.choice.Side.TheVariants as side
 use Rattle.tool_api.specs.declared.refusal.Refusal.TheVariants.{Absent, DeletedObject, Unfit, NoConflict, NotMixed, NotClashing}
 use Rattle.tool_api.specs.Resolve.{choice_test, gone_test, settled_fit_test}
 

@@ -11,9 +11,9 @@ use Rattle.osm_table.specs.declared.entry.Entry.{Entry}
 use Rattle.osm_table.specs.declared.entry.Entry.TheVariants.{Incomplete, Known}
 use Rattle.osm_table.specs.Table.{TableValue, entry_of, held_by}
 use Rattle.dataset.specs.Exact.{mine_at}
-use Rattle.resolution.specs.declared.choice.Choice.{Choice}
-use Rattle.resolution.specs.declared.choice.Choice.TheVariants.{Parts}
-use Rattle.resolution.specs.Resolve.{resolved, can_choose, unclashing}
+use Rattle.merge_cases.specs.declared.choice.Choice.{Choice}
+use Rattle.merge_cases.specs.declared.choice.Choice.TheVariants.{Parts}
+use Rattle.merge_cases.specs.Resolve.{resolved, can_choose, unclashing}
 use Rattle.tool_api.specs.declared.refusal.Refusal.{Refusal}
 use Rattle.tool_api.specs.declared.refusal.Refusal.TheVariants.{Absent, DeletedObject, Unfit, NoConflict, NotMixed, NotClashing}
 use Rattle.tool_api.specs.Checks.{◌>>◌, first_of, when, use_test}

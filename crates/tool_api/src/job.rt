@@ -4,9 +4,9 @@ ghost use Rattle.tool_api.specs.Plain.{verb_of};
 
 use crate::new_objects::NewObjects;
 use crate::verb::Verb;
+use merge_cases::Choice;
 use osm_base::{Coord, Key, Keys, Members, Refs, Tags};
 use osm_table::{Shared, ToldMap};
-use resolution::Choice;
 
 /// One command with its arguments. What it does is `plain` in specs/.
 #[derive(Drop)]

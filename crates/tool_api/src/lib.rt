@@ -9,7 +9,7 @@
 //! To add a command: add its variant to `Job` (and to `Refusal`, with the next number, where it refuses in a new
 //! way); write its definition in a file of `specs/` from the words of `specs/Checks`, `Changes` and `Closing`, with
 //! a worked example in `proofs/Examples`; add its line to `outcome` in `specs/Plain`, and one to `outcome_kept` in
-//! `proofs/Jobs` of `seen_bases`: what its table has is from the old one. Then write its `Command` over the calls of this
+//! `proofs/SeenJobs` of `editor_laws`: what its table has is from the old one. Then write its `Command` over the calls of this
 //! crate: the tests, a draft of the change (`edit_all`, `delete_all`, `add_new`), and `closed`.
 #![tactic(auto)]
 

@@ -1,11 +1,5 @@
 pub mod Cuts
 pub mod Endings
-pub mod Holds
-pub mod Members
 pub mod Outlines
-pub mod PartKeys
 pub mod Added
 pub mod Sounds
-pub mod Along
-pub mod Between
-pub mod Longest

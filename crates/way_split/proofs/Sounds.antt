@@ -42,9 +42,9 @@ use Rattle.tool_api.proofs.Least.{has_key, changes_conflict_at}
 use Rattle.tool_api.proofs.Looks.{entry_changed, next_changed}
 use Rattle.tool_api.proofs.Passed.{both_none, none_passes, passed_tests, keeps_fit, fits_or_stays, none_in, passed_when}
 use Rattle.tool_api.proofs.Sounds.{content_edited, each_changed, next_is}
-use Rattle.way_split.proofs.Holds.{all_pieces_hold, parts_hold, all_filtered, found_holds}
-use Rattle.way_split.proofs.Members.{has_piece, replaced_refers, replaced_kind}
-use Rattle.way_split.proofs.PartKeys.{pieces_are}
+use Rattle.job_laws.proofs.SplitHolds.{all_pieces_hold, parts_hold, all_filtered, found_holds}
+use Rattle.job_laws.proofs.SplitMembers.{has_piece, replaced_refers, replaced_kind}
+use Rattle.job_laws.proofs.SplitPartKeys.{pieces_are}
 use Rattle.tool_api.proofs.Added.{RefersIn, next_added, there_all, fresh, new_fit, all_added_sound, number_room}
 use Rattle.way_split.proofs.Added.{ways_of, new_there, all_added_changed, refer_on, nodes_there, there_nodes, ways_refer}
 use Rattle.tool_api.proofs.Bools.{left_alone}

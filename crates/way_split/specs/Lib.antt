@@ -1,3 +1,2 @@
 pub mod NodeChecks
 pub mod Tested
-pub mod Pieces

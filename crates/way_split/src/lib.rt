@@ -5,17 +5,15 @@
 //! command is proved to plan just that, at the cost of the way, its pieces and the relations that name it. It stands on
 //! `relation_upkeep`, which has the rule for members.
 //!
-//! `pieces` cuts, `parts` gives keys, `drafts` has the new entries, `split` the tests and their order. `law` says with no
+//! `pieces` cuts, `parts` gives keys, `drafts` has the new entries, `split` the tests and their order. `job_laws` says with no
 //! loop what pieces, the kept one and the keys are. That the new table is sound stands in `proofs/Sounds`.
 #![tactic(auto)]
 
 mod drafts;
-mod law;
 mod node_checks;
 mod nodes;
 mod parts;
 mod pieces;
 mod split;
 
-pub use law::{first_longest_is_kept, keys_go_along_the_way, pieces_lie_between_cuts};
 pub use split::SplitTool;

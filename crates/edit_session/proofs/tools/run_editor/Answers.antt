@@ -1,0 +1,92 @@
+use Rattle.std.proofs.Common.{◌≡◌, ◌⊎◌, ◌∙◌, IfSome, map, string_bytes, refl, subst}
+use Rattle.osm_outside.specs.Outside.{Rose}
+use Rattle.tool_api.specs.declared.verb.Verb.{Verb}
+use Rattle.tool_api.specs.declared.verb.Verb.TheVariants.{Add, Tag, Move, Change, Delete, Erase, Purge, Split, Combine, Reverse, Merge, Import, Resolve, Squeeze, Fuse}
+use Rattle.edit_session.specs.declared.status.Status.TheVariants as status
+use Rattle.edit_session.specs.Runs.{Runs}
+use Rattle.edit_session.specs.Session.{outcome, Agrees}
+use Rattle.edit_session.specs.Needs.{Misses}
+use Rattle.edit_session.specs.Verbs.{IsNew}
+use Rattle.edit_session.specs.contracts.tools.with_four.{dyn-1-ghosts}
+use Rattle.edit_session.proofs.EachVerb.{all_made, none_missed}
+use Rattle.edit_session.proofs.tools.run_editor.OwnLists.{own-1, lawful-own-1, at-1-1, at-1-2, at-1-3, at-1-4, at-1-5, at-1-6, at-1-7, at-1-8, at-1-9, at-1-10, at-1-11, at-1-12, at-1-13, at-1-14, at-1-15}
+use Rattle.edit_session.proofs.tools.run_editor.Goals as goal
+use denote.Param.Object.{Made, read_made}
+
+-- A tool that is new is so in its box, of whatever type it is.
+is_new : (at : (dyn-1-ghosts (own-1, lawful-own-1)).0.I) (verb : Verb) (i : (dyn-1-ghosts (own-1, lawful-own-1)).0.I) (y : ((dyn-1-ghosts (own-1, lawful-own-1)).0.entry i).0.Denot) (x : ((dyn-1-ghosts (own-1, lawful-own-1)).0.entry at).0.Denot)
+    → Made (λ j. ((dyn-1-ghosts (own-1, lawful-own-1)).0.entry j).0.coded.code) ((dyn-1-ghosts (own-1, lawful-own-1)).0.entry at).0.coded.code at i y x
+    → IsNew verb (((dyn-1-ghosts (own-1, lawful-own-1)).0.entry at).1.kind x) (((dyn-1-ghosts (own-1, lawful-own-1)).0.entry at).1.done x) (((dyn-1-ghosts (own-1, lawful-own-1)).0.entry at).1.undone x)
+    → IsNew verb (((dyn-1-ghosts (own-1, lawful-own-1)).0.entry i).1.kind y) (((dyn-1-ghosts (own-1, lawful-own-1)).0.entry i).1.done y) (((dyn-1-ghosts (own-1, lawful-own-1)).0.entry i).1.undone y)
+is_new at verb i y x made new =
+    let T = (dyn-1-ghosts (own-1, lawful-own-1)).0 in
+    (read_made T (T.entry at) at refl _ (λ j z. j.1.kind z) i y x made ∙ new.0, read_made T (T.entry at) at refl _ (λ j z. j.1.done z) i y x made ∙ new.1, read_made T (T.entry at) at refl _ (λ j z. j.1.undone z) i y x made ∙ new.2)
+
+pub with_four-requires-clause-new : goal.with_four-requires-clause-new
+with_four-requires-clause-new g c = (is_new at-1-1 Add _ _ _ c.into_dyn_box.ensures.1 c.in_ok-first.ensures.first, is_new at-1-1 Add _ _ _ c.into_dyn_box-2.ensures.1 c.in_ok-first.ensures.second, is_new at-1-1 Add _ _ _ c.into_dyn_box-3.ensures.1 c.in_ok-first.ensures.third, is_new at-1-1 Add _ _ _ c.into_dyn_box-4.ensures.1 c.in_ok-first.ensures.fourth)
+
+pub with_four-requires-2-clause-new : goal.with_four-requires-2-clause-new
+with_four-requires-2-clause-new g c = (is_new at-1-2 Tag _ _ _ c.into_dyn_box-5.ensures.1 c.in_ok-first-2.ensures.first, is_new at-1-2 Tag _ _ _ c.into_dyn_box-6.ensures.1 c.in_ok-first-2.ensures.second, is_new at-1-2 Tag _ _ _ c.into_dyn_box-7.ensures.1 c.in_ok-first-2.ensures.third, is_new at-1-2 Tag _ _ _ c.into_dyn_box-8.ensures.1 c.in_ok-first-2.ensures.fourth)
+
+pub with_four-requires-3-clause-new : goal.with_four-requires-3-clause-new
+with_four-requires-3-clause-new g c = (is_new at-1-3 Move _ _ _ c.into_dyn_box-9.ensures.1 c.in_ok-first-3.ensures.first, is_new at-1-3 Move _ _ _ c.into_dyn_box-10.ensures.1 c.in_ok-first-3.ensures.second, is_new at-1-3 Move _ _ _ c.into_dyn_box-11.ensures.1 c.in_ok-first-3.ensures.third, is_new at-1-3 Move _ _ _ c.into_dyn_box-12.ensures.1 c.in_ok-first-3.ensures.fourth)
+
+pub with_four-requires-4-clause-new : goal.with_four-requires-4-clause-new
+with_four-requires-4-clause-new g c = (is_new at-1-4 Change _ _ _ c.into_dyn_box-13.ensures.1 c.in_ok-first-4.ensures.first, is_new at-1-4 Change _ _ _ c.into_dyn_box-14.ensures.1 c.in_ok-first-4.ensures.second, is_new at-1-4 Change _ _ _ c.into_dyn_box-15.ensures.1 c.in_ok-first-4.ensures.third, is_new at-1-4 Change _ _ _ c.into_dyn_box-16.ensures.1 c.in_ok-first-4.ensures.fourth)
+
+pub with_four-requires-5-clause-new : goal.with_four-requires-5-clause-new
+with_four-requires-5-clause-new g c = (is_new at-1-5 Delete _ _ _ c.into_dyn_box-17.ensures.1 c.in_ok-first-5.ensures.first, is_new at-1-5 Delete _ _ _ c.into_dyn_box-18.ensures.1 c.in_ok-first-5.ensures.second, is_new at-1-5 Delete _ _ _ c.into_dyn_box-19.ensures.1 c.in_ok-first-5.ensures.third, is_new at-1-5 Delete _ _ _ c.into_dyn_box-20.ensures.1 c.in_ok-first-5.ensures.fourth)
+
+pub with_four-requires-6-clause-new : goal.with_four-requires-6-clause-new
+with_four-requires-6-clause-new g c = (is_new at-1-6 Erase _ _ _ c.into_dyn_box-21.ensures.1 c.in_ok-first-6.ensures.first, is_new at-1-6 Erase _ _ _ c.into_dyn_box-22.ensures.1 c.in_ok-first-6.ensures.second, is_new at-1-6 Erase _ _ _ c.into_dyn_box-23.ensures.1 c.in_ok-first-6.ensures.third, is_new at-1-6 Erase _ _ _ c.into_dyn_box-24.ensures.1 c.in_ok-first-6.ensures.fourth)
+
+pub with_four-requires-7-clause-new : goal.with_four-requires-7-clause-new
+with_four-requires-7-clause-new g c = (is_new at-1-7 Purge _ _ _ c.into_dyn_box-25.ensures.1 c.in_ok-first-7.ensures.first, is_new at-1-7 Purge _ _ _ c.into_dyn_box-26.ensures.1 c.in_ok-first-7.ensures.second, is_new at-1-7 Purge _ _ _ c.into_dyn_box-27.ensures.1 c.in_ok-first-7.ensures.third, is_new at-1-7 Purge _ _ _ c.into_dyn_box-28.ensures.1 c.in_ok-first-7.ensures.fourth)
+
+pub with_four-requires-8-clause-new : goal.with_four-requires-8-clause-new
+with_four-requires-8-clause-new g c = (is_new at-1-8 Split _ _ _ c.into_dyn_box-29.ensures.1 c.in_ok-first-8.ensures.first, is_new at-1-8 Split _ _ _ c.into_dyn_box-30.ensures.1 c.in_ok-first-8.ensures.second, is_new at-1-8 Split _ _ _ c.into_dyn_box-31.ensures.1 c.in_ok-first-8.ensures.third, is_new at-1-8 Split _ _ _ c.into_dyn_box-32.ensures.1 c.in_ok-first-8.ensures.fourth)
+
+pub with_four-requires-9-clause-new : goal.with_four-requires-9-clause-new
+with_four-requires-9-clause-new g c = (is_new at-1-9 Combine _ _ _ c.into_dyn_box-33.ensures.1 c.in_ok-first-9.ensures.first, is_new at-1-9 Combine _ _ _ c.into_dyn_box-34.ensures.1 c.in_ok-first-9.ensures.second, is_new at-1-9 Combine _ _ _ c.into_dyn_box-35.ensures.1 c.in_ok-first-9.ensures.third, is_new at-1-9 Combine _ _ _ c.into_dyn_box-36.ensures.1 c.in_ok-first-9.ensures.fourth)
+
+pub with_four-requires-10-clause-new : goal.with_four-requires-10-clause-new
+with_four-requires-10-clause-new g c = (is_new at-1-10 Reverse _ _ _ c.into_dyn_box-37.ensures.1 c.in_ok-first-10.ensures.first, is_new at-1-10 Reverse _ _ _ c.into_dyn_box-38.ensures.1 c.in_ok-first-10.ensures.second, is_new at-1-10 Reverse _ _ _ c.into_dyn_box-39.ensures.1 c.in_ok-first-10.ensures.third, is_new at-1-10 Reverse _ _ _ c.into_dyn_box-40.ensures.1 c.in_ok-first-10.ensures.fourth)
+
+pub with_four-requires-11-clause-new : goal.with_four-requires-11-clause-new
+with_four-requires-11-clause-new g c = (is_new at-1-11 Merge _ _ _ c.into_dyn_box-41.ensures.1 c.in_ok-first-11.ensures.first, is_new at-1-11 Merge _ _ _ c.into_dyn_box-42.ensures.1 c.in_ok-first-11.ensures.second, is_new at-1-11 Merge _ _ _ c.into_dyn_box-43.ensures.1 c.in_ok-first-11.ensures.third, is_new at-1-11 Merge _ _ _ c.into_dyn_box-44.ensures.1 c.in_ok-first-11.ensures.fourth)
+
+pub with_four-requires-12-clause-new : goal.with_four-requires-12-clause-new
+with_four-requires-12-clause-new g c = (is_new at-1-12 Import _ _ _ c.into_dyn_box-45.ensures.1 c.in_ok-first-12.ensures.first, is_new at-1-12 Import _ _ _ c.into_dyn_box-46.ensures.1 c.in_ok-first-12.ensures.second, is_new at-1-12 Import _ _ _ c.into_dyn_box-47.ensures.1 c.in_ok-first-12.ensures.third, is_new at-1-12 Import _ _ _ c.into_dyn_box-48.ensures.1 c.in_ok-first-12.ensures.fourth)
+
+pub with_four-requires-13-clause-new : goal.with_four-requires-13-clause-new
+with_four-requires-13-clause-new g c = (is_new at-1-13 Resolve _ _ _ c.into_dyn_box-49.ensures.1 c.in_ok-first-13.ensures.first, is_new at-1-13 Resolve _ _ _ c.into_dyn_box-50.ensures.1 c.in_ok-first-13.ensures.second, is_new at-1-13 Resolve _ _ _ c.into_dyn_box-51.ensures.1 c.in_ok-first-13.ensures.third, is_new at-1-13 Resolve _ _ _ c.into_dyn_box-52.ensures.1 c.in_ok-first-13.ensures.fourth)
+
+pub with_four-requires-14-clause-new : goal.with_four-requires-14-clause-new
+with_four-requires-14-clause-new g c = (is_new at-1-14 Squeeze _ _ _ c.into_dyn_box-53.ensures.1 c.in_ok-first-14.ensures.first, is_new at-1-14 Squeeze _ _ _ c.into_dyn_box-54.ensures.1 c.in_ok-first-14.ensures.second, is_new at-1-14 Squeeze _ _ _ c.into_dyn_box-55.ensures.1 c.in_ok-first-14.ensures.third, is_new at-1-14 Squeeze _ _ _ c.into_dyn_box-56.ensures.1 c.in_ok-first-14.ensures.fourth)
+
+pub with_four-requires-15-clause-new : goal.with_four-requires-15-clause-new
+with_four-requires-15-clause-new g c = (is_new at-1-15 Fuse _ _ _ c.into_dyn_box-57.ensures.1 c.in_ok-first-15.ensures.first, is_new at-1-15 Fuse _ _ _ c.into_dyn_box-58.ensures.1 c.in_ok-first-15.ensures.second, is_new at-1-15 Fuse _ _ _ c.into_dyn_box-59.ensures.1 c.in_ok-first-15.ensures.third, is_new at-1-15 Fuse _ _ _ c.into_dyn_box-60.ensures.1 c.in_ok-first-15.ensures.fourth)
+
+pub returns-clause-runs : goal.returns-clause-runs
+returns-clause-runs g c =
+    let all = all_made c.no_boxes-tools.ensures.kinds c.in_ok-tools.ensures.kinds c.in_ok-tools-2.ensures.kinds c.in_ok-tools-3.ensures.kinds c.in_ok-tools-4.ensures.kinds c.in_ok-tools-5.ensures.kinds c.in_ok-tools-6.ensures.kinds c.in_ok-tools-7.ensures.kinds c.in_ok-tools-8.ensures.kinds c.in_ok-tools-9.ensures.kinds c.in_ok-tools-10.ensures.kinds c.in_ok-tools-11.ensures.kinds c.in_ok-tools-12.ensures.kinds c.in_ok-tools-13.ensures.kinds c.in_ok-tools-14.ensures.kinds c.in_ok-tools-15.ensures.kinds in
+    subst (λ verbs. Runs (g.S.Shelf.told c.args.shelf.now) verbs (map string_bytes c.args.words.now) (g.K.Sink.taken c.args.out.now) (g.K.Sink.taken c.run_session.new.out) c.run_session.result) all
+    c.run_session.ensures.runs
+
+pub returns-clause-outcome : goal.returns-clause-outcome
+returns-clause-outcome g c =
+    let all = all_made c.no_boxes-tools.ensures.kinds c.in_ok-tools.ensures.kinds c.in_ok-tools-2.ensures.kinds c.in_ok-tools-3.ensures.kinds c.in_ok-tools-4.ensures.kinds c.in_ok-tools-5.ensures.kinds c.in_ok-tools-6.ensures.kinds c.in_ok-tools-7.ensures.kinds c.in_ok-tools-8.ensures.kinds c.in_ok-tools-9.ensures.kinds c.in_ok-tools-10.ensures.kinds c.in_ok-tools-11.ensures.kinds c.in_ok-tools-12.ensures.kinds c.in_ok-tools-13.ensures.kinds c.in_ok-tools-14.ensures.kinds c.in_ok-tools-15.ensures.kinds in
+    subst (λ verbs. IfSome (g.S.Shelf.told c.args.shelf.now) (λ files. Agrees (g.K.Sink.taken c.args.out.now) (g.K.Sink.taken c.run_session.new.out) c.run_session.result (outcome verbs (map string_bytes c.args.words.now) files))) all
+    c.run_session.ensures.outcome
+
+pub returns-clause-tools : goal.returns-clause-tools
+returns-clause-tools g c =
+    let all = all_made c.no_boxes-tools.ensures.kinds c.in_ok-tools.ensures.kinds c.in_ok-tools-2.ensures.kinds c.in_ok-tools-3.ensures.kinds c.in_ok-tools-4.ensures.kinds c.in_ok-tools-5.ensures.kinds c.in_ok-tools-6.ensures.kinds c.in_ok-tools-7.ensures.kinds c.in_ok-tools-8.ensures.kinds c.in_ok-tools-9.ensures.kinds c.in_ok-tools-10.ensures.kinds c.in_ok-tools-11.ensures.kinds c.in_ok-tools-12.ensures.kinds c.in_ok-tools-13.ensures.kinds c.in_ok-tools-14.ensures.kinds c.in_ok-tools-15.ensures.kinds in
+    λ verb missed. none_missed verb (subst (λ verbs. Misses verbs verb) all (c.run_session.ensures.no_tool verb missed))
+
+pub returns-clause-complete : goal.returns-clause-complete
+returns-clause-complete g c =
+    let all = all_made c.no_boxes-tools.ensures.kinds c.in_ok-tools.ensures.kinds c.in_ok-tools-2.ensures.kinds c.in_ok-tools-3.ensures.kinds c.in_ok-tools-4.ensures.kinds c.in_ok-tools-5.ensures.kinds c.in_ok-tools-6.ensures.kinds c.in_ok-tools-7.ensures.kinds c.in_ok-tools-8.ensures.kinds c.in_ok-tools-9.ensures.kinds c.in_ok-tools-10.ensures.kinds c.in_ok-tools-11.ensures.kinds c.in_ok-tools-12.ensures.kinds c.in_ok-tools-13.ensures.kinds c.in_ok-tools-14.ensures.kinds c.in_ok-tools-15.ensures.kinds in
+    subst (λ verbs. IfSome (g.S.Shelf.told c.args.shelf.now) (λ files. (outcome verbs (map string_bytes c.args.words.now) files).0 ≡ status.Done
+    → (Rose (g.S.Shelf.faults c.args.shelf.now) (g.S.Shelf.faults c.run_session.new.shelf) → ⊥) → (Rose (g.K.Sink.faults c.args.out.now) (g.K.Sink.faults c.run_session.new.out) → ⊥)
+    → (c.run_session.result ≡ status.Done) ⊎ (c.run_session.result ≡ status.Memory))) all c.run_session.ensures.complete

@@ -1,0 +1,275 @@
+-- What was edited here is kept in a merge.
+use Rattle.std.proofs.Common.{Ok, ◌≡◌, ◌==◌, ◌||◌, ◌&&◌, not, ℕ, nat_lt, Bool, true, false, Option, Some, None, is_some, cond, refl, sym, ◌∙◌, ap, subst, inl, inr}
+use Rattle.std.specs.FinMap as fin
+use Rattle.std.proofs.lemmas.Bool.{true≢false}
+use Rattle.osm_base.specs.Rank.{is_key}
+use Rattle.osm_base.specs.declared.key.Key.{Key}
+use Rattle.osm_base.specs.declared.content.Content.{Content}
+use Rattle.osm_base.proofs.Tests.{by_bool}
+use Rattle.osm_table.specs.declared.entry.Base.{Base}
+use Rattle.osm_table.specs.declared.entry.Conflict.{Conflict}
+use Rattle.osm_table.specs.declared.entry.Why.TheVariants.{Changed}
+use Rattle.osm_table.specs.declared.entry.Entry.{Entry}
+use Rattle.osm_table.specs.declared.entry.Entry.TheVariants.{Incomplete, Known}
+use Rattle.osm_table.specs.declared.told.Told.{Told}
+use Rattle.osm_table.specs.declared.told.Told.TheVariants as told
+use Rattle.osm_table.specs.Table.{TableValue, entry_of, held_by, known_base, version_of, is_changed}
+use Rattle.osm_table.specs.Told.{ToldEntries, ToldValue}
+use Rattle.osm_table.specs.Same.{same_mine}
+use Rattle.osm_table.proofs.SameLaws.{same_mine_decides}
+use Rattle.closure.specs.Closure.{has}
+use Rattle.merge_cases.specs.declared.verdict.Verdict.{Verdict}
+use Rattle.merge_cases.specs.declared.verdict.Verdict.TheVariants.{Stay, Mention, Take, Clash, Keep, Candidate, Settle, Join, Dispute}
+use Rattle.merge_cases.specs.Case.{known_case, newer_case, changed_case, unchanged_case, withdrawn_case, same_version_case, all_join, is_withdrawn}
+use Rattle.tool_api.specs.declared.job.Job.TheVariants as job
+use Rattle.tool_api.specs.declared.refusal.Refusal.{Refusal}
+use Rattle.tool_api.specs.Checks.{◌>>◌}
+use Rattle.tool_api.specs.Changes.{done}
+use Rattle.tool_api.specs.Closing.{room_test}
+use Rattle.tool_api.specs.Staged.{staged, stage_of, theirs_at, is_candidate, is_dead, all_joined, lost_of, back, withdrawn}
+use Rattle.tool_api.specs.Merged.{both_keys, wanted, held, named, merged, clash_test}
+use Rattle.tool_api.specs.Plain.{answered, plain}
+use Rattle.job_laws.proofs.MergeRows.{theirs_by, verdict_by, joined_some}
+use Rattle.job_laws.proofs.MergeStand.{settled, wanted_lost}
+use Rattle.job_laws.proofs.MergeOutcome.{outcome, merged_at}
+use Rattle.editor_laws.specs.Kept.{wish, is_edited, IsWished, Keeps}
+
+-- What a case makes of a changed object that didn't come back.
+abbrev Spares : Verdict → Option Content → Option Content → Option Content → Type 0
+Spares Stay base mine theirs = Unit {0}
+Spares Mention base mine theirs = ⊥
+Spares Take base mine theirs = ⊥
+Spares Clash base mine theirs = Unit {0}
+Spares Keep base mine theirs = ⊥
+Spares Candidate base mine theirs = ⊥
+Spares Settle base mine theirs = mine ≡ theirs
+Spares Join base mine theirs = all_join base mine theirs ≡ true
+Spares Dispute base mine theirs = Unit {0}
+
+one_version_spares : (b m known theirs : Option Content) → Spares (same_version_case known theirs) b m theirs
+one_version_spares b m None None = tt
+one_version_spares b m None (Some t) = tt
+one_version_spares b m (Some k) None = tt
+one_version_spares b m (Some k) (Some t) = tt
+
+changed_spares : (b m theirs : Option Content) → Spares (changed_case b m theirs) b m theirs
+changed_spares b m theirs = by (same_mine m theirs) (all_join b m theirs) refl refl
+  where
+    by : (s j : Bool) → same_mine m theirs ≡ s → all_join b m theirs ≡ j → Spares (cond s Settle (cond j Join Dispute)) b m theirs
+    by true j e f = (same_mine_decides m theirs).0 e
+    by false true e f = f
+    by false false e f = tt
+
+newer_spares : (b : Base) (m : Option Content) (f : Option Conflict) (theirs : Option Content) → is_withdrawn f ≡ false → is_changed (Known b m f) ≡ true → Spares (newer_case b m f theirs) (held_by b) m theirs
+newer_spares b m f theirs w c = by (is_withdrawn f) (is_changed (Known b m f)) w c
+  where
+    by : (r s : Bool) → r ≡ false → s ≡ true → Spares (cond r (withdrawn_case theirs) (cond s (changed_case (held_by b) m theirs) (unchanged_case m theirs))) (held_by b) m theirs
+    by true s e g = absurd (true≢false e)
+    by false true e g = changed_spares (held_by b) m theirs
+    by false false e g = absurd (true≢false (sym g))
+
+known_spares : (b : Base) (m : Option Content) (f : Option Conflict) (version : ℕ) (theirs : Option Content) → is_withdrawn f ≡ false → is_changed (Known b m f) ≡ true → Spares (known_case b m f version theirs) (held_by b) m theirs
+known_spares b m f version theirs w c = by (nat_lt version (version_of (known_base b f))) (version == version_of (known_base b f))
+  where
+    by : (older same : Bool) → Spares (cond older Stay (cond same (same_version_case (held_by (known_base b f)) theirs) (newer_case b m f theirs))) (held_by b) m theirs
+    by true same = tt
+    by false true = one_version_spares (held_by b) m (held_by (known_base b f)) theirs
+    by false false = newer_spares b m f theirs w c
+
+spares : (b : Base) (m : Option Content) (f : Option Conflict) (s : Option Told) → is_withdrawn f ≡ false → is_changed (Known b m f) ≡ true → Spares (verdict_by (Some (Known b m f)) s) (held_by b) m (held_by (theirs_by s))
+spares b m f None w c = tt
+spares b m f (Some told.Mentioned) w c = tt
+spares b m f (Some (told.Live version content meta)) w c = known_spares b m f version (Some content) w c
+spares b m f (Some (told.Gone version meta)) w c = known_spares b m f version None w c
+
+-- What a case makes of one that came back.
+abbrev Withdraws : Verdict → Option Content → Type 0
+Withdraws Stay theirs = Unit {0}
+Withdraws Mention theirs = ⊥
+Withdraws Take theirs = ⊥
+Withdraws Clash theirs = Unit {0}
+Withdraws Keep theirs = Unit {0}
+Withdraws Candidate theirs = theirs ≡ None
+Withdraws Settle theirs = ⊥
+Withdraws Join theirs = ⊥
+Withdraws Dispute theirs = ⊥
+
+one_version_withdraws : (known theirs : Option Content) → Withdraws (same_version_case known theirs) theirs
+one_version_withdraws None None = tt
+one_version_withdraws None (Some t) = tt
+one_version_withdraws (Some k) None = tt
+one_version_withdraws (Some k) (Some t) = tt
+
+newest_withdraws : (theirs : Option Content) → Withdraws (withdrawn_case theirs) theirs
+newest_withdraws None = refl
+newest_withdraws (Some t) = tt
+
+known_withdraws : (b : Base) (m : Option Content) (f : Option Conflict) (version : ℕ) (theirs : Option Content) → is_withdrawn f ≡ true → Withdraws (known_case b m f version theirs) theirs
+known_withdraws b m f version theirs w = by (nat_lt version (version_of (known_base b f))) (version == version_of (known_base b f))
+  where
+    newer : (r : Bool) → r ≡ true → Withdraws (cond r (withdrawn_case theirs) (cond (is_changed (Known b m f)) (changed_case (held_by b) m theirs) (unchanged_case m theirs))) theirs
+    newer true e = newest_withdraws theirs
+    newer false e = absurd (true≢false (sym e))
+
+    by : (older same : Bool) → Withdraws (cond older Stay (cond same (same_version_case (held_by (known_base b f)) theirs) (newer_case b m f theirs))) theirs
+    by true same = tt
+    by false true = one_version_withdraws (held_by (known_base b f)) theirs
+    by false false = newer (is_withdrawn f) w
+
+withdraws : (b : Base) (m : Option Content) (f : Option Conflict) (s : Option Told) → is_withdrawn f ≡ true → Withdraws (verdict_by (Some (Known b m f)) s) (held_by (theirs_by s))
+withdraws b m f None w = tt
+withdraws b m f (Some told.Mentioned) w = tt
+withdraws b m f (Some (told.Live version content meta)) w = known_withdraws b m f version (Some content) w
+withdraws b m f (Some (told.Gone version meta)) w = known_withdraws b m f version None w
+
+-- What is said over all, of one that is no candidate.
+
+-- it comes back where it is lost alone
+abbrev IfLost : Bool → Option Entry → Type 0
+IfLost w entry = w ≡ true → is_some (lost_of entry) ≡ true
+
+-- what lives stays,
+living_stays : (P : Option Entry → Type 0) (h w n : Bool) (theirs b : Base) (c : Content) (f : Option Conflict) → IfLost w (Some (Known b (Some c) f)) → P (Some (Known b (Some c) f)) → P (settled false h w n theirs (Some (Known b (Some c) f)))
+living_stays P h true n theirs b c f lost p = absurd (true≢false (sym (lost refl)))
+living_stays P h false n theirs b c f lost p = p
+
+-- and what is wanted gone is so after it
+back_gone : (e : Entry) → IsWished None (Some (back e))
+back_gone Incomplete = (refl, refl)
+back_gone (Known b m f) = (refl, refl)
+
+bared_gone : (a : Bool) (e : Entry) → wish (Some e) ≡ None → IsWished None (cond a (Some Incomplete) (Some e))
+bared_gone true e h = (refl, refl)
+bared_gone false e h = (refl, h)
+
+stays_gone : (h w n : Bool) (theirs : Base) (e : Entry) → wish (Some e) ≡ None → IsWished None (settled false h w n theirs (Some e))
+stays_gone h true n theirs e g = back_gone e
+stays_gone h false n theirs e g = bared_gone (is_dead e && (n && not (is_some (lost_of (Some e))))) e g
+
+wish_is : (b : Base) (m : Option Content) (f : Option Conflict) → is_withdrawn f ≡ false → wish (Some (Known b m f)) ≡ m
+wish_is b m f w = ap (λ r. cond r None m) w
+
+wish_gone : (b : Base) (m : Option Content) (f : Option Conflict) → is_withdrawn f ≡ true → wish (Some (Known b m f)) ≡ None
+wish_gone b m f w = ap (λ r. cond r None m) w
+
+-- a lost object as its case leaves it, where it is no candidate
+abbrev LostAfter : Verdict → Entry → Base → Bool → Type 0
+LostAfter v e theirs w = w ≡ true → is_some (cond (is_candidate v) None (lost_of (staged v (Some e) theirs))) ≡ true
+
+-- what it has in the end
+abbrev ends : Verdict → Entry → Base → Bool → Bool → Bool → Option Entry
+ends v e theirs h w n = settled (is_candidate v) h w n theirs (staged v (Some e) theirs)
+
+module _ (b : Base) (c : Content) (f : Option Conflict) (theirs : Base) (h w n : Bool) (free : is_withdrawn f ≡ false) where
+  abbrev e : Entry
+  e = Known b (Some c) f
+
+  same_content : (d : Base) (g : Option Conflict) → wish (Some (Known d (Some c) g)) ≡ Some c → IfLost w (Some (Known d (Some c) g)) → Keeps e (settled false h w n theirs (Some (Known d (Some c) g)))
+  same_content d g is lost = living_stays (Keeps e) h w n theirs d c g lost (inl (refl, is ∙ sym (wish_is b (Some c) f free)))
+
+  settled_content : (x : Option Content) → Some c ≡ x → IfLost w (Some (Known theirs x None)) → Keeps e (settled false h w n theirs (Some (Known theirs x None)))
+  settled_content x is = subst (λ (x : Option Content). IfLost w (Some (Known theirs x None)) → Keeps e (settled false h w n theirs (Some (Known theirs x None)))) is (same_content theirs None refl)
+
+  joined_content : (x : Option Content) → x ≡ all_joined (held_by b) (Some c) (held_by theirs) → is_some x ≡ true → IfLost w (Some (Known theirs x None)) → Keeps e (settled false h w n theirs (Some (Known theirs x None)))
+  joined_content None is some lost = absurd (true≢false (sym some))
+  joined_content (Some d) is some lost = living_stays (Keeps e) h w n theirs theirs d None lost (inr (inl (refl, is)))
+
+  keeps_living : (v : Verdict) → Spares v (held_by b) (Some c) (held_by theirs) → LostAfter v e theirs w → Keeps e (ends v e theirs h w n)
+  keeps_living Stay s lost = same_content b f (wish_is b (Some c) f free) lost
+  keeps_living Mention s lost = absurd s
+  keeps_living Take s lost = absurd s
+  keeps_living Clash s lost = same_content b f (wish_is b (Some c) f free) lost
+  keeps_living Keep s lost = absurd s
+  keeps_living Candidate s lost = absurd s
+  keeps_living Settle s lost = settled_content (held_by theirs) s lost
+  keeps_living Join s lost = joined_content (all_joined (held_by b) (Some c) (held_by theirs)) refl (joined_some (held_by b) (Some c) (held_by theirs) s) lost
+  keeps_living Dispute s lost = same_content b (Some (record { why = Changed; theirs = theirs })) refl lost
+
+gone_kept : (e : Entry) (after : Option Entry) → wish (Some e) ≡ None → IsWished None after → Keeps e after
+gone_kept e after is h = inl (h.0, h.1 ∙ sym is)
+
+joined_none : (b theirs : Option Content) → all_joined b None theirs ≡ None
+joined_none None theirs = refl
+joined_none (Some b) theirs = refl
+
+keeps_deleted : (b : Base) (f : Option Conflict) (theirs : Base) (h w n : Bool) → is_withdrawn f ≡ false → (v : Verdict) → Spares v (held_by b) None (held_by theirs) → Keeps (Known b None f) (ends v (Known b None f) theirs h w n)
+keeps_deleted b f theirs h w n free v s = gone_kept (Known b None f) _ (wish_is b None f free) (by v s)
+  where
+    by : (v : Verdict) → Spares v (held_by b) None (held_by theirs) → IsWished None (ends v (Known b None f) theirs h w n)
+    by Stay s = stays_gone h w n theirs (Known b None f) (wish_is b None f free)
+    by Mention s = absurd s
+    by Take s = absurd s
+    by Clash s = stays_gone h w n theirs (Known b None f) (wish_is b None f free)
+    by Keep s = absurd s
+    by Candidate s = absurd s
+    by Settle s = stays_gone h w n theirs (Known theirs (held_by theirs) None) (sym s)
+    by Join s = stays_gone h w n theirs (Known theirs (all_joined (held_by b) None (held_by theirs)) None) (joined_none (held_by b) (held_by theirs))
+    by Dispute s = stays_gone h w n theirs (Known b None (Some (record { why = Changed; theirs = theirs }))) refl
+
+keeps_withdrawn : (b : Base) (m : Option Content) (f : Option Conflict) (theirs : Base) (h w n : Bool) → is_withdrawn f ≡ true → (v : Verdict) → Withdraws v (held_by theirs) → Keeps (Known b m f) (ends v (Known b m f) theirs h w n)
+keeps_withdrawn b m f theirs h w n came = by
+  where
+    gone : wish (Some (Known b m f)) ≡ None
+    gone = wish_gone b m f came
+
+    candidate : (h : Bool) → held_by theirs ≡ None → Keeps (Known b m f) (settled true h w n theirs (Some (Known b m f)))
+    candidate true s = inr (inr (s ∙ sym gone))
+    candidate false s = inl (refl, sym gone)
+
+    by : (v : Verdict) → Withdraws v (held_by theirs) → Keeps (Known b m f) (ends v (Known b m f) theirs h w n)
+    by Stay s = gone_kept (Known b m f) _ gone (stays_gone h w n theirs (Known b m f) gone)
+    by Mention s = absurd s
+    by Take s = absurd s
+    by Clash s = gone_kept (Known b m f) _ gone (stays_gone h w n theirs (Known b m f) gone)
+    by Keep s = gone_kept (Known b m f) _ gone (stays_gone h w n theirs (withdrawn theirs) refl)
+    by Candidate s = candidate h s
+    by Settle s = absurd s
+    by Join s = absurd s
+    by Dispute s = absurd s
+
+module _ (t : TableValue) (m : ToldEntries) (k : Key) (e : Entry) (is : entry_of t k ≡ Some e) where
+  abbrev verdict : Verdict
+  verdict = verdict_by (Some e) (fin.get m k)
+
+  abbrev is_held : Bool
+  is_held = has is_key (held (stage_of t m) (both_keys t m)) k
+
+  abbrev is_wanted : Bool
+  is_wanted = has is_key (wanted (stage_of t m) (both_keys t m)) k
+
+  abbrev is_named : Bool
+  is_named = named (stage_of t m) (both_keys t m) k
+
+  at_end : entry_of (merged t m) k ≡ ends verdict e (theirs_at m k) is_held is_wanted is_named
+  at_end = merged_at t m k ∙ ap (λ (o : Option Entry). outcome o (fin.get m k) is_held is_wanted is_named) is
+
+  lost : LostAfter verdict e (theirs_at m k) is_wanted
+  lost h =
+      sym (ap (λ (o : Option Entry). is_some (cond (is_candidate (verdict_by o (fin.get m k))) None (lost_of (staged (verdict_by o (fin.get m k)) o (theirs_at m k))))) is)
+      ∙ wanted_lost (stage_of t m) (both_keys t m) k h
+
+pub merged_keeps : (t : TableValue) (m : ToldEntries) (k : Key) (e : Entry) → entry_of t k ≡ Some e → is_edited e ≡ true → Keeps e (entry_of (merged t m) k)
+merged_keeps t m k Incomplete is edited = absurd (true≢false (sym edited))
+merged_keeps t m k (Known b mine f) is edited =
+    subst (Keeps (Known b mine f)) (sym (at_end t m k (Known b mine f) is)) (by_bool (is_withdrawn f)
+    (λ came. keeps_withdrawn b mine f (theirs_at m k) _ _ _ came (verdict t m k (Known b mine f) is) (withdraws b mine f (fin.get m k) came))
+    (λ free. changed mine is free (sym (ap (λ r. r || is_changed (Known b mine f)) free) ∙ edited)))
+  where
+    changed : (mine : Option Content) (is : entry_of t k ≡ Some (Known b mine f)) → is_withdrawn f ≡ false → is_changed (Known b mine f) ≡ true
+        → Keeps (Known b mine f) (ends (verdict t m k (Known b mine f) is) (Known b mine f) (theirs_at m k) (is_held t m k (Known b mine f) is) (is_wanted t m k (Known b mine f) is) (is_named t m k (Known b mine f) is))
+    changed None is free changes = keeps_deleted b f (theirs_at m k) _ _ _ free (verdict t m k (Known b None f) is) (spares b None f (fin.get m k) free changes)
+    changed (Some c) is free changes = keeps_living b c f (theirs_at m k) _ _ _ free (verdict t m k (Known b (Some c) f) is) (spares b (Some c) f (fin.get m k) free changes) (lost t m k (Known b (Some c) f) is)
+
+-- what stays is kept
+pub same_kept : (e : Entry) (after : Option Entry) → after ≡ Some e → Keeps e after
+same_kept e after is = subst (Keeps e) (sym is) (inl (refl, refl))
+
+module _ (t : TableValue) (k : Key) (e : Entry) (is : entry_of t k ≡ Some e) where
+  tested : (o : Option Refusal) (u : TableValue) (p : Option Refusal) → Keeps e (entry_of u k) → Keeps e (entry_of (answered t (o >> (p >> Ok (done u)))).table k)
+  tested (Some r) u p h = same_kept e (entry_of t k) is
+  tested None u (Some r) h = same_kept e (entry_of t k) is
+  tested None u None h = h
+
+  -- What was edited is kept in a download.
+  pub merge_keeps : (told : ToldValue) (limit : ℕ) → is_edited e ≡ true → Keeps e (entry_of (plain (job.Merge told) t limit).table k)
+  merge_keeps told limit edited = tested (clash_test t told.told) (merged t told.told) (room_test limit (merged t told.told)) (merged_keeps t told.told k e is edited)

@@ -1,0 +1,31 @@
+pub mod SeenLists
+pub mod SeenKeeping
+pub mod SeenContents
+pub mod SeenPieces
+pub mod SeenJobs
+pub mod SeenSteps
+pub mod SeenMergedSides
+pub mod SeenMergedKeys
+pub mod SeenMerging
+pub mod KeptConfirming
+pub mod KeptJobs
+pub mod KeptJoins
+pub mod KeptMerges
+pub mod KeptOwns
+pub mod KeptRuns
+pub mod KeptSending
+pub mod TextTags
+pub mod TextContents
+pub mod TextEntries
+pub mod TextMerging
+pub mod TextJobs
+pub mod TextSteps
+pub mod TextReadable
+pub mod TextFiles
+pub mod TextResuming
+pub mod TextConfirming
+pub mod TextScripts
+pub mod TextCity
+mod SeenExamples
+mod KeptExamples
+mod TextExamples

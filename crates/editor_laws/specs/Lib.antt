@@ -1,0 +1,11 @@
+pub mod Bases
+pub mod Editing
+pub mod Telling
+pub mod Answered
+pub mod Kept
+pub mod Listed
+pub mod Named
+pub mod Parts
+pub mod Sent
+pub mod Steps
+pub mod Texts

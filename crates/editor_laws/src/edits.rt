@@ -1,0 +1,62 @@
+//! What each step leaves of what was edited here.
+ghost use Rattle.std.specs.Prelude.{◌≡◌, ℕ, List, [], false, None};
+ghost use Rattle.osm_base.specs.declared.key.Key.{Key};
+ghost use Rattle.osm_base.specs.declared.content.Content.{Content};
+ghost use Rattle.osm_table.specs.Table.{TableValue};
+ghost use Rattle.osm_table.specs.Told.{ToldEntries};
+ghost use Rattle.dataset.specs.Sound.{IsSound};
+ghost use Rattle.tool_api.specs.declared.job.Job.{Job};
+ghost use Rattle.tool_api.specs.Merged.{merged};
+ghost use Rattle.edit_history.specs.declared.edit_step.EditStep.{EditStep};
+ghost use Rattle.edit_history.specs.Machine.{State};
+ghost use Rattle.editor_laws.specs.Editing.{is_merge};
+ghost use Rattle.upload_order.specs.Refused.{upload_refusal};
+ghost use Rattle.placeholder.specs.Laws.{FairAnswers};
+ghost use Rattle.editor_laws.specs.Answered.{AnswerKeeps, EachAnswer};
+ghost use Rattle.editor_laws.specs.Kept.{KeepsAllIn};
+ghost use Rattle.editor_laws.specs.Listed.{Leaves, lists};
+ghost use Rattle.editor_laws.specs.Named.{LeavesOwn, names};
+ghost use Rattle.editor_laws.specs.Parts.{JoinKeepsParts};
+ghost use Rattle.editor_laws.specs.Sent.{SendsEdits, SendsNoMore};
+ghost use Rattle.editor_laws.specs.Steps.{EachStep, IsFromSound, KeepsEdits};
+
+use merge_cases::each_tag_is_picked;
+
+/// Law: what a job doesn't list is as it was, if the job takes in no download.
+pub fn jobs_leave_others()
+    ensures { (j : Job) (t : TableValue) (limit : ℕ) (k : Key) → IsSound t → is_merge j ≡ false → lists j t k ≡ false → Leaves j t limit k }
+{}
+
+/// Law: what a job lists and doesn't name keeps its base, its conflict and its tags, unless it goes with what an erase names.
+pub fn jobs_leave_own()
+    ensures { (j : Job) (t : TableValue) (limit : ℕ) (k : Key) → IsSound t → is_merge j ≡ false → names j t k ≡ false → LeavesOwn j t limit k }
+{}
+
+/// Law: what was edited in a table is kept in the table with a download merged into it.
+pub fn merges_keep_edits()
+    ensures { (t : TableValue) (m : ToldEntries) → KeepsAllIn t (merged t m) }
+{}
+
+/// Law: no edit is lost in a run. Each step keeps each edited object, but those that it says it changes or forgets.
+pub fn runs_keep_edits()
+    ensures step { (limit : ℕ) (step : EditStep) (s : State) → IsSound s.now → KeepsEdits limit step s }
+    ensures run { (limit : ℕ) (steps : List EditStep) (s : State) → EachStep IsFromSound limit steps s → EachStep (KeepsEdits limit) limit steps s }
+{}
+
+/// Law: the answers of a server to first changes of a plan keep what was edited, one after the other, under the ids that it gave.
+pub fn answers_keep_edits()
+    ensures { (t : TableValue) (a : FairAnswers t) → EachAnswer AnswerKeeps [] t a.changes a.ids }
+{}
+
+/// Law: the plan of an upload brings all that is edited, and nothing else.
+pub fn uploads_send_edits()
+    ensures all { (t : TableValue) → IsSound t → upload_refusal t ≡ None → SendsEdits t }
+    ensures only { (t : TableValue) → IsSound t → upload_refusal t ≡ None → SendsNoMore t }
+{}
+
+/// Law: what is joined of three contents keeps each part that mine has otherwise than the base.
+pub fn joins_keep_parts()
+    ensures { (base mine theirs : Content) → JoinKeepsParts base mine theirs }
+{
+    each_tag_is_picked();
+}

@@ -1,0 +1,3 @@
+pub mod MergeLaws
+pub mod MergeOutcomes
+pub mod SplitPieces

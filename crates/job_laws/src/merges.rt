@@ -1,0 +1,35 @@
+//! What holds of merged tables.
+ghost use Rattle.std.specs.Prelude.{◌≡◌, false};
+ghost use Rattle.osm_base.specs.declared.key.Key.{Key};
+ghost use Rattle.osm_table.specs.Table.{TableValue, entry_of, IsThere};
+ghost use Rattle.osm_table.specs.Told.{ToldEntries, IsToldMap};
+ghost use Rattle.dataset.specs.Sound.{IsSound};
+ghost use Rattle.tool_api.specs.Closing.{in_conflict};
+ghost use Rattle.tool_api.specs.Merged.{merged};
+ghost use Rattle.job_laws.specs.MergeLaws.{IsUntold, KeepsChanges, KeepsDeletions, Stays, ends_in_conflict};
+ghost use Rattle.job_laws.specs.MergeOutcomes.{final_at, is_named};
+
+/// Law: a sound table with a download merged into it is sound, and has what is said of each key.
+pub fn merged_is_sound()
+    ensures sound { (t : TableValue) (m : ToldEntries) → IsSound t → IsToldMap m → IsSound (merged t m) }
+    ensures entries { (t : TableValue) (m : ToldEntries) (k : Key) → entry_of (merged t m) k ≡ final_at t m k }
+{}
+
+/// Law: where nothing is told of an object, it is as before if it is there, and if nothing refers to it in the end.
+pub fn untold_stays()
+    ensures there { (t : TableValue) (m : ToldEntries) (k : Key) → IsUntold m k → IsThere (entry_of t k) → Stays t m k }
+    ensures unnamed { (t : TableValue) (m : ToldEntries) (k : Key) → IsUntold m k → is_named t m k ≡ false → Stays t m k }
+{}
+
+/// Law: after a merge just those objects are in conflict that were about to go and are held, that are wanted, or that
+/// their case leaves in conflict.
+pub fn conflicts_of_merges()
+    ensures { (t : TableValue) (m : ToldEntries) (k : Key) → IsSound t → IsToldMap m → in_conflict (entry_of (merged t m) k) ≡ ends_in_conflict t m k }
+{}
+
+/// Law: a download never takes the place of an edit. An object that was changed here and lives keeps its content, or has
+/// what is joined of both sides'; one that was deleted here is still deleted, or is in conflict.
+pub fn edits_stay()
+    ensures changes { (t : TableValue) (m : ToldEntries) → IsSound t → KeepsChanges t m }
+    ensures deletions { (t : TableValue) (m : ToldEntries) → IsSound t → KeepsDeletions t m }
+{}

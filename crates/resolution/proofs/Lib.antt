@@ -1,3 +1,0 @@
-pub mod Pushed
-mod Parts
-mod Examples

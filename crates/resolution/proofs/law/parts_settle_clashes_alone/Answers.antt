@@ -1,5 +1,0 @@
-use Rattle.resolution.proofs.Parts.{parts_joined}
-use Rattle.resolution.proofs.law.parts_settle_clashes_alone.Goals as goal
-
-pub returns : goal.returns
-returns c = parts_joined
