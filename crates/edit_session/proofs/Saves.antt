@@ -18,7 +18,7 @@ use Rattle.edit_script.specs.Place.{is_meeting}
 use Rattle.edit_script.specs.Script.{steps_of}
 use Rattle.editor_laws.specs.Texts.{IsTextTable}
 use Rattle.editor_laws.proofs.TextReadable.{readable}
-use Rattle.editor_laws.proofs.TextScripts.{IfSteps, StepsBringTexts, script_brings}
+use Rattle.edit_session.proofs.ScriptTexts.{IfSteps, StepsBringTexts, script_brings}
 use Rattle.edit_session.specs.declared.files.Fetched.{Fetched}
 use Rattle.edit_session.specs.declared.files.Fetched.TheVariants.{Missing, TooLong, Whole}
 use Rattle.edit_session.specs.declared.limits.Limits.{Limits}

@@ -17,7 +17,7 @@ use Rattle.many_editors.specs.Serving.{objects_served}
 use Rattle.many_editors.specs.States.{world_of}
 use Rattle.editor_laws.specs.Texts.{IsTextTable}
 use Rattle.editor_laws.proofs.TextFiles.{IsTextObject}
-use Rattle.editor_laws.proofs.TextScripts.{ActBringsTexts, StepsBringTexts}
+use Rattle.edit_session.proofs.ScriptTexts.{ActBringsTexts, StepsBringTexts}
 use Rattle.many_editors.specs.Texts.{IsTextEditor, IsTextMeeting}
 use Rattle.many_editors.proofs.MeetingTexts.{answered_texts, at_texts, fetch_texts, send_texts, served_texts}
 use Rattle.edit_session.specs.declared.limits.Limits.{Limits}

@@ -38,7 +38,7 @@ use Rattle.editor_laws.proofs.TextConfirming.{LeadsToTexts, confirm_texts, diff_
 use Rattle.editor_laws.proofs.TextFiles.{IsTextObject, filtered_texts, read_texts}
 use Rattle.editor_laws.proofs.TextJobs.{job_keeps}
 use Rattle.editor_laws.proofs.TextResuming.{HasTable, saved_texts}
-use Rattle.editor_laws.proofs.TextScripts.{ActBringsTexts, StepsBringTexts}
+use Rattle.edit_session.proofs.ScriptTexts.{ActBringsTexts, StepsBringTexts}
 use Rattle.editor_laws.proofs.TextSteps.{steps_keep}
 use Rattle.edit_session.specs.declared.files.Fetched.{Fetched}
 use Rattle.edit_session.specs.declared.files.Fetched.TheVariants.{Missing, TooLong, Whole}

@@ -24,7 +24,6 @@ pub mod TextReadable
 pub mod TextFiles
 pub mod TextResuming
 pub mod TextConfirming
-pub mod TextScripts
 pub mod TextCity
 mod SeenExamples
 mod KeptExamples
