@@ -1,5 +1,5 @@
 -- A run up to a step: what its steps were given, and what holds whatever the others are given.
-use Rattle.std.proofs.Common.{◌≡◌, ℕ, ◌+◌, ◌<◌, ◌≤◌, Bool, true, false, List, [], ◌∷◌, ◌++◌, Option, IfSome, Result, Ok, Err, sym, ap, ◌∙◌, subst, append_assoc, drop, take, get_or, length, refl, zero, suc, arith, if◌then◌else◌}
+use Rattle.std.proofs.Common.{◌≡◌, ℕ, ◌+◌, ◌<◌, ◌≤◌, Bool, false, List, [], ◌∷◌, ◌++◌, Option, IfSome, Ok, Err, sym, ap, ◌∙◌, subst, append_assoc, drop, take, get_or, length, refl, suc, arith, if◌then◌else◌}
 use Rattle.std.proofs.lemmas.List.{drop_all}
 use Rattle.std.proofs.lemmas.List.Elements.{All-nil, All-cons}
 use Rattle.std.specs.Io.KnownBytes.{Appends}
@@ -20,7 +20,7 @@ use Rattle.edit_session.specs.Load.{found_in}
 use Rattle.edit_session.specs.Meet.{Seat}
 use Rattle.edit_session.specs.Met.{AreMet, IsMet}
 use Rattle.edit_session.specs.Runs.{AreSound, Promised, Ran, Reached}
-use Rattle.edit_session.specs.Session.{states_before, texts, output, first_output, run, met, meetings}
+use Rattle.edit_session.specs.Session.{states_before, texts, output, first_output, run, met}
 use Rattle.edit_session.specs.Turn.{turn, step_turn, turn_text, step_text}
 use Rattle.edit_session.specs.Uploads.{IsUpload}
 use Rattle.edit_session.proofs.Gives.{on_files, rest_given, closes, none_yet, first_files}

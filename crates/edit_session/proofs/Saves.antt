@@ -1,6 +1,5 @@
 -- Each save of a run writes a text that is read back as the very table.
 use Rattle.std.proofs.Common.{◌≡◌, ◌≤◌, ℕ, Bool, true, false, if◌then◌else◌, List, [], ◌∷◌, map, Result, Ok, Err, refl, sym, ap, ◌∙◌}
-use Rattle.std.specs.List.{All}
 use Rattle.std.specs.FinMap as fin
 use Rattle.std.proofs.lemmas.List.Elements.{All-nil, All-cons, All-head, All-tail}
 use Rattle.dataset.specs.Diff.{diff}
@@ -31,7 +30,7 @@ use Rattle.edit_session.specs.Runs.{AreSound}
 use Rattle.edit_session.specs.Saves.{AreSaves, IsSaved}
 use Rattle.edit_session.specs.Session.{met, run, states_before, steps_in, steps_read}
 use Rattle.edit_session.specs.Meet.{first_seat, own_machine}
-use Rattle.edit_session.specs.Settled.{of_saved, resumed}
+use Rattle.edit_session.specs.Settled.{of_saved}
 use Rattle.edit_session.specs.Turn.{Turn, done_turn, looked, resume_turn, settled_turn, skipped_turn, step_turn, still_turn, turn, turn_text}
 use Rattle.many_editors.proofs.MeetingTexts as meetings
 use Rattle.edit_session.proofs.SeatTexts.{seats_texts}

@@ -1,7 +1,7 @@
 -- The tables of a meeting script have texts that may be written.
 use Rattle.std.proofs.Common.{ℕ, zero, suc, Bool, true, false, is_some, if◌then◌else◌, List, [], ◌∷◌, drop, get_or, map, Option, None, Some, refl}
 use Rattle.std.specs.Prelude.{slice_get}
-use Rattle.std.specs.List.{All, AllByRecursion}
+use Rattle.std.specs.List.{AllByRecursion}
 use Rattle.std.proofs.lemmas.List.Elements.{All-nil, All-cons}
 use Rattle.osm_base.specs.declared.key.Key.{Key}
 use Rattle.opl_line.specs.declared.object.OplObject.{OplObject}

@@ -49,7 +49,7 @@ use Rattle.edit_session.specs.Groups.{is_given_up}
 use Rattle.edit_session.specs.Load.{act_found, bytes_found, found_in, job_found, objects_found}
 use Rattle.edit_session.specs.Fetch.{reading}
 use Rattle.edit_session.specs.Given.{Given, first_given}
-use Rattle.edit_session.specs.Session.{run, states_before}
+use Rattle.edit_session.specs.Session.{states_before}
 use Rattle.edit_session.specs.Settled.{confirmed, of_answers, of_saved, resumed}
 use Rattle.edit_session.proofs.NewTexts.{new_texts}
 use Rattle.edit_session.specs.Turn.{Turn, act_turn, confirm_turn, file_turn, job_turn, resume_turn, settled_turn, skipped_turn, step_turn, turn}
