@@ -1,24 +1,16 @@
 //! A session with a tool for each verb.
 //!
-//! `run_editor` makes the tools in their boxes and hands them to `run_session`, whose clauses it has, with the verbs of all
+//! `run_editor` makes the tools in their boxes and hands them to `run_session`, whose clause it has, with the verbs of all
 //! commands in place of those of the boxes. There is a box of each verb for each of the four editors that a meeting may have,
 //! so no step misses its tool. A box can't be handed out by the function that makes it, so the shelf and the sink come in
 //! from above, of whatever kind.
 //!
 //! To add a tool of a new verb: its two lines here, the verb in `specs/Verbs` and `proofs/EachVerb`, and what is answered for its
 //! four boxes.
-ghost use Rattle.std.specs.Prelude.{◌≡◌, ◌≢◌, ◌≤◌, ◌⊎◌, ◌++◌, None, IfSome, IfOk, OnErr, map, string_bytes};
-ghost use Rattle.osm_outside.specs.Outside.{Rose};
-ghost use Rattle.command_line.specs.Words.{command_of};
+ghost use Rattle.std.specs.Prelude.{◌≡◌, ◌++◌, IfOk, OnErr, map, string_bytes};
 ghost use Rattle.tool_api.specs.declared.verb.Verb.{Verb};
 ghost use Rattle.edit_history.specs.Trail.{KeepNothing};
-ghost use Rattle.edit_session.specs.Confirms.{AreConfirmedOf};
-ghost use Rattle.edit_session.specs.Met.{AreMetOf};
-ghost use Rattle.edit_session.specs.Runs.{Runs};
-ghost use Rattle.edit_session.specs.Said.{AreKeptOf};
-ghost use Rattle.edit_session.specs.Saves.{AreSavesOf};
-ghost use Rattle.edit_session.specs.Session.{outcome, Agrees, IsAsked, IsEarly};
-ghost use Rattle.edit_session.specs.Uploads.{AreUploadsOf};
+ghost use Rattle.edit_session.specs.Right.{outside, IsRight};
 ghost use Rattle.edit_session.specs.Verbs.{IsNew, IsOfFour, four_of, four_of_each};
 
 use crate::session::run_session;
@@ -46,48 +38,10 @@ pub fn run_editor<S: Shelf, K: Sink>(
     shelf: &mut S,
     out: &mut K,
 ) -> Result<Status, AllocError>
-    // Whatever the reads give, also if a file changes meanwhile: the status is that of the outcome of just what they gave, and
-    // the sink took its text; after a fault or want of memory it took a front of the text.
-    ensures runs { IfOk result (Runs (S.told shelf.old) four_of_each (map string_bytes words.now) (K.taken out.old) (K.taken out.new)) }
-    // Where the shelf tells its files, the status is that of the outcome and the sink took its text; after a fault
-    // or want of memory it took a front of the text.
-    ensures outcome { IfOk result (λ status. IfSome (S.told shelf.old) (λ files. Agrees (K.taken out.old) (K.taken out.new) status (outcome four_of_each (map string_bytes words.now) files))) }
-    ensures read { IfOk result (λ status. status ≡ Status.ReadFault → Rose (S.faults shelf.old) (S.faults shelf.new)) }
-    ensures write { IfOk result (λ status. status ≡ Status.WriteFault → Rose (K.faults out.old) (K.faults out.new)) }
-    // No fault is passed over: with any other answer no read and no write failed.
-    ensures read_quiet { IfOk result (λ status. status ≢ Status.ReadFault → S.faults shelf.new ≡ S.faults shelf.old) }
-    ensures write_quiet { IfOk result (λ status. status ≢ Status.WriteFault → K.faults out.new ≡ K.faults out.old) }
-    // Words that ask for nothing are bad, unless no memory is left, and then nothing is read or written. No others are.
-    ensures words { IfOk result (λ status. status ≡ Status.BadWords → command_of (map string_bytes words.now) ≡ None) }
-    ensures bad_words { IfOk result (λ status. command_of (map string_bytes words.now) ≡ None → (status ≡ Status.BadWords) ⊎ (status ≡ Status.Memory)) }
-    ensures unread { command_of (map string_bytes words.now) ≡ None → (shelf.new ≡ shelf.old) × (out.new ≡ out.old) }
-    // Until the steps run nothing is written, and whether there is a script is what the shelf answered.
-    ensures unwritten { IfOk result (λ status. IsEarly status → out.new ≡ out.old) }
-    ensures asked { IfOk result (IsAsked (S.begun shelf.new)) }
-    ensures told { IfOk result (λ _. S.told shelf.new ≡ S.told shelf.old) }
-    ensures later { IfOk result (λ _. (S.faults shelf.old ≤ S.faults shelf.new) × (K.faults out.old ≤ K.faults out.new)) }
+    // Right in all that `IsRight` names, with four tools of each verb.
+    ensures right { IfOk result (IsRight four_of_each (map string_bytes words.now) (outside S.told S.begun S.faults K.taken K.faults shelf.old out.old) (outside S.told S.begun S.faults K.taken K.faults shelf.new out.new)) }
     // No step misses its tool.
     ensures tools { (verb : Verb) → IfOk result (λ status. status ≡ Status.NoTool verb → ⊥) }
-    // It doesn't give up by itself, but for memory.
-    ensures complete { IfOk result (λ status. IfSome (S.told shelf.old) (λ files. (outcome four_of_each (map string_bytes words.now) files).0 ≡ Status.Done
-        → (Rose (S.faults shelf.old) (S.faults shelf.new) → ⊥) → (Rose (K.faults out.old) (K.faults out.new) → ⊥)
-        → (status ≡ Status.Done) ⊎ (status ≡ Status.Memory))) }
-    // Each upload of the run replies ok exactly where nothing refuses the plan of the table. Its text is then the changes in
-    // chunks, and each sound server that has the bases, and nothing else that refers to what is deleted, takes each prefix of
-    // them whatever fresh ids it picks, and has the edited data after the last.
-    ensures uploads { IfOk result (λ status. status ≡ Status.Done → IfSome (S.told shelf.old) (λ files. AreUploadsOf (command_of (map string_bytes words.now)) files)) }
-    // Each save of the run writes a text that is read back as the very table, and from which a `resume` goes on with it.
-    ensures saves { IfOk result (λ status. status ≡ Status.Done → IfSome (S.told shelf.old) (λ files. AreSavesOf (command_of (map string_bytes words.now)) files)) }
-    // Each confirmation of the run by which a server tells what it took of the plan is taken, and from the table after it the
-    // upload goes on: its plan is what was left.
-    ensures confirms { IfOk result (λ _. IfSome (S.told shelf.old) (λ files. AreConfirmedOf (command_of (map string_bytes words.now)) files)) }
-    // In a meeting nothing is overwritten unseen: the server is sound before and after each step, each base in each table of each
-    // editor is what the server had in one of its states, each positive key of it stands at the server, each change of a send
-    // that the server accepts finds there what the editor's table has as base, and no fetch is refused as a version clash.
-    ensures meetings { IfOk result (λ status. status ≡ Status.Done → IfSome (S.told shelf.old) (λ files. AreMetOf (command_of (map string_bytes words.now)) files)) }
-    // No edit is lost: each step of the run, outside of meetings, keeps what is wanted of each edited object of which it doesn't say
-    // that it changes or forgets it.
-    ensures keeps { IfOk result (λ status. status ≡ Status.Done → IfSome (S.told shelf.old) (λ files. AreKeptOf (command_of (map string_bytes words.now)) files)) }
     ensures err { OnErr result ((shelf.new ≡ shelf.old) × (out.new ≡ out.old)) }
 {
     let tools = no_boxes(alloc);

@@ -8,7 +8,9 @@ ghost use Rattle.std.specs.Prelude.{◌≡◌, ◌⊎◌, None, IfOk, map, strin
 ghost use Rattle.std.specs.Process.{exit_status};
 ghost use Rattle.command_line.specs.Words.{command_of};
 ghost use Rattle.tool_api.specs.declared.verb.Verb.{Verb};
+ghost use Rattle.edit_session.specs.Right.{IsRightOfSome};
 ghost use Rattle.edit_session.specs.StatusText.{number_of};
+ghost use Rattle.edit_session.specs.Verbs.{four_of_each};
 
 use edit_session::{Status, run_editor};
 use osm_outside::{HostShelf, HostSink};
@@ -46,6 +48,8 @@ fn words(rt: &HostRuntime) -> io::Result<Vec<String>> {
 
 // Over the files of the folder, and standard output.
 fn run_with(rt: &HostRuntime, words: &[String]) -> Result<Status, AllocError>
+    // Right in all that `IsRight` names, of the shelf and the sink that are made here.
+    ensures right { IfOk result (IsRightOfSome four_of_each (map string_bytes words.now)) }
     ensures words { IfOk result (λ status. status ≡ Status.BadWords → command_of (map string_bytes words.now) ≡ None) }
     ensures bad_words { IfOk result (λ status. command_of (map string_bytes words.now) ≡ None → (status ≡ Status.BadWords) ⊎ (status ≡ Status.Memory)) }
     ensures tools { (verb : Verb) → IfOk result (λ status. status ≡ Status.NoTool verb → ⊥) }

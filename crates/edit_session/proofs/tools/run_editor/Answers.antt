@@ -1,14 +1,10 @@
-use Rattle.std.proofs.Common.{◌≡◌, ◌⊎◌, ◌∙◌, IfSome, map, string_bytes, refl, subst}
-use Rattle.osm_outside.specs.Outside.{Rose}
+use Rattle.std.proofs.Common.{◌∙◌, map, string_bytes, refl}
 use Rattle.tool_api.specs.declared.verb.Verb.{Verb}
 use Rattle.tool_api.specs.declared.verb.Verb.TheVariants.{Add, Tag, Move, Change, Delete, Erase, Purge, Split, Combine, Reverse, Merge, Import, Resolve, Squeeze, Fuse}
-use Rattle.edit_session.specs.declared.status.Status.TheVariants as status
-use Rattle.edit_session.specs.Runs.{Runs}
-use Rattle.edit_session.specs.Session.{outcome, Agrees}
-use Rattle.edit_session.specs.Needs.{Misses}
 use Rattle.edit_session.specs.Verbs.{IsNew}
 use Rattle.edit_session.specs.contracts.tools.with_four.{dyn-1-ghosts}
 use Rattle.edit_session.proofs.EachVerb.{all_made, none_missed}
+use Rattle.edit_session.proofs.Right.{with_verbs}
 use Rattle.edit_session.proofs.tools.run_editor.OwnLists.{own-1, lawful-own-1, at-1-1, at-1-2, at-1-3, at-1-4, at-1-5, at-1-6, at-1-7, at-1-8, at-1-9, at-1-10, at-1-11, at-1-12, at-1-13, at-1-14, at-1-15}
 use Rattle.edit_session.proofs.tools.run_editor.Goals as goal
 use denote.Param.Object.{Made, read_made}
@@ -67,26 +63,13 @@ with_four-requires-14-clause-new g c = (is_new at-1-14 Squeeze _ _ _ c.into_dyn_
 pub with_four-requires-15-clause-new : goal.with_four-requires-15-clause-new
 with_four-requires-15-clause-new g c = (is_new at-1-15 Fuse _ _ _ c.into_dyn_box-57.ensures.1 c.in_ok-first-15.ensures.first, is_new at-1-15 Fuse _ _ _ c.into_dyn_box-58.ensures.1 c.in_ok-first-15.ensures.second, is_new at-1-15 Fuse _ _ _ c.into_dyn_box-59.ensures.1 c.in_ok-first-15.ensures.third, is_new at-1-15 Fuse _ _ _ c.into_dyn_box-60.ensures.1 c.in_ok-first-15.ensures.fourth)
 
-pub returns-clause-runs : goal.returns-clause-runs
-returns-clause-runs g c =
-    let all = all_made c.no_boxes-tools.ensures.kinds c.in_ok-tools.ensures.kinds c.in_ok-tools-2.ensures.kinds c.in_ok-tools-3.ensures.kinds c.in_ok-tools-4.ensures.kinds c.in_ok-tools-5.ensures.kinds c.in_ok-tools-6.ensures.kinds c.in_ok-tools-7.ensures.kinds c.in_ok-tools-8.ensures.kinds c.in_ok-tools-9.ensures.kinds c.in_ok-tools-10.ensures.kinds c.in_ok-tools-11.ensures.kinds c.in_ok-tools-12.ensures.kinds c.in_ok-tools-13.ensures.kinds c.in_ok-tools-14.ensures.kinds c.in_ok-tools-15.ensures.kinds in
-    subst (λ verbs. Runs (g.S.Shelf.told c.args.shelf.now) verbs (map string_bytes c.args.words.now) (g.K.Sink.taken c.args.out.now) (g.K.Sink.taken c.run_session.new.out) c.run_session.result) all
-    c.run_session.ensures.runs
-
-pub returns-clause-outcome : goal.returns-clause-outcome
-returns-clause-outcome g c =
-    let all = all_made c.no_boxes-tools.ensures.kinds c.in_ok-tools.ensures.kinds c.in_ok-tools-2.ensures.kinds c.in_ok-tools-3.ensures.kinds c.in_ok-tools-4.ensures.kinds c.in_ok-tools-5.ensures.kinds c.in_ok-tools-6.ensures.kinds c.in_ok-tools-7.ensures.kinds c.in_ok-tools-8.ensures.kinds c.in_ok-tools-9.ensures.kinds c.in_ok-tools-10.ensures.kinds c.in_ok-tools-11.ensures.kinds c.in_ok-tools-12.ensures.kinds c.in_ok-tools-13.ensures.kinds c.in_ok-tools-14.ensures.kinds c.in_ok-tools-15.ensures.kinds in
-    subst (λ verbs. IfSome (g.S.Shelf.told c.args.shelf.now) (λ files. Agrees (g.K.Sink.taken c.args.out.now) (g.K.Sink.taken c.run_session.new.out) c.run_session.result (outcome verbs (map string_bytes c.args.words.now) files))) all
-    c.run_session.ensures.outcome
+pub returns-clause-right : goal.returns-clause-right
+returns-clause-right g c =
+    let all = all_made c.no_boxes-tools.ensures.kinds c.in_ok-tools.ensures.kinds c.in_ok-tools-2.ensures.kinds c.in_ok-tools-3.ensures.kinds
+    c.in_ok-tools-4.ensures.kinds c.in_ok-tools-5.ensures.kinds c.in_ok-tools-6.ensures.kinds c.in_ok-tools-7.ensures.kinds
+    c.in_ok-tools-8.ensures.kinds c.in_ok-tools-9.ensures.kinds c.in_ok-tools-10.ensures.kinds c.in_ok-tools-11.ensures.kinds
+    c.in_ok-tools-12.ensures.kinds c.in_ok-tools-13.ensures.kinds c.in_ok-tools-14.ensures.kinds c.in_ok-tools-15.ensures.kinds in
+    with_verbs _ _ (map string_bytes c.args.words.now) _ _ c.run_session.result all c.run_session.ensures.right
 
 pub returns-clause-tools : goal.returns-clause-tools
-returns-clause-tools g c =
-    let all = all_made c.no_boxes-tools.ensures.kinds c.in_ok-tools.ensures.kinds c.in_ok-tools-2.ensures.kinds c.in_ok-tools-3.ensures.kinds c.in_ok-tools-4.ensures.kinds c.in_ok-tools-5.ensures.kinds c.in_ok-tools-6.ensures.kinds c.in_ok-tools-7.ensures.kinds c.in_ok-tools-8.ensures.kinds c.in_ok-tools-9.ensures.kinds c.in_ok-tools-10.ensures.kinds c.in_ok-tools-11.ensures.kinds c.in_ok-tools-12.ensures.kinds c.in_ok-tools-13.ensures.kinds c.in_ok-tools-14.ensures.kinds c.in_ok-tools-15.ensures.kinds in
-    λ verb missed. none_missed verb (subst (λ verbs. Misses verbs verb) all (c.run_session.ensures.no_tool verb missed))
-
-pub returns-clause-complete : goal.returns-clause-complete
-returns-clause-complete g c =
-    let all = all_made c.no_boxes-tools.ensures.kinds c.in_ok-tools.ensures.kinds c.in_ok-tools-2.ensures.kinds c.in_ok-tools-3.ensures.kinds c.in_ok-tools-4.ensures.kinds c.in_ok-tools-5.ensures.kinds c.in_ok-tools-6.ensures.kinds c.in_ok-tools-7.ensures.kinds c.in_ok-tools-8.ensures.kinds c.in_ok-tools-9.ensures.kinds c.in_ok-tools-10.ensures.kinds c.in_ok-tools-11.ensures.kinds c.in_ok-tools-12.ensures.kinds c.in_ok-tools-13.ensures.kinds c.in_ok-tools-14.ensures.kinds c.in_ok-tools-15.ensures.kinds in
-    subst (λ verbs. IfSome (g.S.Shelf.told c.args.shelf.now) (λ files. (outcome verbs (map string_bytes c.args.words.now) files).0 ≡ status.Done
-    → (Rose (g.S.Shelf.faults c.args.shelf.now) (g.S.Shelf.faults c.run_session.new.shelf) → ⊥) → (Rose (g.K.Sink.faults c.args.out.now) (g.K.Sink.faults c.run_session.new.out) → ⊥)
-    → (c.run_session.result ≡ status.Done) ⊎ (c.run_session.result ≡ status.Memory))) all c.run_session.ensures.complete
+returns-clause-tools g c = λ verb missed. none_missed verb ((returns-clause-right g c).no_tool verb missed)

@@ -1,0 +1,169 @@
+-- A session is right, whether it came to its end or stopped.
+use Rattle.std.proofs.Common.{◌≡◌, ◌⊎◌, inl, inr, ℕ, Bool, List, Option, None, Some, IfSome, Result, Ok, Err, refl, ap, subst}
+use Rattle.osm_outside.specs.Outside.{Rose}
+use Rattle.command_line.specs.Words.{command_of}
+use Rattle.tool_api.specs.declared.verb.Verb.{Verb}
+use Rattle.edit_session.specs.declared.status.Status.{Status}
+use Rattle.edit_session.specs.declared.status.Status.TheVariants as status
+use Rattle.edit_session.specs.declared.stop.Stop.{Stop}
+use Rattle.edit_session.specs.declared.stop.Stop.TheVariants as stops
+use Rattle.edit_session.specs.Needs.{Misses}
+use Rattle.edit_session.specs.Right.{IsRight, IsRightOfSome, Outside}
+use Rattle.edit_session.specs.Session.{outcome, IsAsked, IsEarly, IsEnd, IsStop, StopCause}
+use Rattle.edit_session.specs.StopStatus.{status_of}
+use Rattle.edit_session.proofs.Words.{ComesTo, agrees_over, confirms_over, done_over, keeps_over, meetings_over, runs_ended, runs_stopped, saves_over, uploads_over}
+
+-- what words that ask for nothing come to
+abbrev IsBad : Result Status Stop → Type 0
+IsBad result = (result ≡ Ok status.BadWords) ⊎ (result ≡ Err stops.Memory)
+
+bad_ended : (answer : Status) → IsBad (Ok answer) → (answer ≡ status.BadWords) ⊎ (answer ≡ status.Memory)
+bad_ended answer (inl is) = inl cc
+bad_ended answer (inr is) = absurd cc
+
+bad_stopped : (stop : Stop) → IsBad (Err stop) → (status_of stop ≡ status.BadWords) ⊎ (status_of stop ≡ status.Memory)
+bad_stopped stop (inl is) = absurd cc
+bad_stopped stop (inr is) = inr cc
+
+-- The status of a stop is that of a fault or of want of memory,
+is_stop : (stop : Stop) → IsStop (status_of stop)
+is_stop stops.ReadFault = tt
+is_stop stops.WriteFault = tt
+is_stop stops.Memory = tt
+
+not_early : (stop : Stop) → IsEarly (status_of stop) → ⊥
+not_early stops.ReadFault early = early
+not_early stops.WriteFault early = early
+not_early stops.Memory early = early
+
+nothing_asked : (begun : Bool) (stop : Stop) → IsAsked begun (status_of stop)
+nothing_asked begun stops.ReadFault = tt
+nothing_asked begun stops.WriteFault = tt
+nothing_asked begun stops.Memory = tt
+
+-- and of the very stop that it tells.
+abbrev stopped : Stop → Result Status Stop
+stopped stop = Err stop
+
+same_stop : (a b : Stop) → stopped a ≡ stopped b → a ≡ b
+same_stop a b is = cc
+
+read_told : (stop : Stop) → status_of stop ≡ status.ReadFault → stop ≡ stops.ReadFault
+read_told stops.ReadFault is = refl
+read_told stops.WriteFault is = absurd cc
+read_told stops.Memory is = absurd cc
+
+write_told : (stop : Stop) → status_of stop ≡ status.WriteFault → stop ≡ stops.WriteFault
+write_told stops.ReadFault is = absurd cc
+write_told stops.WriteFault is = refl
+write_told stops.Memory is = absurd cc
+
+-- Where no call failed, what stopped it is want of memory.
+by_memory : (stop : Stop) (R W : Type 0) → (stop ≡ stops.ReadFault → R) → (stop ≡ stops.WriteFault → W) → (R → ⊥) → (W → ⊥) → status_of stop ≡ status.Memory
+by_memory stops.ReadFault R W read write no_read no_write = absurd (no_read (read refl))
+by_memory stops.WriteFault R W read write no_read no_write = absurd (no_write (write refl))
+by_memory stops.Memory R W read write no_read no_write = refl
+
+of_any : {T : Type 0} (o : Option T) (P : T → Type 0) → ((x : T) → P x) → IfSome o P
+of_any None P all = tt
+of_any (Some x) P all = all x
+
+module _ {S K : Type 0} (verbs : List Verb) (words : List (List ℕ)) (before after : Outside S K) where
+  pub right_ended : (answer : Status) → IsEnd answer → ComesTo before.files verbs words before.text after.text (Ok answer)
+      → StopCause {T = Status} before.read_faults after.read_faults before.write_faults after.write_faults (Ok answer)
+      → after.files ≡ before.files → (IsEarly answer → after.sink ≡ before.sink) → IsAsked after.begun answer
+      → ((verb : Verb) → answer ≡ status.NoTool verb → Misses verbs verb) → (answer ≡ status.BadWords → command_of words ≡ None)
+      → (command_of words ≡ None → IsBad (Ok answer)) → (command_of words ≡ None → (after.shelf ≡ before.shelf) × (after.sink ≡ before.sink))
+      → IsRight verbs words before after answer
+  right_ended answer end comes cause told unwritten asked no_tool bad bad_is unread =
+      let ran = runs_ended before.files verbs words before.text after.text answer end comes in
+      record {
+        runs = ran;
+        outcome = agrees_over before.files verbs words before.text after.text answer ran;
+        complete = done_over (Rose before.read_faults after.read_faults → ⊥) (Rose before.write_faults after.write_faults → ⊥) before.files verbs words before.text after.text answer comes;
+        read = λ is. absurd (subst IsEnd is end);
+        write = λ is. absurd (subst IsEnd is end);
+        read_quiet = λ other. cause.read_quiet (λ is. cc);
+        write_quiet = λ other. cause.write_quiet (λ is. cc);
+        later = (cause.read_later, cause.write_later);
+        words = bad;
+        bad_words = λ none. bad_ended answer (bad_is none);
+        unread = unread;
+        unwritten = unwritten;
+        asked = asked;
+        told = told;
+        no_tool = no_tool;
+        uploads = uploads_over before.files verbs words before.text after.text answer ran;
+        saves = saves_over before.files verbs words before.text after.text answer ran;
+        confirms = confirms_over before.files words;
+        meetings = meetings_over before.files verbs words before.text after.text answer ran;
+        keeps = keeps_over before.files verbs words before.text after.text answer ran;
+      }
+
+  pub right_stopped : (stop : Stop) → ComesTo before.files verbs words before.text after.text (Err stop)
+      → StopCause {T = Status} before.read_faults after.read_faults before.write_faults after.write_faults (Err stop)
+      → after.files ≡ before.files → (command_of words ≡ None → IsBad (Err stop)) → (command_of words ≡ None → (after.shelf ≡ before.shelf) × (after.sink ≡ before.sink))
+      → IsRight verbs words before after (status_of stop)
+  right_stopped stop comes cause told bad_is unread =
+      let ran = runs_stopped before.files verbs words before.text after.text stop comes in
+      record {
+        runs = ran;
+        outcome = agrees_over before.files verbs words before.text after.text (status_of stop) ran;
+        complete = of_any before.files (λ files. (outcome verbs words files).0 ≡ status.Done
+            → (Rose before.read_faults after.read_faults → ⊥) → (Rose before.write_faults after.write_faults → ⊥) → (status_of stop ≡ status.Done) ⊎ (status_of stop ≡ status.Memory))
+            (λ files done no_read no_write. inr (by_memory stop (Rose before.read_faults after.read_faults) (Rose before.write_faults after.write_faults)
+            (λ is. cause.read (ap Err is)) (λ is. cause.write (ap Err is)) no_read no_write));
+        read = λ is. cause.read (ap Err (read_told stop is));
+        write = λ is. cause.write (ap Err (write_told stop is));
+        read_quiet = λ other. cause.read_quiet (λ is. other (ap status_of (same_stop stop stops.ReadFault is)));
+        write_quiet = λ other. cause.write_quiet (λ is. other (ap status_of (same_stop stop stops.WriteFault is)));
+        later = (cause.read_later, cause.write_later);
+        words = λ is. absurd (subst IsStop is (is_stop stop));
+        bad_words = λ none. bad_stopped stop (bad_is none);
+        unread = unread;
+        unwritten = λ early. absurd (not_early stop early);
+        asked = nothing_asked after.begun stop;
+        told = told;
+        no_tool = λ verb is. absurd (subst IsStop is (is_stop stop));
+        uploads = uploads_over before.files verbs words before.text after.text (status_of stop) ran;
+        saves = saves_over before.files verbs words before.text after.text (status_of stop) ran;
+        confirms = confirms_over before.files words;
+        meetings = meetings_over before.files verbs words before.text after.text (status_of stop) ran;
+        keeps = keeps_over before.files verbs words before.text after.text (status_of stop) ran;
+      }
+
+-- The verbs are those of the tools, however they are told.
+pub with_verbs : {S K : Type 0} (verbs others : List Verb) (words : List (List ℕ)) (before after : Outside S K) (answer : Status) → verbs ≡ others → IsRight verbs words before after answer → IsRight others words before after answer
+with_verbs verbs others words before after answer same right = subst (λ vs. IsRight vs words before after answer) same right
+
+-- What is told of a shelf and a sink is told of them without their names.
+abbrev unnamed : {S K : Type 0} → Outside S K → Outside (Unit {0}) (Unit {0})
+unnamed at = record { shelf = tt; sink = tt; files = at.files; begun = at.begun; text = at.text; read_faults = at.read_faults; write_faults = at.write_faults }
+
+pub of_some : {S K : Type 0} (verbs : List Verb) (words : List (List ℕ)) (before after : Outside S K) (answer : Status) → IsRight verbs words before after answer → IsRightOfSome verbs words answer
+of_some verbs words before after answer right = (
+  unnamed before,
+  unnamed after,
+  record {
+    runs = right.runs;
+    outcome = right.outcome;
+    complete = right.complete;
+    read = right.read;
+    write = right.write;
+    read_quiet = right.read_quiet;
+    write_quiet = right.write_quiet;
+    later = right.later;
+    words = right.words;
+    bad_words = right.bad_words;
+    unread = λ none. (refl, refl);
+    unwritten = λ early. refl;
+    asked = right.asked;
+    told = right.told;
+    no_tool = right.no_tool;
+    uploads = right.uploads;
+    saves = right.saves;
+    confirms = right.confirms;
+    meetings = right.meetings;
+    keeps = right.keeps;
+  },
+)

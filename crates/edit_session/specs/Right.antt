@@ -1,0 +1,94 @@
+-- What is promised of a whole session, whatever its words, its script and its files.
+--
+-- For example with the words `editor s`, where no file is called s, the status is `NoScript`: the shelf answered that s isn't
+-- there, no call failed, and nothing was written.
+use Rattle.std.specs.Prelude.{◌≡◌, ◌≢◌, ◌≤◌, ◌⊎◌, ℕ, Bool, List, Option, None, IfSome}
+use Rattle.osm_outside.specs.Outside.{Shelved, Rose}
+use Rattle.command_line.specs.Words.{command_of}
+use Rattle.tool_api.specs.declared.verb.Verb.{Verb}
+use Rattle.edit_session.specs.declared.status.Status.{Status}
+use Rattle.edit_session.specs.declared.status.Status.TheVariants as status
+use Rattle.edit_session.specs.Confirms.{AreConfirmedOf}
+use Rattle.edit_session.specs.Met.{AreMetOf}
+use Rattle.edit_session.specs.Needs.{Misses}
+use Rattle.edit_session.specs.Runs.{Runs}
+use Rattle.edit_session.specs.Said.{AreKeptOf}
+use Rattle.edit_session.specs.Saves.{AreSavesOf}
+use Rattle.edit_session.specs.Session.{outcome as outcome_of, Agrees, IsAsked, IsEarly}
+use Rattle.edit_session.specs.Uploads.{AreUploadsOf}
+
+-- The shelf and the sink at one moment, with what they tell: the files, whether one of them was begun, the text taken, and how
+-- often a call of each failed.
+pub record Outside (S K : Type 0) : Type 0 where
+  pub shelf : S
+  pub sink : K
+  pub files : Option Shelved
+  pub begun : Bool
+  pub text : Option (List ℕ)
+  pub read_faults : ℕ
+  pub write_faults : ℕ
+
+-- a shelf and a sink that tell it so
+abbrev pub outside : {S K : Type 0} → (told : S → Option Shelved) (begun : S → Bool) (read_faults : S → ℕ) (taken : K → Option (List ℕ)) (write_faults : K → ℕ) → S → K → Outside S K
+outside told begun read_faults taken write_faults shelf sink = record {
+  shelf = shelf;
+  sink = sink;
+  files = told shelf;
+  begun = begun shelf;
+  text = taken sink;
+  read_faults = read_faults shelf;
+  write_faults = write_faults sink;
+}
+
+-- What is right of a session with tools of these verbs, asked for by these words, that found the shelf and the sink so, left them
+-- so, and answered this status. Each field is a promise of its own.
+pub record IsRight {S K : Type 0} (verbs : List Verb) (asked_for : List (List ℕ)) (before after : Outside S K) (answer : Status) : Type 0 where
+  -- Whatever the reads gave, also if a file changed meanwhile: the status is that of the outcome of just what they gave, and
+  -- the sink took its text; after a fault or want of memory it took a front of the text.
+  pub runs : Runs before.files verbs asked_for before.text after.text answer
+  -- Where the shelf tells its files, the status is that of the outcome and the sink took its text; after a fault
+  -- or want of memory it took a front of the text.
+  pub outcome : IfSome before.files (λ files. Agrees before.text after.text answer (outcome_of verbs asked_for files))
+  -- It doesn't give up by itself, but for memory.
+  pub complete : IfSome before.files (λ files. (outcome_of verbs asked_for files).0 ≡ status.Done
+      → (Rose before.read_faults after.read_faults → ⊥) → (Rose before.write_faults after.write_faults → ⊥)
+      → (answer ≡ status.Done) ⊎ (answer ≡ status.Memory))
+  -- A fault is told only where a call failed.
+  pub read : answer ≡ status.ReadFault → Rose before.read_faults after.read_faults
+  pub write : answer ≡ status.WriteFault → Rose before.write_faults after.write_faults
+  -- No fault is passed over: with any other answer no read and no write failed.
+  pub read_quiet : answer ≢ status.ReadFault → after.read_faults ≡ before.read_faults
+  pub write_quiet : answer ≢ status.WriteFault → after.write_faults ≡ before.write_faults
+  -- No count of faults falls.
+  pub later : (before.read_faults ≤ after.read_faults) × (before.write_faults ≤ after.write_faults)
+  -- Words that ask for nothing are bad, unless no memory is left, and then nothing is read or written. No others are.
+  pub words : answer ≡ status.BadWords → command_of asked_for ≡ None
+  pub bad_words : command_of asked_for ≡ None → (answer ≡ status.BadWords) ⊎ (answer ≡ status.Memory)
+  pub unread : command_of asked_for ≡ None → (after.shelf ≡ before.shelf) × (after.sink ≡ before.sink)
+  -- Until the steps run nothing is written, and whether there is a script is what the shelf answered.
+  pub unwritten : IsEarly answer → after.sink ≡ before.sink
+  pub asked : IsAsked after.begun answer
+  -- What the shelf tells of its files stays.
+  pub told : after.files ≡ before.files
+  -- A tool is missed only where a script misses it: fewer boxes have its verb than the number of an editor that needs it.
+  pub no_tool : (verb : Verb) → answer ≡ status.NoTool verb → Misses verbs verb
+  -- Each upload of the run replies ok exactly where nothing refuses the plan of the table. Its text is then the changes in
+  -- chunks, and each sound server that has the bases, and nothing else that refers to what is deleted, takes each prefix of
+  -- them whatever fresh ids it picks, and has the edited data after the last.
+  pub uploads : answer ≡ status.Done → IfSome before.files (AreUploadsOf (command_of asked_for))
+  -- Each save of the run writes a text that is read back as the very table, and from which a `resume` goes on with it.
+  pub saves : answer ≡ status.Done → IfSome before.files (AreSavesOf (command_of asked_for))
+  -- Each confirmation of the run by which a server tells what it took of the plan is taken, and from the table after it the
+  -- upload goes on: its plan is what was left.
+  pub confirms : IfSome before.files (AreConfirmedOf (command_of asked_for))
+  -- In a meeting nothing is overwritten unseen: the server is sound before and after each step, each base in each table of each
+  -- editor is what the server had in one of its states, each positive key of it stands at the server, each change of a send
+  -- that the server accepts finds there what the editor's table has as base, and no fetch is refused as a version clash.
+  pub meetings : answer ≡ status.Done → IfSome before.files (AreMetOf (command_of asked_for))
+  -- No edit is lost: each step of the run, outside of meetings, keeps what is wanted of each edited object of which it doesn't say
+  -- that it changes or forgets it.
+  pub keeps : answer ≡ status.Done → IfSome before.files (AreKeptOf (command_of asked_for))
+
+-- It is right of some shelf and some sink: of those of a program, which makes its own and shows them to nobody.
+abbrev pub IsRightOfSome : List Verb → List (List ℕ) → Status → Type 0
+IsRightOfSome verbs asked_for answer = (before : Outside (Unit {0}) (Unit {0})) × (after : Outside (Unit {0}) (Unit {0})) × IsRight verbs asked_for before after answer
