@@ -1,0 +1,99 @@
+"""Tests of what reads definitions (definitions.py) and logs of a proof (axioms): `python3 -m unittest bench.check.test_programs`."""
+import importlib.machinery
+import importlib.util
+import pathlib
+import tempfile
+import unittest
+
+from bench.check import definitions
+
+HERE = pathlib.Path(__file__).resolve().parent
+
+
+def loaded(name):
+    """A program of this folder, as a module."""
+    loader = importlib.machinery.SourceFileLoader(name, str(HERE / name))
+    module = importlib.util.module_from_spec(importlib.util.spec_from_loader(name, loader))
+    loader.exec_module(module)
+    return module
+
+
+axioms = loaded('axioms')
+VERDICT = 'logic=proved functions=8 axioms={} target=x86_64-unknown-linux-gnu cpu=x86-64-v2 sum=0 native=nat,char,string\n'
+
+
+def log_of(names):
+    """What a check with --list-axioms prints of a program that reaches these calls."""
+    return ''.join('  {}   reached\n'.format(name) for name in sorted(names)) + '  libc::access\n' + VERDICT.format(len(names))
+
+
+class Logs(unittest.TestCase):
+    known = axioms.names(axioms.MET) | axioms.names(axioms.UNMET)
+
+    def test_all_calls(self):
+        self.assertEqual([], list(axioms.log_faults(log_of(self.known))))
+
+    def test_one_more(self):
+        self.assertIn("the tables haven't libc::system", list(axioms.log_faults(log_of(self.known | {'libc::system'}))))
+
+    def test_one_less(self):
+        self.assertIn("the program doesn't reach libc::read", list(axioms.log_faults(log_of(self.known - {'libc::read'}))))
+
+    def test_short_log(self):
+        short = 'axioms libc: libc::chdir, libc::chmod, libc::chown, ... (29 of the 128 declared)\n'
+        self.assertEqual([], list(axioms.log_faults(short + VERDICT.format(len(self.known)))))
+        self.assertEqual(['it has libc::system'], list(axioms.log_faults(short.replace('chmod', 'system') + VERDICT.format(len(self.known)))))
+
+    def test_unproved(self):
+        self.assertEqual(['it has no verdict on a program'], list(axioms.log_faults('fn main: open\n')))
+
+
+SPECS = '''use Rattle.std.specs.Prelude.{◌≡◌, List as Row}
+use Rattle.std.specs.FinMap as fin
+-- a remark
+abbrev pub first : Row → ℕ
+first [] = 0
+
+pub record Pair : Type 0 where
+  -- of a field
+  pub left : ℕ
+'''
+KIT_SPECS = '''pub use Rattle.core.specs.Option.{is_some}
+module _ {K : Type 0} where
+  pub get : K → ℕ
+  get k = 0
+
+pub record Bag (K : Type 0) : Type 0 where
+  list : List K
+pub plain : Bag → ℕ
+plain b = 1
+'''
+
+
+class Files(unittest.TestCase):
+    def file_of(self, text, make):
+        with tempfile.TemporaryDirectory() as folder:
+            path = pathlib.Path(folder) / 'Some.antt'
+            path.write_text(text)
+            return make(path, pathlib.Path(folder))
+
+    def test_definitions_of_the_repository(self):
+        path = definitions.CRATES / 'osm_base' / 'specs' / 'Rank.antt'
+        rank = definitions.Specs(path).own['rank_cmp']
+        self.assertEqual(('osm_base', 'crates/osm_base/specs/Rank.antt'), (rank.crate, rank.file))
+        self.assertTrue(all(not line.lstrip().startswith('--') for line in rank.text.split('\n')))
+
+    def test_what_a_file_takes(self):
+        file = self.file_of(SPECS, lambda path, home: definitions.File(path, home, 'some'))
+        self.assertEqual(('std.specs.Prelude', 'List'), file.names['Row'])
+        self.assertEqual('std.specs.FinMap', file.aliases['fin'])
+        self.assertIn('≡', file.names)
+
+    def test_definitions_of_the_toolkit(self):
+        file = self.file_of(KIT_SPECS, lambda path, home: definitions.KitSpecs(path, home, 'core'))
+        self.assertEqual({'get': 2, 'Bag': 2, 'plain': 2}, {name: made.lines for name, made in file.own.items()})
+        self.assertEqual(('core.specs.Option', 'is_some'), file.names['is_some'])
+
+
+if __name__ == '__main__':
+    unittest.main()
