@@ -72,6 +72,16 @@ def layers(_):
     agrees('layers')
 
 
+@case('each crate has its entry, with the line of `bench/check/crates` and names that there are')
+def entries(_):
+    agrees('crates')
+
+
+@case('the tables of calls that are assumed of the system are those of `bench/check/axioms`, and the crates name no other')
+def assumed(_):
+    agrees('axioms')
+
+
 @case('each picture of docs/pictures is as `bench/pictures` makes it, and can be read')
 def pictures(_):
     done = subprocess.run([TOP / 'bench' / 'pictures'], stdout=subprocess.PIPE, stderr=subprocess.STDOUT, text=True)
