@@ -1,5 +1,6 @@
 """The pages as a reader meets them: names of files, links, length, and how far it is to what somebody looks for."""
 import functools
+import os
 import re
 import shutil
 import subprocess
@@ -9,7 +10,7 @@ from bench.check import counted
 from bench.check.page_checks.case import case, expect, finds_fault
 from bench.check.page_checks.entries import HEADS, NEEDED, entries
 from bench.check.page_checks.page import (FRONT, MOST_WORDS, OTHERS, PAGES, TOP, Block, Wrong, headings, lines_of, link_of, links, links_lead,
-                                          shows_its_name, tables, text_of, words, writes_whole)
+                                          shows_its_name, tables, text_of, told, words, writes_whole)
 from bench.check.page_checks.room import Room
 from launcher import main as launcher, manual
 
@@ -137,6 +138,22 @@ def ways_out():
 @case('the way out of each refusal is two links from the first page at most')
 def ways_out_near(_):
     expect([], [number for number, pages in ways_out().items() if nearest(pages) > FARTHEST])
+
+
+@case('each picture of docs/pictures is named by a page, with a text in its place where it is shown')
+def pictures_shown(_):
+    shown = {link.target for page in PAGES for link in links(page)}
+    expect([], [str(path.relative_to(TOP)) for path in sorted((TOP / 'docs' / 'pictures').glob('*')) if str(path.relative_to(TOP)) not in shown])
+    expect([], ['{}, line {}'.format(page, number) for page in PAGES for number, line in told(page) if '![](' in line])
+
+
+@case('pages name each program of bench/')
+def programs_named(_):
+    text = '\n'.join(line for page in PAGES for line in lines_of(page))
+    programs = [path for folder in ('bench', 'bench/check', 'bench/time', 'bench/model', 'bench/wrong') for path in sorted((TOP / folder).iterdir())
+                if path.is_file() and os.access(path, os.X_OK) and path.suffix != '.py']
+    expect([], [str(path.relative_to(TOP)) for path in programs
+                if not re.search(r'{}\b|`{}(?: [^`]*)?`'.format(re.escape(str(path.relative_to(TOP))), path.name), text)])
 
 
 # ---- length ----
