@@ -43,8 +43,8 @@ outside told begun read_faults taken write_faults shelf sink = record {
 -- What is right of a session with tools of these verbs, asked for by these words, that found the shelf and the sink so, left them
 -- so, and answered this status. Each field is a promise of its own.
 pub record IsRight {S K : Type 0} (verbs : List Verb) (asked_for : List (List ℕ)) (before after : Outside S K) (answer : Status) : Type 0 where
-  -- Whatever the reads gave, also if a file changed meanwhile: the status is that of the outcome of just what they gave, and
-  -- the sink took its text; after a fault or want of memory it took a front of the text.
+  -- There is a list of what the reads may have given, also if a file changed meanwhile, for which the status is that of the
+  -- outcome and the sink took its text; after a fault or want of memory it took a front of the text.
   pub runs : Runs before.files verbs asked_for before.text after.text answer
   -- Where the shelf tells its files, the status is that of the outcome and the sink took its text; after a fault
   -- or want of memory it took a front of the text.
@@ -89,6 +89,7 @@ pub record IsRight {S K : Type 0} (verbs : List Verb) (asked_for : List (List �
   -- that it changes or forgets it.
   pub keeps : answer ≡ status.Done → IfSome before.files (AreKeptOf (command_of asked_for))
 
--- It is right of some shelf and some sink: of those of a program, which makes its own and shows them to nobody.
+-- It is right of some shelf and some sink. A function that makes its own and shows them to nobody can say no more: that they are
+-- the ones that it handed on stands in its body alone.
 abbrev pub IsRightOfSome : List Verb → List (List ℕ) → Status → Type 0
 IsRightOfSome verbs asked_for answer = (before : Outside (Unit {0}) (Unit {0})) × (after : Outside (Unit {0}) (Unit {0})) × IsRight verbs asked_for before after answer

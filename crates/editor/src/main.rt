@@ -48,7 +48,7 @@ fn words(rt: &HostRuntime) -> io::Result<Vec<String>> {
 
 // Over the files of the folder, and standard output.
 fn run_with(rt: &HostRuntime, words: &[String]) -> Result<Status, AllocError>
-    // Right in all that `IsRight` names, of the shelf and the sink that are made here.
+    // Right in all that `IsRight` names, of some shelf and some sink: no clause can name those that are made here.
     ensures right { IfOk result (IsRightOfSome four_of_each (map string_bytes words.now)) }
     ensures words { IfOk result (λ status. status ≡ Status.BadWords → command_of (map string_bytes words.now) ≡ None) }
     ensures bad_words { IfOk result (λ status. command_of (map string_bytes words.now) ≡ None → (status ≡ Status.BadWords) ⊎ (status ≡ Status.Memory)) }
