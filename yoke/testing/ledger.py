@@ -170,14 +170,19 @@ class Ledger:
             for part, value in difference(parts(new and new.base), mine).items():
                 self.wishes[key, part] = Wish(value, old.theirs.version)
 
-    def refreshed(self, session: Session) -> None:
-        """Takes in a merge: what somebody else did alike is done. Failed where the session has edits that nobody made."""
+    def refreshed(self, session: Session, before: Optional[Session] = None) -> None:
+        """Takes in a merge: what somebody else did alike is done. Failed where the session has edits that nobody made.
+
+        What the server took and didn't answer is an edit of the session still: with the session `before`, what was an edit there is none
+        that nobody made."""
         for (key, part), wish in list(self.wishes.items()):
             known = session.get(key)
             if known and known.base and known.conflict == 'none' and self.renamed(parts(known.base).get(part)) == self.renamed(wish.value):
                 del self.wishes[key, part]
         for key, known in session.items():
-            extra = [part for part in difference(parts(known.base), parts(known.mine)) if (key, part) not in self.wishes]
+            was = (before or {}).get(key)
+            made = difference(parts(was.base), parts(was.mine)) if was else {}
+            extra = [part for part in difference(parts(known.base), parts(known.mine)) if (key, part) not in self.wishes and part not in made]
             if known.conflict == 'none' and extra:
                 raise Failed('the session has edits of {} that nobody made: {}'.format(key, extra))
 

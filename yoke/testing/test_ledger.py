@@ -206,6 +206,11 @@ class Refreshed(LedgerTest):
     def test_what_others_did_is_no_edit(self):
         self.assert_fails('the session has edits of n1 that nobody made: [\'tag name\']', self.ledger.refreshed, session(own('n1', NAMED)))
 
+    def test_what_is_taken_and_not_answered_is_an_edit_still(self):
+        edited = session(own('n1', NAMED))
+        self.ledger.refreshed(edited, edited)
+        self.assert_fails('the session has edits of n1 that nobody made: [\'tag name\']', self.ledger.refreshed, edited, session(gone('n3')))
+
     def test_a_withdrawn_deletion_waits_for_its_resolve(self):
         self.edited(gone('n3'))
         self.ledger.kept(session('known n3 live same withdrawn\nbase {0}\ntheirs {0}\n'.format(BASE['n3'])))
