@@ -5,7 +5,7 @@
 //! for each subject. Each case has its words, its files and, after them, what is expected of it, written from the rules of
 //! the formats (`case_files` says how). It prints `ok` and the name of each run that came as expected, else both texts,
 //! and then it ends with an error. A case more, and a bundle more, needs no code and no proof, and its lines of `stdout`,
-//! which `bench/cases` writes.
+//! which `bench/check/cases` writes.
 #![tactic(auto)]
 
 mod poor;
