@@ -27,7 +27,7 @@ use Rattle.merge_cases.specs.declared.verdict.Verdict.{Verdict}
 use Rattle.merge_cases.specs.declared.verdict.Verdict.TheVariants.{Stay, Mention, Take, Clash, Keep, Candidate, Settle, Join, Dispute}
 use Rattle.merge_cases.specs.Case.{verdict_of}
 use Rattle.tool_api.specs.Staged.{stage_of, verdict_at, theirs_at, theirs_told, staged, is_candidate, refers_by, against, bared}
-use Rattle.merge_tool.specs.Passes.{Gives, IsPassed, noted, new_bared, early, has_untold_user, is_going, left}
+use Rattle.merge_tool.specs.Passes.{Gives, IsPassed, noted, new_bared, early, is_resting, has_resting_user, is_going, left}
 use Rattle.job_laws.proofs.MergeRows.{theirs_by, verdict_by}
 use Rattle.job_laws.proofs.MergeFitting.{there}
 use Rattle.merge_tool.proofs.Appends.{has_more}
@@ -51,17 +51,17 @@ pub uses_at : (o : Option Entry) (k : Key) → option_map_or (λ e. uses e k) o 
 uses_at None k = refl
 uses_at (Some e) k = refl
 
--- what an object refers to that isn't told of is there
-pub used_there : (t : TableValue) (m : ToldEntries) → IsSound t → (k : Key) → has_untold_user t m k ≡ true → IsThere (entry_of t k)
+-- what an object refers to that is left as it is was there before
+pub used_there : (t : TableValue) (m : ToldEntries) → IsSound t → (k : Key) → has_resting_user t m k ≡ true → IsThere (entry_of t k)
 used_there t m sound k h =
-    let f = some_of is_key key_itself one_key (λ u. not (is_some (fin.get m u))) (users t k) h in
+    let f = some_of is_key key_itself one_key (is_resting t m) (users t k) h in
     there t m sound f.0 k (entry_of t f.0) refl (sym (uses_at (entry_of t f.0) k) ∙ sym (user_uses t k f.0) ∙ f.1)
 
 -- so an entry of the table stays
-pub early_stays : (t : TableValue) (m : ToldEntries) → IsSound t → (k : Key) → bared (has_untold_user t m k) (entry_of t k) ≡ entry_of t k
-early_stays t m sound k = by (has_untold_user t m k) refl
+pub early_stays : (t : TableValue) (m : ToldEntries) → IsSound t → (k : Key) → bared (has_resting_user t m k) (entry_of t k) ≡ entry_of t k
+early_stays t m sound k = by (has_resting_user t m k) refl
   where
-    by : (b : Bool) → has_untold_user t m k ≡ b → bared b (entry_of t k) ≡ entry_of t k
+    by : (b : Bool) → has_resting_user t m k ≡ b → bared b (entry_of t k) ≡ entry_of t k
     by true e = bared_kept true (entry_of t k) (used_there t m sound k e)
     by false e = bared_none (entry_of t k)
 
@@ -81,30 +81,30 @@ bared_some n (Known b None f) = by (n && not (is_some (held_by (known_base b f))
 -- one key more
 module _ (t : TableValue) (m : ToldEntries) (sound : IsSound t) (k : Key) (o new : Option Entry) (look : o ≡ entry_of t k) (g : Gives o (stage_of t m k).entry new) where
   stays : new ≡ None → early t m k ≡ entry_of t k
-  stays n = ap (bared (has_untold_user t m k)) (subst (Gives o (stage_of t m k).entry) n g ∙ look) ∙ early_stays t m sound k
+  stays n = ap (bared (has_resting_user t m k)) (subst (Gives o (stage_of t m k).entry) n g ∙ look) ∙ early_stays t m sound k
 
-  pub passed_more : (u w : TableValue) (ks : List Key) → IsPassed (entry_of t) (early t m) ks u → w ≡ noted u k (new_bared (has_untold_user t m k) new) → IsPassed (entry_of t) (early t m) (ks ++ k ∷ []) w
+  pub passed_more : (u w : TableValue) (ks : List Key) → IsPassed (entry_of t) (early t m) ks u → w ≡ noted u k (new_bared (has_resting_user t m k) new) → IsPassed (entry_of t) (early t m) (ks ++ k ∷ []) w
   passed_more u w ks before step q =
       ap (λ (x : TableValue). entry_of x q) step ∙ by new g refl (is_key q k) (has is_key ks q) refl (before q)
       ∙ ap (λ b. cond b (early t m q) (entry_of t q)) (sym (has_more ks k q))
     where
       by : (n : Option Entry) → Gives o (stage_of t m k).entry n → new ≡ n → (b a : Bool) → is_key q k ≡ b → entry_of u q ≡ cond a (early t m q) (entry_of t q)
-          → entry_of (noted u k (new_bared (has_untold_user t m k) n)) q ≡ cond (a || b) (early t m q) (entry_of t q)
+          → entry_of (noted u k (new_bared (has_resting_user t m k) n)) q ≡ cond (a || b) (early t m q) (entry_of t q)
       by None h is true true e f = f
       by None h is true false e f = f ∙ ap (entry_of t) (one_key q k e) ∙ sym (stays is) ∙ sym (ap (early t m) (one_key q k e))
       by None h is false true e f = f
       by None h is false false e f = f
       by (Some x) h is b a e f =
-          noted_at u k (bared (has_untold_user t m k) (Some x)) q (bared_some (has_untold_user t m k) x)
+          noted_at u k (bared (has_resting_user t m k) (Some x)) q (bared_some (has_resting_user t m k) x)
           ∙ put b a e f
         where
-          put : (b a : Bool) → is_key q k ≡ b → entry_of u q ≡ cond a (early t m q) (entry_of t q) → cond (is_key q k) (bared (has_untold_user t m k) (Some x)) (entry_of u q) ≡ cond (a || b) (early t m q) (entry_of t q)
-          put true a e f = ap (λ c. cond c (bared (has_untold_user t m k) (Some x)) (entry_of u q)) e ∙ ap (bared (has_untold_user t m k)) (sym h) ∙ sym (ap (early t m) (one_key q k e)) ∙ over a
+          put : (b a : Bool) → is_key q k ≡ b → entry_of u q ≡ cond a (early t m q) (entry_of t q) → cond (is_key q k) (bared (has_resting_user t m k) (Some x)) (entry_of u q) ≡ cond (a || b) (early t m q) (entry_of t q)
+          put true a e f = ap (λ c. cond c (bared (has_resting_user t m k) (Some x)) (entry_of u q)) e ∙ ap (bared (has_resting_user t m k)) (sym h) ∙ sym (ap (early t m) (one_key q k e)) ∙ over a
             where
               over : (a : Bool) → early t m q ≡ cond (a || true) (early t m q) (entry_of t q)
               over true = refl
               over false = refl
-          put false a e f = ap (λ c. cond c (bared (has_untold_user t m k) (Some x)) (entry_of u q)) e ∙ f ∙ same a
+          put false a e f = ap (λ c. cond c (bared (has_resting_user t m k) (Some x)) (entry_of u q)) e ∙ f ∙ same a
             where
               same : (a : Bool) → cond a (early t m q) (entry_of t q) ≡ cond (a || false) (early t m q) (entry_of t q)
               same true = refl
@@ -122,7 +122,7 @@ passed_all t m u sound h each q = h q ∙ ap (λ b. cond b (early t m.told q) (e
     by (Some x) i = ap (λ (s : Option Told). cond (is_some s) (early t m.told q) (entry_of t q)) i
     by None i =
         ap (λ (s : Option Told). cond (is_some s) (early t m.told q) (entry_of t q)) i
-        ∙ sym (ap (λ (s : Option Told). bared (has_untold_user t m.told q) (staged (verdict_by (entry_of t q) s) (entry_of t q) (theirs_by s))) i ∙ early_stays t m.told sound q)
+        ∙ sym (ap (λ (s : Option Told). bared (has_resting_user t m.told q) (staged (verdict_by (entry_of t q) s) (entry_of t q) (theirs_by s))) i ∙ early_stays t m.told sound q)
 
 -- What is left of a candidate.
 

@@ -14,17 +14,17 @@ use Rattle.dataset.specs.Sound.{IsSound}
 use Rattle.closure.specs.Closure.{has}
 use Rattle.tool_api.specs.Staged.{stage_of, theirs_at, lost_of, against, back, bared}
 use Rattle.tool_api.specs.Merged.{both_keys, named_by_firm, named_by_wanted, named_by_held, wanted, held, named, final}
-use Rattle.merge_tool.specs.Passes.{early, firm_refs, is_going, has_untold_user, left}
+use Rattle.merge_tool.specs.Passes.{early, renewed_refs, is_going, has_resting_user, left}
 use Rattle.job_laws.proofs.MergeStand.{wanted_lost}
 use Rattle.merge_tool.proofs.Bareds.{bared_twice, bared_lost}
-use Rattle.merge_tool.proofs.Untolds.{same_bool, named_by_told, names_are, told_firm, untold_firm, firm_parts}
+use Rattle.merge_tool.proofs.Namers.{same_bool, named_by_renewed, names_are, renewed_firm, resting_firm, firm_parts}
 use Rattle.merge_tool.proofs.WantedEnds.{lost_same}
 use Rattle.merge_tool.proofs.HeldEnds.{stays}
 
 -- What the passes found and made, in their order.
 pub record Passed (t : TableValue) (m : ToldValue) (u0 u2 u3 u5 : TableValue) (ns cs ws xs hs : List Key) : Type 0 where
   pub staged : (k : Key) → entry_of u0 k ≡ early t m.told k
-  pub names : ns ≡ flat_map (firm_refs t m.told) m.order
+  pub names : ns ≡ flat_map (renewed_refs t m.told) m.order
   pub going : (k : Key) → has is_key cs k ≡ is_going t m.told k
   pub wants : (k : Key) → has is_key ws k ≡ has is_key (wanted (stage_of t m.told) (both_keys t m.told)) k
   pub late : (k : Key) → has is_key xs k ≡ named_by_wanted (stage_of t m.told) (both_keys t m.told) k
@@ -35,13 +35,13 @@ pub record Passed (t : TableValue) (m : ToldValue) (u0 u2 u3 u5 : TableValue) (n
 
 module _ (t : TableValue) (m : ToldValue) (sound : IsSound t) (each : (k : Key) → list_any (is_key k) m.order ≡ is_some (told_at m k))
     (u0 u2 u3 u5 : TableValue) (names set wants late holds : List Key) (p : Passed t m u0 u2 u3 u5 names set wants late holds) where
-  told : (k : Key) → has is_key names k ≡ named_by_told t m sound each k
+  told : (k : Key) → has is_key names k ≡ named_by_renewed t m sound each k
   told = names_are t m sound each names p.names
 
   -- all names together
-  all_named : (k : Key) → (((has_untold_user t m.told k || has is_key names k) || has is_key late k) || named_by_held (stage_of t m.told) (both_keys t m.told) k) ≡ named (stage_of t m.told) (both_keys t m.told) k
+  all_named : (k : Key) → (((has_resting_user t m.told k || has is_key names k) || has is_key late k) || named_by_held (stage_of t m.told) (both_keys t m.told) k) ≡ named (stage_of t m.told) (both_keys t m.told) k
   all_named k =
-      ap (λ b. ((has_untold_user t m.told k || has is_key names k) || b) || named_by_held (stage_of t m.told) (both_keys t m.told) k) (p.late k)
+      ap (λ b. ((has_resting_user t m.told k || has is_key names k) || b) || named_by_held (stage_of t m.told) (both_keys t m.told) k) (p.late k)
       ∙ ap (λ b. (b || named_by_wanted (stage_of t m.told) (both_keys t m.told) k) || named_by_held (stage_of t m.told) (both_keys t m.told) k) firm
       ∙ turned (named_by_firm (stage_of t m.told) (both_keys t m.told) k) (named_by_wanted (stage_of t m.told) (both_keys t m.told) k) (named_by_held (stage_of t m.told) (both_keys t m.told) k)
     where
@@ -49,25 +49,25 @@ module _ (t : TableValue) (m : ToldValue) (sound : IsSound t) (each : (k : Key) 
       turned true b c = refl
       turned false b c = refl
 
-      there : (has_untold_user t m.told k ≡ true) ⊎ (has is_key names k ≡ true) → named_by_firm (stage_of t m.told) (both_keys t m.told) k ≡ true
-      there (inl e) = untold_firm t m sound each k e
-      there (inr e) = told_firm t m sound each k (sym (told k) ∙ e)
+      there : (has_resting_user t m.told k ≡ true) ⊎ (has is_key names k ≡ true) → named_by_firm (stage_of t m.told) (both_keys t m.told) k ≡ true
+      there (inl e) = resting_firm t m sound each k e
+      there (inr e) = renewed_firm t m sound each k (sym (told k) ∙ e)
 
-      gone_back : (named_by_told t m sound each k ≡ true) ⊎ (has_untold_user t m.told k ≡ true) → (has_untold_user t m.told k || has is_key names k) ≡ true
+      gone_back : (named_by_renewed t m sound each k ≡ true) ⊎ (has_resting_user t m.told k ≡ true) → (has_resting_user t m.told k || has is_key names k) ≡ true
       gone_back (inl e) = or_right _ _ (told k ∙ e)
       gone_back (inr e) = or_left _ _ e
 
-      firm : (has_untold_user t m.told k || has is_key names k) ≡ named_by_firm (stage_of t m.told) (both_keys t m.told) k
-      firm = same_bool _ _ (λ h. there (or_cases (has_untold_user t m.told k) (has is_key names k) h)) (λ h. gone_back (firm_parts t m sound each k h))
+      firm : (has_resting_user t m.told k || has is_key names k) ≡ named_by_firm (stage_of t m.told) (both_keys t m.told) k
+      firm = same_bool _ _ (λ h. there (or_cases (has_resting_user t m.told k) (has is_key names k) h)) (λ h. gone_back (firm_parts t m sound each k h))
 
   stood_is : (k : Key) → entry_of u3 k ≡ bared (named (stage_of t m.told) (both_keys t m.told) k) (stage_of t m.told k).entry
   stood_is k =
       p.stood k
       ∙ ap (bared (named_by_held (stage_of t m.told) (both_keys t m.told) k)) (p.came k
       ∙ ap (λ (o : Option Entry). bared (has is_key late k) (bared (has is_key names k) o)) (p.staged k)
-      ∙ ap (bared (has is_key late k)) (bared_twice (has is_key names k) (has_untold_user t m.told k) (stage_of t m.told k).entry)
-      ∙ bared_twice (has is_key late k) (has_untold_user t m.told k || has is_key names k) (stage_of t m.told k).entry)
-      ∙ bared_twice (named_by_held (stage_of t m.told) (both_keys t m.told) k) ((has_untold_user t m.told k || has is_key names k) || has is_key late k) (stage_of t m.told k).entry
+      ∙ ap (bared (has is_key late k)) (bared_twice (has is_key names k) (has_resting_user t m.told k) (stage_of t m.told k).entry)
+      ∙ bared_twice (has is_key late k) (has_resting_user t m.told k || has is_key names k) (stage_of t m.told k).entry)
+      ∙ bared_twice (named_by_held (stage_of t m.told) (both_keys t m.told) k) ((has_resting_user t m.told k || has is_key names k) || has is_key late k) (stage_of t m.told k).entry
       ∙ ap (λ b. bared b (stage_of t m.told k).entry) (all_named k)
 
   -- each key has what is said of it

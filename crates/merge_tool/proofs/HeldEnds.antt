@@ -15,14 +15,14 @@ use Rattle.closure.specs.Closure.{has, Chain}
 use Rattle.closure.proofs.Least.{kept, kept_from}
 use Rattle.closure.proofs.Chains.{some_of, any_of, chain_maps, chain_of, of_chain, each_in}
 use Rattle.closure.proofs.Walk.{has_append, has_first, has_second}
-use Rattle.tool_api.specs.Staged.{stage_of, theirs_at, verdict_at, refers_by}
+use Rattle.tool_api.specs.Staged.{stage_of, theirs_at, verdict_at, is_candidate, refers_by}
 use Rattle.tool_api.specs.Merged.{both_keys, candidate_content, named_by_firm, named_by_wanted, named_by_held, held, held_start, held_leads}
 use Rattle.merge_tool.specs.Walks.{mine_refs, going_links}
-use Rattle.merge_tool.specs.Passes.{has_untold_user, held_starts, is_going}
-use Rattle.job_laws.proofs.MergeRows.{candidate_stays}
+use Rattle.merge_tool.specs.Passes.{has_resting_user, held_starts, is_going}
+use Rattle.job_laws.proofs.MergeRows.{verdict_by, candidate_stays}
 use Rattle.job_laws.proofs.MergeStand.{mine_is}
 use Rattle.job_laws.proofs.MergeFitting.{fits}
-use Rattle.merge_tool.proofs.Untolds.{at_from, flat_is, same_bool, calm, named_by_told, told_firm, untold_firm, firm_parts}
+use Rattle.merge_tool.proofs.Namers.{at_from, flat_is, same_bool, named_by_renewed, renewed_firm, resting_firm, firm_parts}
 
 module _ (t : TableValue) (m : ToldValue) (sound : IsSound t) (each : (k : Key) → list_any (is_key k) m.order ≡ is_some (told_at m k)) where
   pub stays : (j : Key) → (stage_of t m.told j).candidate ≡ true → (stage_of t m.told j).entry ≡ entry_of t j
@@ -37,7 +37,7 @@ module _ (t : TableValue) (m : ToldValue) (sound : IsSound t) (each : (k : Key) 
     where
       by : (o : Option Told) → told_at m k ≡ o → is_some (told_at m k) ≡ true
       by (Some x) e = ap is_some e
-      by None e = absurd (true≢false (sym c ∙ calm (entry_of t k) (told_at m k) e))
+      by None e = absurd (true≢false (sym c ∙ ap (λ (s : Option Told). is_candidate (verdict_by (entry_of t k) s)) e))
 
   -- the candidates of the first pass
   pub going_are : (listed set : List Key) → listed ≡ filter (is_going t m.told) m.order → ((k : Key) → has is_key set k ≡ has is_key listed k) → (k : Key) → has is_key set k ≡ is_going t m.told k
@@ -51,34 +51,34 @@ module _ (t : TableValue) (m : ToldValue) (sound : IsSound t) (each : (k : Key) 
     refs_are : (j k : Key) → (stage_of t m.told j).candidate ≡ true → has is_key (mine_refs t j) k ≡ refers_by (candidate_content (stage_of t m.told) (both_keys t m.told) j) k
     refs_are j k c = at_from (mine_at (entry_of t j)) k ∙ ap (λ (o : Option Entry). refers_by (mine_at o) k) (sym (stays j c)) ∙ sym (ap (λ (b : Bool). refers_by (cond b (mine_at (stage_of t m.told j).entry) None) k) c)
 
-    module _ (names late : List Key) (names_are : (k : Key) → has is_key names k ≡ named_by_told t m sound each k) (late_are : (k : Key) → has is_key late k ≡ named_by_wanted (stage_of t m.told) (both_keys t m.told) k) where
+    module _ (names late : List Key) (names_are : (k : Key) → has is_key names k ≡ named_by_renewed t m sound each k) (late_are : (k : Key) → has is_key late k ≡ named_by_wanted (stage_of t m.told) (both_keys t m.told) k) where
       named_there : (ks : List Key) (k : Key) → has is_key (filter (has is_key set) ks) k ≡ true → (is_going t m.told k ≡ true) × (has is_key ks k ≡ true)
       named_there ks k h = let f = kept_from is_key key_itself one_key (has is_key set) ks k h in (sym (going k) ∙ f.1, f.0)
 
       start_there : (k : Key) → has is_key (held_starts t m.told set names late) k ≡ true → held_start (stage_of t m.told) (both_keys t m.told) k ≡ true
-      start_there k h = split (has_append is_key key_itself one_key (filter (has is_key set) names ++ filter (has is_key set) late) (filter (has_untold_user t m.told) set) k h)
+      start_there k h = split (has_append is_key key_itself one_key (filter (has is_key set) names ++ filter (has is_key set) late) (filter (has_resting_user t m.told) set) k h)
         where
           first : (has is_key (filter (has is_key set) names) k ≡ true) ⊎ (has is_key (filter (has is_key set) late) k ≡ true) → held_start (stage_of t m.told) (both_keys t m.told) k ≡ true
-          first (inl e) = let f = named_there names k e in and_from _ _ f.0 (or_left _ _ (told_firm t m sound each k (sym (names_are k) ∙ f.1)))
+          first (inl e) = let f = named_there names k e in and_from _ _ f.0 (or_left _ _ (renewed_firm t m sound each k (sym (names_are k) ∙ f.1)))
           first (inr e) = let f = named_there late k e in and_from _ _ f.0 (or_right _ _ (sym (late_are k) ∙ f.1))
 
-          split : (has is_key (filter (has is_key set) names ++ filter (has is_key set) late) k ≡ true) ⊎ (has is_key (filter (has_untold_user t m.told) set) k ≡ true) → held_start (stage_of t m.told) (both_keys t m.told) k ≡ true
+          split : (has is_key (filter (has is_key set) names ++ filter (has is_key set) late) k ≡ true) ⊎ (has is_key (filter (has_resting_user t m.told) set) k ≡ true) → held_start (stage_of t m.told) (both_keys t m.told) k ≡ true
           split (inl e) = first (has_append is_key key_itself one_key (filter (has is_key set) names) (filter (has is_key set) late) k e)
-          split (inr e) = let f = kept_from is_key key_itself one_key (has_untold_user t m.told) set k e in and_from _ _ (sym (going k) ∙ f.0) (or_left _ _ (untold_firm t m sound each k f.1))
+          split (inr e) = let f = kept_from is_key key_itself one_key (has_resting_user t m.told) set k e in and_from _ _ (sym (going k) ∙ f.0) (or_left _ _ (resting_firm t m sound each k f.1))
 
       start_back : (k : Key) → held_start (stage_of t m.told) (both_keys t m.told) k ≡ true → has is_key (held_starts t m.told set names late) k ≡ true
       start_back k h =
           let p = and_parts (stage_of t m.told k).candidate (named_by_firm (stage_of t m.told) (both_keys t m.told) k || named_by_wanted (stage_of t m.told) (both_keys t m.told) k) h in
           by p.0 (or_cases (named_by_firm (stage_of t m.told) (both_keys t m.told) k) (named_by_wanted (stage_of t m.told) (both_keys t m.told) k) p.1)
         where
-          firm : is_going t m.told k ≡ true → (named_by_told t m sound each k ≡ true) ⊎ (has_untold_user t m.told k ≡ true) → has is_key (held_starts t m.told set names late) k ≡ true
-          firm c (inl e) = has_first is_key key_itself one_key (filter (has is_key set) names ++ filter (has is_key set) late) (filter (has_untold_user t m.told) set) k
+          firm : is_going t m.told k ≡ true → (named_by_renewed t m sound each k ≡ true) ⊎ (has_resting_user t m.told k ≡ true) → has is_key (held_starts t m.told set names late) k ≡ true
+          firm c (inl e) = has_first is_key key_itself one_key (filter (has is_key set) names ++ filter (has is_key set) late) (filter (has_resting_user t m.told) set) k
               (has_first is_key key_itself one_key (filter (has is_key set) names) (filter (has is_key set) late) k (kept is_key key_itself one_key (has is_key set) names k (names_are k ∙ e) (going k ∙ c)))
-          firm c (inr e) = has_second is_key key_itself one_key (filter (has is_key set) names ++ filter (has is_key set) late) (filter (has_untold_user t m.told) set) k (kept is_key key_itself one_key (has_untold_user t m.told) set k (going k ∙ c) e)
+          firm c (inr e) = has_second is_key key_itself one_key (filter (has is_key set) names ++ filter (has is_key set) late) (filter (has_resting_user t m.told) set) k (kept is_key key_itself one_key (has_resting_user t m.told) set k (going k ∙ c) e)
 
           by : is_going t m.told k ≡ true → (named_by_firm (stage_of t m.told) (both_keys t m.told) k ≡ true) ⊎ (named_by_wanted (stage_of t m.told) (both_keys t m.told) k ≡ true) → has is_key (held_starts t m.told set names late) k ≡ true
           by c (inl e) = firm c (firm_parts t m sound each k e)
-          by c (inr e) = has_first is_key key_itself one_key (filter (has is_key set) names ++ filter (has is_key set) late) (filter (has_untold_user t m.told) set) k
+          by c (inr e) = has_first is_key key_itself one_key (filter (has is_key set) names ++ filter (has is_key set) late) (filter (has_resting_user t m.told) set) k
               (has_second is_key key_itself one_key (filter (has is_key set) names) (filter (has is_key set) late) k (kept is_key key_itself one_key (has is_key set) late k (late_are k ∙ e) (going k ∙ c)))
 
       lead_there : (j k : Key) → has is_key (going_links set t j) k ≡ true → held_leads (stage_of t m.told) (both_keys t m.told) j k ≡ true

@@ -1,10 +1,11 @@
 pub mod News
+pub mod Rests
 pub mod Appends
 pub mod Bareds
 pub mod Puts
 pub mod Clashes
 pub mod Cases
-pub mod Untolds
+pub mod Namers
 pub mod WantedEnds
 pub mod HeldEnds
 pub mod Finals

@@ -18,11 +18,11 @@ use Rattle.closure.proofs.Chains.{chain_maps, chain_of, of_chain}
 use Rattle.tool_api.specs.Staged.{stage_of, lost_of, refers_by, bared}
 use Rattle.tool_api.specs.Merged.{both_keys, lost_content, named_by_firm, named_by_wanted, wanted, wanted_start, wanted_leads}
 use Rattle.merge_tool.specs.Walks.{is_lost, lost_refs, lost_links}
-use Rattle.merge_tool.specs.Passes.{has_untold_user, early, firm_refs}
+use Rattle.merge_tool.specs.Passes.{has_resting_user, early, renewed_refs}
 use Rattle.job_laws.proofs.MergeFitting.{fits, not_lost_by}
 use Rattle.merge_tool.proofs.Cases.{used_there}
 use Rattle.merge_tool.proofs.Bareds.{lost_bared}
-use Rattle.merge_tool.proofs.Untolds.{at_from, names_are, flat_is, same_bool, named_by_told, told_firm, firm_parts}
+use Rattle.merge_tool.proofs.Namers.{at_from, names_are, flat_is, same_bool, named_by_renewed, renewed_firm, firm_parts}
 
 no_mine : (o : Option Entry) → is_some (mine_at o) ≡ true → lost_of o ≡ None
 no_mine None h = refl
@@ -35,11 +35,11 @@ filter_same p q same [] = refl
 filter_same p q same (k ∷ ks) = ap (λ (l : List Key). cond (p k) (k ∷ l) l) (filter_same p q same ks) ∙ ap (λ (b : Bool). cond b (k ∷ filter q ks) (filter q ks)) (same k)
 
 module _ (t : TableValue) (m : ToldValue) (sound : IsSound t) (each : (k : Key) → list_any (is_key k) m.order ≡ is_some (told_at m k)) where
-  -- of the firm entries only those that are told of can name a lost object
-  named_told : (k : Key) → is_some (lost_content (stage_of t m.told) (both_keys t m.told) k) ≡ true → named_by_firm (stage_of t m.told) (both_keys t m.told) k ≡ true → named_by_told t m sound each k ≡ true
-  named_told k l h = by (firm_parts t m sound each k h)
+  -- of the firm entries only those that their cases change can name a lost object
+  named_renewed : (k : Key) → is_some (lost_content (stage_of t m.told) (both_keys t m.told) k) ≡ true → named_by_firm (stage_of t m.told) (both_keys t m.told) k ≡ true → named_by_renewed t m sound each k ≡ true
+  named_renewed k l h = by (firm_parts t m sound each k h)
     where
-      by : (named_by_told t m sound each k ≡ true) ⊎ (has_untold_user t m.told k ≡ true) → named_by_told t m sound each k ≡ true
+      by : (named_by_renewed t m sound each k ≡ true) ⊎ (has_resting_user t m.told k ≡ true) → named_by_renewed t m sound each k ≡ true
       by (inl e) = e
       by (inr e) = absurd (not_lost_by t m.told k (used_there t m.told sound k e) l)
 
@@ -67,14 +67,14 @@ module _ (t : TableValue) (m : ToldValue) (sound : IsSound t) (each : (k : Key) 
     pub refs_are : (j k : Key) → has is_key (lost_refs u j) k ≡ refers_by (lost_content (stage_of t m.told) (both_keys t m.told) j) k
     refs_are j k = at_from (lost_of (entry_of u j)) k ∙ ap (λ (o : Option Content). refers_by o k) (content_is j)
 
-    module _ (names named : List Key) (names_are : (k : Key) → has is_key names k ≡ named_by_told t m sound each k) (lost : named ≡ filter (is_lost u) names) where
+    module _ (names named : List Key) (names_are : (k : Key) → has is_key names k ≡ named_by_renewed t m sound each k) (lost : named ≡ filter (is_lost u) names) where
       start_there : (k : Key) → has is_key named k ≡ true → wanted_start (stage_of t m.told) (both_keys t m.told) k ≡ true
       start_there k e = let n = kept_from is_key key_itself one_key (is_lost u) names k (sym (ap (λ (ks : List Key). has is_key ks k) lost) ∙ e) in
-          and_from _ _ (sym (losts k) ∙ n.1) (told_firm t m sound each k (sym (names_are k) ∙ n.0))
+          and_from _ _ (sym (losts k) ∙ n.1) (renewed_firm t m sound each k (sym (names_are k) ∙ n.0))
 
       start_back : (k : Key) → wanted_start (stage_of t m.told) (both_keys t m.told) k ≡ true → has is_key named k ≡ true
       start_back k e = let n = and_parts (is_some (lost_content (stage_of t m.told) (both_keys t m.told) k)) (named_by_firm (stage_of t m.told) (both_keys t m.told) k) e in
-          ap (λ (ks : List Key). has is_key ks k) lost ∙ kept is_key key_itself one_key (is_lost u) names k (names_are k ∙ named_told k n.0 n.1) (losts k ∙ n.0)
+          ap (λ (ks : List Key). has is_key ks k) lost ∙ kept is_key key_itself one_key (is_lost u) names k (names_are k ∙ named_renewed k n.0 n.1) (losts k ∙ n.0)
 
       lead_there : (j k : Key) → has is_key (lost_links u j) k ≡ true → wanted_leads (stage_of t m.told) (both_keys t m.told) j k ≡ true
       lead_there j k e = let n = kept_from is_key key_itself one_key (is_lost u) (lost_refs u j) k e in and_from _ _ (sym (losts k) ∙ n.1) (sym (refs_are j k) ∙ n.0)
@@ -99,9 +99,9 @@ module _ (t : TableValue) (m : ToldValue) (sound : IsSound t) (each : (k : Key) 
         ∙ flat_is (lost_content (stage_of t m.told) (both_keys t m.told)) (lost_refs u) marks (wanted (stage_of t m.told) (both_keys t m.told)) refs_are same k
 
   -- the first names leave the lost ones as they were staged
-  module _ (u v : TableValue) (names lost : List Key) (is_early : (k : Key) → entry_of u k ≡ early t m.told k) (names_by : names ≡ flat_map (firm_refs t m.told) m.order) (named : (k : Key) → entry_of v k ≡ bared (has is_key names k) (entry_of u k)) where
+  module _ (u v : TableValue) (names lost : List Key) (is_early : (k : Key) → entry_of u k ≡ early t m.told k) (names_by : names ≡ flat_map (renewed_refs t m.told) m.order) (named : (k : Key) → entry_of v k ≡ bared (has is_key names k) (entry_of u k)) where
     lost_early : (k : Key) → lost_of (entry_of u k) ≡ lost_of (stage_of t m.told k).entry
-    lost_early k = ap lost_of (is_early k) ∙ lost_bared (has_untold_user t m.told k) (stage_of t m.told k).entry
+    lost_early k = ap lost_of (is_early k) ∙ lost_bared (has_resting_user t m.told k) (stage_of t m.told k).entry
 
     pub lost_named : (k : Key) → lost_of (entry_of v k) ≡ lost_of (stage_of t m.told k).entry
     lost_named k = ap lost_of (named k) ∙ lost_bared (has is_key names k) (entry_of u k) ∙ lost_early k

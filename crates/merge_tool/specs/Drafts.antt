@@ -13,14 +13,14 @@ use Rattle.dataset.specs.Draft.{DraftValue, drafted}
 use Rattle.closure.specs.Closure.{has, Chain}
 use Rattle.tool_api.specs.Staged.{back, bared}
 use Rattle.job_laws.specs.MergeOutcomes.{final_at, is_wanted, is_held, is_wanted_name}
-use Rattle.merge_tool.specs.Passes.{IsPassed, early, firm_refs, is_going, is_clashing, held_starts, left}
+use Rattle.merge_tool.specs.Passes.{IsPassed, early, renewed_refs, is_going, is_clashing, held_starts, left}
 use Rattle.merge_tool.specs.Walks.{going_links}
 
 -- The lists.
 
--- to what the objects refer that are told of and no candidates
-abbrev pub firm_names : TableValue → ToldValue → List Key
-firm_names t told = flat_map (firm_refs t told.told) told.order
+-- to what the objects refer that are told of, changed by that, and no candidates
+abbrev pub renewed_names : TableValue → ToldValue → List Key
+renewed_names t told = flat_map (renewed_refs t told.told) told.order
 
 -- the candidates, in the order in which they are told of
 abbrev pub going_keys : TableValue → ToldValue → List Key

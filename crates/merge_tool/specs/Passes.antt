@@ -1,24 +1,25 @@
 -- What the passes of a merge give.
 --
 -- For example where w1 Nn1,n2 is told for the first time, the pass over what is told gives w1 its entry and names n1 and
--- n2, and the pass over these names lets n1 and n2 enter as Incomplete, unless they were told too.
-use Rattle.std.specs.Prelude.{◌≡◌, ℕ, Bool, true, false, not, is_some, if◌then◌else◌, filter, List, ◌++◌, Option, Some, None}
+-- n2, and the pass over these names lets n1 and n2 enter as Incomplete, unless they were told too. Where w1 was known in
+-- that version it names nothing, since n1 and n2 are there.
+use Rattle.std.specs.Prelude.{◌≡◌, ◌==◌, ◌&&◌, ◌||◌, ℕ, Bool, true, false, is_some, nat_lt, if◌then◌else◌, filter, List, ◌++◌, Option, Some, None}
 use Rattle.std.specs.List.{list_any}
 use Rattle.std.specs.Option.{option_map, option_map_or, option_and_then}
-use Rattle.std.specs.FinMap as fin
 use Rattle.osm_base.specs.Rank.{is_key}
 use Rattle.osm_base.specs.declared.content.Content.{Content}
 use Rattle.osm_base.specs.declared.key.Key.{Key}
 use Rattle.osm_table.specs.declared.entry.Why.TheVariants.{Held}
+use Rattle.osm_table.specs.declared.entry.Base.{Base}
 use Rattle.osm_table.specs.declared.entry.Entry.{Entry}
 use Rattle.osm_table.specs.declared.entry.Entry.TheVariants.{Incomplete, Known}
-use Rattle.osm_table.specs.Table.{TableValue, entry_of, with_entry, users, base_of, version_of}
+use Rattle.osm_table.specs.Table.{TableValue, entry_of, with_entry, users, base_of, held_by, version_of}
 use Rattle.osm_table.specs.Told.{ToldEntries, told_of}
 use Rattle.dataset.specs.Exact.{mine_at}
 use Rattle.merge_cases.specs.declared.verdict.Verdict.{Verdict}
+use Rattle.merge_cases.specs.declared.verdict.Verdict.TheVariants.{Stay, Mention, Take, Clash, Keep, Candidate, Settle, Join, Dispute}
 use Rattle.closure.specs.Closure.{has}
 use Rattle.tool_api.specs.Staged.{stage_of, staged, verdict_at, theirs_at, theirs_told, is_candidate, is_clash, refs_by, against, bared}
-use Rattle.tool_api.specs.Merged.{both_keys, firm_content}
 
 -- a new entry, or none where the old one stays
 abbrev pub Gives : Option Entry → Option Entry → Option Entry → Type 0
@@ -29,9 +30,31 @@ Gives old new (Some e) = new ≡ Some e
 abbrev pub CaseGives : Verdict → Option Entry → Entry → Option Entry → Type 0
 CaseGives verdict old news new = Gives old (staged verdict old (theirs_told (told_of news))) new
 
--- the content of an entry that is no candidate
-abbrev pub firm_mine : Verdict → Option Entry → Option Content
-firm_mine verdict entry = if is_candidate verdict then None else mine_at entry
+-- whether a case leaves an object as it is
+abbrev pub rests : Verdict → Bool
+rests Stay = true
+rests Mention = false
+rests Take = false
+rests Clash = false
+rests Keep = false
+rests Candidate = false
+rests Settle = false
+rests Join = false
+rests Dispute = false
+
+-- whether both are there, or neither
+abbrev pub are_alike : Option Content → Option Content → Bool
+are_alike None None = true
+are_alike (Some known) (Some theirs) = true
+are_alike known theirs = false
+
+-- whether a version and what it holds say nothing new of an object whose known side is this one
+abbrev pub says_nothing : Base → ℕ → Option Content → Bool
+says_nothing known version theirs = nat_lt version (version_of known) || ((version == version_of known) && are_alike (held_by known) theirs)
+
+-- the content of an entry that its case changes, and that is no candidate
+abbrev pub renewed_mine : Verdict → Option Entry → Option Content
+renewed_mine verdict entry = if rests verdict then None else (if is_candidate verdict then None else mine_at entry)
 
 -- a table with a new entry, if there is one
 abbrev pub noted : TableValue → Key → Option Entry → TableValue
@@ -53,17 +76,21 @@ is_there None = false
 is_there (Some Incomplete) = true
 is_there (Some (Known base mine conflict)) = is_some mine
 
--- whether an object that isn't told of refers to the key
-abbrev pub has_untold_user : TableValue → ToldEntries → Key → Bool
-has_untold_user t m k = list_any (λ u. not (is_some (fin.get m u))) (users t k)
+-- whether an object is left as it is: nothing is told of it, or nothing new
+abbrev pub is_resting : TableValue → ToldEntries → Key → Bool
+is_resting t m k = rests (verdict_at t m k)
 
--- the outcome of a key's case, Incomplete where it is gone on both sides and an object that isn't told of refers to it
+-- whether an object that is left as it is refers to the key
+abbrev pub has_resting_user : TableValue → ToldEntries → Key → Bool
+has_resting_user t m k = list_any (is_resting t m) (users t k)
+
+-- the outcome of a key's case, Incomplete where it is gone on both sides and an object that is left as it is refers to it
 abbrev pub early : TableValue → ToldEntries → Key → Option Entry
-early t m k = bared (has_untold_user t m k) (stage_of t m k).entry
+early t m k = bared (has_resting_user t m k) (stage_of t m k).entry
 
--- to what an object refers that lives and is no candidate
-abbrev pub firm_refs : TableValue → ToldEntries → Key → List Key
-firm_refs t m k = refs_by (firm_content (stage_of t m) (both_keys t m) k)
+-- to what an object refers that its case changes, that lives and is no candidate
+abbrev pub renewed_refs : TableValue → ToldEntries → Key → List Key
+renewed_refs t m k = refs_by (renewed_mine (verdict_at t m k) (stage_of t m k).entry)
 
 -- whether an object is a candidate to go
 abbrev pub is_going : TableValue → ToldEntries → Key → Bool
@@ -73,9 +100,9 @@ is_going t m k = (stage_of t m k).candidate
 abbrev pub is_clashing : TableValue → ToldEntries → Key → Bool
 is_clashing t m k = is_clash (verdict_at t m k)
 
--- the candidates to which one of the names refers, or an object that isn't told of
+-- the candidates to which one of the names refers, or an object that is left as it is
 abbrev pub held_starts : TableValue → ToldEntries → List Key → List Key → List Key → List Key
-held_starts t m candidates names late = (filter (has is_key candidates) names ++ filter (has is_key candidates) late) ++ filter (has_untold_user t m) candidates
+held_starts t m candidates names late = (filter (has is_key candidates) names ++ filter (has is_key candidates) late) ++ filter (has_resting_user t m) candidates
 
 -- what is left of a candidate: it stays where it is held, else it goes
 abbrev pub left : TableValue → ToldEntries → List Key → Key → Option Entry

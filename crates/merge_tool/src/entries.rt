@@ -4,14 +4,78 @@ ghost use Rattle.std.specs.Option.{option_copied};
 ghost use Rattle.osm_table.specs.Table.{held_by};
 ghost use Rattle.osm_table.specs.Told.{told_of, entry_told};
 ghost use Rattle.dataset.specs.Exact.{mine_at};
-ghost use Rattle.merge_cases.specs.Case.{verdict_of};
+ghost use Rattle.merge_cases.specs.Case.{verdict_of, version_case, mention_case};
 ghost use Rattle.tool_api.specs.Staged.{theirs_told, against, withdrawn, with_theirs, all_joined, back, lost_of, is_dead};
-ghost use Rattle.merge_tool.specs.Passes.{CaseGives};
+ghost use Rattle.merge_tool.specs.Passes.{CaseGives, rests, says_nothing, are_alike};
 
 use merge_cases::{Verdict, joined};
 use osm_base::Content;
 use osm_table::{Base, Conflict, Entry, EntryParts, Shared, SharedEntry, Why};
 use std::alloc::{AllocError, Global};
+
+/// Whether what is told leaves an object as it is, as its case says. It compares versions, and no contents.
+pub fn rests(old: Option<&SharedEntry>, news: &SharedEntry) -> bool
+    ensures { result ≡ rests (verdict_of (option_copied old.entry) (told_of news.now)) }
+{
+    match news.parts() {
+        EntryParts::Incomplete => rests_when_mentioned(old),
+        EntryParts::Known { base, .. } => match base {
+            Base::New => rests_when_mentioned(old),
+            Base::Live {
+                version,
+                content,
+                ..
+            } => rests_by(old, *version, Some(content)),
+            Base::Gone { version, .. } => rests_by(old, *version, None),
+        },
+    }
+}
+
+fn rests_when_mentioned(old: Option<&SharedEntry>) -> bool
+    ensures { result ≡ rests (mention_case (option_copied old.entry)) }
+{
+    match old {
+        None => false,
+        Some(_) => true,
+    }
+}
+
+fn rests_by(old: Option<&SharedEntry>, version: u32, theirs: Option<&Content>) -> bool
+    ensures { result ≡ rests (version_case (option_copied old.entry) version (option_copied theirs.entry)) }
+{
+    match old {
+        None => false,
+        Some(old) => rests_known(old, version, theirs),
+    }
+}
+
+#[tactic(auto, using(crate::proofs::Rests::rests_some, crate::proofs::Rests::rests_none))]
+fn rests_known(old: &SharedEntry, version: u32, theirs: Option<&Content>) -> bool
+    ensures { result ≡ rests (version_case (Some old.now) version (option_copied theirs.entry)) }
+{
+    match old.known_side() {
+        None => false,
+        Some(known) => says_nothing(known, version, theirs),
+    }
+}
+
+/// Whether a version and what it holds say nothing new of an object whose known side is this one.
+fn says_nothing(known: &Base, version: u32, theirs: Option<&Content>) -> bool
+    ensures { result ≡ says_nothing known.now version (option_copied theirs.entry) }
+{
+    version < known.version() || version == known.version() && are_alike(known.content(), theirs)
+}
+
+/// Whether both are there, or neither.
+fn are_alike(known: Option<&Content>, theirs: Option<&Content>) -> bool
+    ensures { result ≡ are_alike (option_copied known.entry) (option_copied theirs.entry) }
+{
+    match (known, theirs) {
+        (None, None) => true,
+        (Some(_), Some(_)) => true,
+        _ => false,
+    }
+}
 
 /// What a case makes of an entry, None where it stays as it is. What is taken as it is told shares its block.
 ///

@@ -4,14 +4,14 @@ ghost use Rattle.std.specs.List.{flat_map};
 ghost use Rattle.osm_base.specs.Rank.{is_key};
 ghost use Rattle.dataset.specs.Sound.{IsSound};
 ghost use Rattle.closure.specs.Closure.{has};
-ghost use Rattle.merge_tool.specs.Drafts.{AreGoing, AreHeld, AreHeldEnds, AreWantedNames, NamesEnter, firm_names};
+ghost use Rattle.merge_tool.specs.Drafts.{AreGoing, AreHeld, AreHeldEnds, AreWantedNames, NamesEnter, renewed_names};
 ghost use Rattle.job_laws.specs.MergeOutcomes.{is_held_name};
 ghost use Rattle.merge_tool.specs.Walks.{mine_refs};
-ghost use Rattle.merge_tool.specs.Passes.{has_untold_user, held_starts};
+ghost use Rattle.merge_tool.specs.Passes.{has_resting_user, held_starts};
 
 use crate::entries::mine;
 use crate::naming::name_all;
-use crate::staging::{has_untold_user, push_all};
+use crate::staging::{has_resting_user, push_all};
 use closure::{Links, is_among, reach};
 use dataset::{DataSet, Draft};
 use indexmap::IndexSet;
@@ -64,14 +64,14 @@ fn push_if_going(candidates: &IndexSet<Key>, key: Key, out: &mut Vec<Key>) -> Re
     Ok(())
 }
 
-/// Appends those of these keys to which an object refers that isn't told of.
+/// Appends those of these keys to which an object refers that is left as it is.
 fn push_used(
     ds: &DataSet,
     told: &ToldMap,
     keys: &IndexSet<Key>,
     out: &mut Vec<Key>,
 ) -> Result<(), AllocError>
-    ensures { OnOk result (out.new.items ≡ out.old.items ++ filter (has_untold_user ds.now told.now.told) keys.now.keys) }
+    ensures { OnOk result (out.new.items ≡ out.old.items ++ filter (has_resting_user ds.now told.now.told) keys.now.keys) }
 {
     for i in 0..keys.len() {
         push_if_used(ds, told, keys[i], out)?;
@@ -85,16 +85,16 @@ fn push_if_used(
     key: Key,
     out: &mut Vec<Key>,
 ) -> Result<(), AllocError>
-    ensures { OnOk result (out.new.items ≡ out.old.items ++ filter (has_untold_user ds.now told.now.told) (key ∷ [])) }
+    ensures { OnOk result (out.new.items ≡ out.old.items ++ filter (has_resting_user ds.now told.now.told) (key ∷ [])) }
 {
-    if has_untold_user(ds, told, key) {
+    if has_resting_user(ds, told, key) {
         out.push(key)?;
     }
     Ok(())
 }
 
-/// The candidates to which one of the names refers, or an object that isn't told of. Nothing is looked at where there is
-/// no candidate.
+/// The candidates to which one of the names refers, or an object that is left as it is. Nothing is looked at where there
+/// is no candidate.
 fn held_starts(
     ds: &DataSet,
     told: &ToldMap,
@@ -114,9 +114,9 @@ fn held_starts(
     Ok(starts)
 }
 
-/// Finds the candidates that are held, by the names of firm and of wanted objects, and sees to it that what these refer to
-/// is there. One look-up for each name, each user of a candidate, and each object to which a held one refers; none where
-/// there is no candidate.
+/// Finds the candidates that are held, by the names of renewed and of wanted objects, and sees to it that what these refer
+/// to is there. One look-up for each name and each object to which a held one refers, and two for each user of a candidate;
+/// none where there is no candidate.
 ///
 /// # Errors
 /// No memory was left.
@@ -130,7 +130,7 @@ pub fn hold(
 ) -> Result<IndexSet<Key>, AllocError>
     requires sound { IsSound ds.now }
     requires candidates { AreGoing ds.now told.now candidates.now.keys }
-    requires names { names.now ≡ firm_names ds.now told.now }
+    requires names { names.now ≡ renewed_names ds.now told.now }
     requires late { AreWantedNames ds.now told.now late.now }
     ensures held { IfOk result (λ h. AreHeld ds.now told.now h.keys) }
     ensures entries { IfOk result (λ h. NamesEnter ds.now (is_held_name ds.now told.now.told) draft.old draft.new) }
@@ -144,8 +144,8 @@ pub fn hold(
     Ok(keys)
 }
 
-/// The candidates at the ends of chains of candidates, to whose first one of the names refers or an object that isn't told
-/// of.
+/// The candidates at the ends of chains of candidates, to whose first one of the names refers or an object that is left as
+/// it is.
 ///
 /// # Errors
 /// No memory was left.

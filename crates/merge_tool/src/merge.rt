@@ -3,7 +3,7 @@ ghost use Rattle.std.specs.Prelude.{◌≡◌, IfOk};
 ghost use Rattle.dataset.specs.Sound.{IsSound};
 ghost use Rattle.tool_api.specs.Merged.{merge};
 ghost use Rattle.tool_api.specs.Planned.{Plans};
-ghost use Rattle.merge_tool.specs.Drafts.{IsMerged, IsStaged, firm_names, going_keys};
+ghost use Rattle.merge_tool.specs.Drafts.{IsMerged, IsStaged, renewed_names, going_keys};
 
 use crate::arrival::arrival_plan;
 use crate::clash::clash_test;
@@ -29,7 +29,7 @@ fn merged(
 ) -> Result<Draft, AllocError>
     requires sound { IsSound ds.now }
     requires entries { IsStaged ds.now told.now staged }
-    requires names { names.now ≡ firm_names ds.now told.now }
+    requires names { names.now ≡ renewed_names ds.now told.now }
     requires candidates { candidates.now ≡ going_keys ds.now told.now }
     ensures entries { IfOk result (λ draft. IsMerged ds.now told.now draft) }
     ensures number { IfOk result (λ draft. draft.next ≡ staged.next) }

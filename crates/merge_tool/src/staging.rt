@@ -1,15 +1,16 @@
 //! The outcome of each case.
 ghost use Rattle.std.specs.Prelude.{◌≡◌, ◌++◌, ◌∷◌, [], Some, IfOk, OnOk, filter};
 ghost use Rattle.std.specs.Option.{option_copied, option_or};
-ghost use Rattle.osm_table.specs.Table.{TableValue};
+ghost use Rattle.std.specs.FinMap as map;
+ghost use Rattle.osm_table.specs.Table.{TableValue, entry_of};
 ghost use Rattle.osm_table.specs.Told.{told_of, told_at, entry_told};
 ghost use Rattle.dataset.specs.Draft.{drafted};
 ghost use Rattle.dataset.specs.Sound.{IsSound};
 ghost use Rattle.tool_api.specs.Staged.{is_candidate, is_clash, refs_by};
-ghost use Rattle.merge_tool.specs.Drafts.{IsStaged, StagesNext, clashing_keys, firm_names, going_keys};
-ghost use Rattle.merge_tool.specs.Passes.{noted, new_bared, firm_mine, firm_refs, has_untold_user, is_going, is_clashing};
+ghost use Rattle.merge_tool.specs.Drafts.{IsStaged, StagesNext, clashing_keys, renewed_names, going_keys};
+ghost use Rattle.merge_tool.specs.Passes.{noted, new_bared, renewed_mine, renewed_refs, is_resting, has_resting_user, is_going, is_clashing};
 
-use crate::entries::{is_gone, mine, staged};
+use crate::entries::{is_gone, mine, rests, staged};
 use dataset::{DataSet, Draft};
 use merge_cases::{Verdict, decide};
 use osm_base::{Content, Key, push_references};
@@ -21,7 +22,8 @@ use std::alloc::AllocError;
 pub struct Staging {
     /// The new entries.
     pub draft: Draft,
-    /// To what the objects refer that are told of and no candidates, each as often as it stands.
+    /// To what the renewed objects refer, each as often as it stands: those that their cases change, and that are no
+    /// candidates. What the others refer to was there before.
     pub names: Vec<Key>,
     /// The candidates to go.
     pub candidates: Vec<Key>,
@@ -30,27 +32,30 @@ pub struct Staging {
 }
 
 impl Staging {
-    /// The outcome of each case. One decision and one look-up for each key that is told of.
+    /// The outcome of each case. One decision for each key that is told of, and one look-up where it doesn't stand behind
+    /// the one before it in the table: over two lists by rank it is one pass along both. An object that is left as it is
+    /// costs a comparison of versions.
     ///
     /// # Errors
     /// No memory was left.
     pub fn of(ds: &DataSet, told: &ToldMap) -> Result<Staging, AllocError>
         ensures entries { IfOk result (λ s. IsStaged ds.now told.now s.draft) }
-        ensures names { IfOk result (λ s. s.names.items ≡ firm_names ds.now told.now) }
+        ensures names { IfOk result (λ s. s.names.items ≡ renewed_names ds.now told.now) }
         ensures candidates { IfOk result (λ s. s.candidates.items ≡ going_keys ds.now told.now) }
         ensures clashes { IfOk result (λ s. s.clashes.items ≡ clashing_keys ds.now told.now) }
         ensures number { IfOk result (λ s. s.draft.next ≡ ds.now.next) }
     {
         let mut staging = Staging {
-            draft: Draft::with_capacity(ds, told.len())?,
+            draft: empty_draft(ds, told)?,
             names: Vec::new(ds.alloc()),
             candidates: Vec::new(ds.alloc()),
             clashes: Vec::new(ds.alloc()),
         };
+        let mut near = 0;
         ds.sound();
         for i in 0..told.len() {
             let (key, news) = told.entry_at(i);
-            staging.stage(ds, told, key, news)?;
+            staging.stage(ds, told, &mut near, key, news)?;
         }
         told.sound();
         Ok(staging)
@@ -60,6 +65,7 @@ impl Staging {
         &mut self,
         ds: &DataSet,
         told: &ToldMap,
+        near: &mut usize,
         key: Key,
         news: &SharedEntry,
     ) -> Result<(), AllocError>
@@ -67,20 +73,47 @@ impl Staging {
         requires told { told_at told.now key ≡ Some (told_of news.now) }
         requires news { entry_told (told_of news.now) ≡ news.now }
         ensures entries { OnOk result (StagesNext ds.now told.now key self.old.draft self.new.draft) }
-        ensures names { OnOk result (self.new.names.items ≡ self.old.names.items ++ firm_refs ds.now told.now.told key) }
+        ensures names { OnOk result (self.new.names.items ≡ self.old.names.items ++ renewed_refs ds.now told.now.told key) }
         ensures candidates { OnOk result (self.new.candidates.items ≡ self.old.candidates.items ++ filter (is_going ds.now told.now.told) (key ∷ [])) }
         ensures clashes { OnOk result (self.new.clashes.items ≡ self.old.clashes.items ++ filter (is_clashing ds.now told.now.told) (key ∷ [])) }
         ensures number { OnOk result (self.new.draft.next ≡ self.old.draft.next) }
     {
-        let old = ds.entry(key);
+        let old = known_near(ds, near, key);
         let verdict = decide(old, news);
         let new = staged(ds.alloc(), verdict, old, news)?;
         push_if_going(verdict, key, &mut self.candidates)?;
         push_if_clashing(verdict, key, &mut self.clashes)?;
-        push_firm(verdict, after(old, &new), &mut self.names)?;
+        push_renewed(verdict, after(old, &new), &mut self.names)?;
         let new = bared(ds, told, key, new)?;
         note(&mut self.draft, key, new)?;
         Ok(())
+    }
+}
+
+/// A draft that changes nothing. It has room for all that is told where nothing is known, since all of it enters then.
+///
+/// # Errors
+/// No memory was left.
+fn empty_draft(ds: &DataSet, told: &ToldMap) -> Result<Draft, AllocError>
+    ensures { IfOk result (λ draft. draft ≡ record { puts = map.empty; next = ds.now.next }) }
+{
+    if ds.len() == 0 {
+        Draft::with_capacity(ds, told.len())
+    } else {
+        Ok(Draft::new(ds))
+    }
+}
+
+/// What is known of a key. The place `near` is looked at first, and moves behind the key where that is known.
+fn known_near<'a>(ds: &'a DataSet, near: &mut usize, key: Key) -> Option<&'a SharedEntry>
+    ensures { option_copied result ≡ entry_of ds.now key }
+{
+    match ds.entry_near(*near, key) {
+        None => None,
+        Some((behind, entry)) => {
+            *near = behind;
+            Some(entry)
+        }
     }
 }
 
@@ -118,15 +151,15 @@ fn push_if_clashing(verdict: Verdict, key: Key, out: &mut Vec<Key>) -> Result<()
     }
 }
 
-fn push_firm(
+fn push_renewed(
     verdict: Verdict,
     after: Option<&SharedEntry>,
     out: &mut Vec<Key>,
 ) -> Result<(), AllocError>
-    ensures { OnOk result (out.new.items ≡ out.old.items ++ refs_by (firm_mine verdict (option_copied after.entry))) }
+    ensures { OnOk result (out.new.items ≡ out.old.items ++ refs_by (renewed_mine verdict (option_copied after.entry))) }
 {
     match verdict {
-        Verdict::Candidate => Ok(()),
+        Verdict::Stay | Verdict::Candidate => Ok(()),
         _ => push_all(mine(after), out),
     }
 }
@@ -158,26 +191,37 @@ fn note(draft: &mut Draft, key: Key, entry: Option<SharedEntry>) -> Result<(), A
     }
 }
 
-/// A new entry, if there is one: Incomplete where it is gone on both sides and an object that isn't told of refers to it.
+/// A new entry, if there is one: Incomplete where it is gone on both sides and an object that is left as it is refers to it.
 fn bared(
     ds: &DataSet,
     told: &ToldMap,
     key: Key,
     new: Option<SharedEntry>,
 ) -> Result<Option<SharedEntry>, AllocError>
-    ensures { IfOk result (λ bare. bare ≡ new_bared (has_untold_user ds.now told.now.told key) new) }
+    ensures { IfOk result (λ bare. bare ≡ new_bared (has_resting_user ds.now told.now.told key) new) }
 {
     match new {
-        Some(entry) if is_gone(&entry) && has_untold_user(ds, told, key) => {
+        Some(entry) if is_gone(&entry) && has_resting_user(ds, told, key) => {
             Ok(Some(SharedEntry::told(ds.alloc(), Told::Mentioned)?))
         }
         _ => Ok(new),
     }
 }
 
-/// Whether an object that isn't told of refers to the key. One look-up, and one more for each such object.
-pub fn has_untold_user(ds: &DataSet, told: &ToldMap, key: Key) -> bool
-    ensures { result ≡ has_untold_user ds.now told.now.told key }
+/// Whether an object that is left as it is refers to the key. One look-up, and two for each object that refers to it.
+pub fn has_resting_user(ds: &DataSet, told: &ToldMap, key: Key) -> bool
+    ensures { result ≡ has_resting_user ds.now told.now.told key }
 {
-    ds.users(key).iter().any(|user| told.get(*user).is_none())
+    ds.users(key).iter().any(|user| is_resting(ds, told, *user))
+}
+
+/// Whether an object is left as it is: nothing is told of it, or nothing new.
+#[tactic(auto, using(crate::proofs::Rests::untold_rests, crate::proofs::Rests::news_case))]
+fn is_resting(ds: &DataSet, told: &ToldMap, key: Key) -> bool
+    ensures { result ≡ is_resting ds.now told.now.told key }
+{
+    match told.get(key) {
+        None => true,
+        Some(news) => rests(ds.entry(key), news),
+    }
 }

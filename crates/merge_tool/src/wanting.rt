@@ -3,7 +3,7 @@ ghost use Rattle.std.specs.Prelude.{◌≡◌, ◌++◌, ◌∷◌, [], IfOk, On
 ghost use Rattle.std.specs.List.{flat_map};
 ghost use Rattle.dataset.specs.Draft.{drafted};
 ghost use Rattle.dataset.specs.Sound.{IsSound};
-ghost use Rattle.merge_tool.specs.Drafts.{AreEnds, AreWanted, AreWantedNames, BothEnter, IsStaged, firm_names};
+ghost use Rattle.merge_tool.specs.Drafts.{AreEnds, AreWanted, AreWantedNames, BothEnter, IsStaged, renewed_names};
 ghost use Rattle.merge_tool.specs.Walks.{is_lost, lost_refs, lost_links};
 
 use crate::entries::{is_lost, lost};
@@ -80,7 +80,7 @@ pub fn want(
 ) -> Result<Wanted, AllocError>
     requires sound { IsSound ds.now }
     requires entries { IsStaged ds.now told.now draft.old }
-    requires names { names.now ≡ firm_names ds.now told.now }
+    requires names { names.now ≡ renewed_names ds.now told.now }
     ensures wanted { IfOk result (λ w. AreWanted ds.now told.now w.keys.keys) }
     ensures names { IfOk result (λ w. AreWantedNames ds.now told.now w.names.items) }
     ensures entries { IfOk result (λ w. BothEnter ds.now names.now w.names.items draft.old draft.new) }

@@ -5,7 +5,7 @@ use Rattle.osm_table.specs.Table.{entry_of}
 use Rattle.dataset.specs.Draft.{drafted}
 use Rattle.closure.specs.Closure.{has}
 use Rattle.tool_api.specs.Staged.{bared}
-use Rattle.merge_tool.proofs.Untolds.{names_are}
+use Rattle.merge_tool.proofs.Namers.{names_are}
 use Rattle.merge_tool.proofs.HeldEnds.{held_ends, last_are}
 use Rattle.merge_tool.proofs.holding.hold.Goals as goal
 
