@@ -7,6 +7,7 @@ mod Fuses
 mod OfKinds
 mod Plans
 mod Renames
+mod Rings
 mod SideBySide
 mod Squeezes
 mod Users

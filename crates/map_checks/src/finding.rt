@@ -1,5 +1,6 @@
 //! What a check finds.
 ghost use Rattle.std.specs.Prelude.{◌≡◌, ◌<◌, Some, length, slice_get};
+ghost use Rattle.map_checks.specs.Findings.{doubled_key};
 
 use osm_base::Key;
 use std::marker::Model;
@@ -13,6 +14,18 @@ pub enum Finding {
     Repeated(Key),
     /// A living way of at least three references whose first and last are two living nodes at one place.
     OpenRing(Key),
+}
+
+impl Finding {
+    /// The key of a doubled node.
+    pub(crate) fn doubled_key(self) -> Option<Key>
+        ensures { result ≡ doubled_key self }
+    {
+        match self {
+            Finding::Doubled { key, .. } => Some(key),
+            Finding::Repeated(_) | Finding::OpenRing(_) => None,
+        }
+    }
 }
 
 /// All that a check finds, in order.

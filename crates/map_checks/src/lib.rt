@@ -6,8 +6,9 @@
 //! one place, to which ways and relations refer in place of them all: `squeeze` and `fuse` of `tool_api`. Each command is the
 //! `Undoable` of one that plans just that, at the cost of the named objects and those that use them, never of the table.
 //!
-//! `by_kind` looks up the places of nodes and the references of ways, and no key of another kind. `places` has the first
-//! node at each place, by which doubled nodes are found in one pass. `law` says what a squeeze and a fuse leave of the
+//! `by_kind` finds the places of nodes and the references of ways: where they lie in a walk over all keys, and by a look-up
+//! for a key alone, but for one of another kind. `places` has the first node at each place, by which doubled nodes are found
+//! in one pass; only where one of them is an end of a way may that be an open ring. `law` says what a squeeze and a fuse leave of the
 //! named objects.
 //!
 //! Where to add a check: its test by look-up goes into `specs/Findings` of `tool_api`, a variant with a sentence into

@@ -7,11 +7,12 @@ ghost use Rattle.osm_base.specs.declared.key.Key.{Key};
 ghost use Rattle.tool_api.specs.Findings.{place_at, same_place, are_together};
 ghost use Rattle.map_checks.specs.Places.{hashed, noted_at, first_at, HasFirst};
 
-use crate::by_kind::place_at;
+use crate::by_kind::{place_at, place_near};
 use dataset::DataSet;
 use indexmap::IndexMap;
 use osm_base::{Coord, Key};
 use std::alloc::{AllocError, Global};
+use std::cell::Cell;
 
 fn same_coord(a: Coord, b: Coord) -> bool
     ensures { result ≡ same_coord a b }
@@ -82,16 +83,21 @@ impl Places {
     }
 
     /// The first node at the key's place, of the keys that were looked at before, where the key's object is a living node.
-    /// Of these keys the map has the first at each place, and then of this key too. One look-up of the key, one of its
-    /// place, and one more of the place where a node was there before it.
+    /// Of these keys the map has the first at each place, and then of this key too. The key is sought at the place `near`
+    /// of the table, as in a walk. One look-up of its place, and one more where a node was there before it.
     ///
     /// # Errors
     /// No memory was left.
-    pub fn look_at(&mut self, ds: &DataSet, key: Key) -> Result<Option<Key>, AllocError>
+    pub fn look_at(
+        &mut self,
+        ds: &DataSet,
+        near: &Cell<usize>,
+        key: Key,
+    ) -> Result<Option<Key>, AllocError>
         ensures first { IfOk result (λ first. (keys : List Key) → HasFirst ds.now keys self.old.first.entries → first ≡ option_and_then (first_at ds.now keys) (place_at ds.now key)) }
         ensures noted { OnOk result ((keys : List Key) → HasFirst ds.now keys self.old.first.entries → HasFirst ds.now (keys ++ key ∷ []) self.new.first.entries) }
     {
-        let Some(at) = place_at(ds, key) else {
+        let Some(at) = place_near(ds, near, key) else {
             return Ok(None);
         };
         match self.note(at, key)? {

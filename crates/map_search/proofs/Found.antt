@@ -2,7 +2,8 @@
 use Rattle.std.proofs.Common.{◌≡◌, Bool, true, false, not, cond, ◌&&◌, ◌||◌, List, [], ◌∷◌, filter, refl, sym, ap, ◌∙◌}
 use Rattle.std.proofs.lemmas.Bool.{or_right, or_left}
 use Rattle.std.proofs.Math.Bool.{and-false}
-use Rattle.std.specs.List.{list_any}
+use Rattle.std.proofs.lemmas.List.Folds.{list_any-append}
+use Rattle.std.specs.List.{flat_map, list_any}
 use Rattle.osm_base.specs.Rank.{is_key}
 use Rattle.osm_base.specs.RisingKeys.{is_in}
 use Rattle.osm_base.specs.declared.key.Key.{Key}
@@ -78,3 +79,17 @@ common m (j ∷ js) rs = one_more m j js rs ∙ ap (λ b. (m j && is_in j rs) ||
 -- one of the keys is found where one that is found is among them
 pub any_found : (m : Key → Bool) (all rs : List Key) → list_any (λ r. is_in r (filter m all)) rs ≡ list_any (λ j. m j && is_in j rs) all
 any_found m all rs = ap (λ f. list_any f rs) (λ i r. in_filter m r all i) ∙ common m all rs
+
+-- one of those that pass a test passes another where one passes both
+filter_case : (p q : Key → Bool) (b : Bool) (x : Key) (xs : List Key) (rest : Bool) → p x ≡ b → list_any q (filter p xs) ≡ rest → list_any q (cond b (x ∷ filter p xs) (filter p xs)) ≡ ((b && q x) || rest)
+filter_case p q true x xs rest is e = ap (λ b. q x || b) e
+filter_case p q false x xs rest is e = e
+
+pub any_filter : (p q : Key → Bool) (xs : List Key) → list_any q (filter p xs) ≡ list_any (λ x. p x && q x) xs
+any_filter p q [] = refl
+any_filter p q (x ∷ xs) = filter_case p q (p x) x xs (list_any (λ y. p y && q y) xs) refl (any_filter p q xs)
+
+-- a key is in one of the lists of all where one of them has it
+pub in_each : (f : Key → List Key) (k : Key) (xs : List Key) → is_in k (flat_map f xs) ≡ list_any (λ x. is_in k (f x)) xs
+in_each f k [] = refl
+in_each f k (x ∷ xs) = list_any-append (is_key k) (f x) (flat_map f xs) ∙ ap (λ b. is_in k (f x) || b) (in_each f k xs)

@@ -5,14 +5,13 @@ use Rattle.std.specs.List.{list_any}
 use Rattle.std.specs.Option.{option_map_or}
 use Rattle.osm_base.specs.RisingKeys.{is_in}
 use Rattle.osm_base.specs.declared.key.Key.{Key}
-use Rattle.osm_table.specs.Table.{TableValue, entry_of, keys_by_rank, users, uses}
+use Rattle.osm_table.specs.Table.{TableValue, entry_of, keys_by_rank, uses}
 use Rattle.osm_table.specs.declared.entry.Entry.{Entry}
 use Rattle.osm_table.specs.declared.entry.Entry.TheVariants.{Incomplete, Known}
 use Rattle.dataset.specs.Exact.{refs_at}
-use Rattle.dataset.proofs.Listed.{user_uses}
 use Rattle.map_search.specs.Meets.{meets, refers_to}
 use Rattle.map_search.specs.Query.{QueryValue, Child, Parent, Not, And, Or}
-use Rattle.map_search.proofs.Found.{not_found, either_found, both_found, any_found}
+use Rattle.map_search.proofs.Found.{not_found, either_found, both_found, any_found, any_filter}
 
 -- those of the keys that meet a query
 abbrev pub Met : TableValue → List Key → QueryValue → List Key
@@ -44,18 +43,20 @@ any_met t all met rs q test e f h =
     ∙ any_found (λ k. meets t k q) all rs
     ∙ (λ i. list_any (λ j. meets t j q && h j i) (e i))
 
-pub child_meets : (t : TableValue) (keys all met : List Key) (q whole : QueryValue) → all ≡ keys_by_rank t → whole ≡ Child q → met ≡ Met t all q
-    → filter (λ k. list_any (λ user. is_in user met) (users t k)) keys ≡ Met t keys whole
-child_meets t keys all met q whole e shape f =
-    filter_agree _ (λ k. meets t k (Child q)) (λ k. any_met t all met (users t k) q (λ j. refers_to t j k) e f (λ j. user_uses t k j)) keys
-    ∙ ap (Met t keys) (sym shape)
-
 -- a key is among the references of an entry where the entry uses it
 refs_uses : (o : Option Entry) (j : Key) → is_in j (refs_at o) ≡ option_map_or (λ e. uses e j) o false
 refs_uses None j = refl
 refs_uses (Some Incomplete) j = refl
 refs_uses (Some (Known base None conflict)) j = refl
 refs_uses (Some (Known base (Some c) conflict)) j = refl
+
+pub child_meets : (t : TableValue) (keys all met : List Key) (q whole : QueryValue) → all ≡ keys_by_rank t → whole ≡ Child q → met ≡ Met t all q
+    → filter (λ k. list_any (λ user. is_in k (refs_at (entry_of t user))) met) keys ≡ Met t keys whole
+child_meets t keys all met q whole e shape f =
+    filter_agree _ (λ k. meets t k (Child q)) (λ k. ap (list_any (λ user. is_in k (refs_at (entry_of t user)))) f
+    ∙ any_filter (λ user. meets t user q) (λ user. is_in k (refs_at (entry_of t user))) all
+    ∙ (λ i. list_any (λ user. meets t user q && refs_uses (entry_of t user) k i) (e i))) keys
+    ∙ ap (Met t keys) (sym shape)
 
 pub parent_meets : (t : TableValue) (keys all met : List Key) (q whole : QueryValue) → all ≡ keys_by_rank t → whole ≡ Parent q → met ≡ Met t all q
     → filter (λ k. list_any (λ of. is_in of met) (refs_at (entry_of t k))) keys ≡ Met t keys whole

@@ -5,6 +5,7 @@ ghost use Rattle.osm_table.specs.Table.{keys_by_rank};
 ghost use Rattle.map_search.specs.Meets.{meets, found};
 ghost use Rattle.map_search.specs.Query.{depth};
 
+use crate::entries::entry_near;
 use crate::query::{Form, Query};
 use crate::relatives::{children, parents};
 use crate::sets::{others, those_of};
@@ -12,14 +13,16 @@ use crate::states::{begins_new, has_conflict, is_changed, is_deleted, is_incompl
 use dataset::DataSet;
 use osm_base::{Key, Keys};
 use std::alloc::AllocError;
+use std::cell::Cell;
 
 /// The keys of the table that meet the query, by rank, each once.
 ///
-/// It sorts the keys of the table once, and each word of the query costs at most one pass over them: `and` asks its right
-/// side only of what met the left one, and what `child` and `parent` stand before is asked of all. A pass of `child` looks
-/// at the users of each key, one of `parent` at the references of each way and relation, and they, `not` and `or` make a
-/// hashed set of what was found first. It calls itself once for each level of the query, which bounds the stack that it
-/// takes.
+/// Where the keys of the table stand by rank they are lent, and else sorted once. Each word of the query costs at most one
+/// pass over them: `and` asks its right side only of what met the left one, and what `child` and `parent` stand before is
+/// asked of all. A pass goes over the entries where they lie, so it looks none of them up whose key came behind the one
+/// before it; one by a kind looks at keys alone. `child` makes a hashed set of what the found ones refer to, `parent`,
+/// `not` and `or` one of the found ones. That costs a hash for each of them, and one for each key or reference that is
+/// asked whether it is among them. It calls itself once for each level of the query, which bounds the stack that it takes.
 ///
 /// # Errors
 /// No memory was left.
@@ -39,25 +42,26 @@ fn meeting(ds: &DataSet, all: &[Key], keys: &[Key], query: &Query) -> Result<Vec
 {
     let alloc = ds.alloc();
     let keys_of = keys.iter().copied();
+    let near = Cell::new(0);
     match &query.form {
         Form::OfKind(kind) => keys_of.filter(|key| key.kind == *kind).collect(alloc),
         Form::Tag { key: tag, value } => keys_of
-            .filter(|key| is_tagged(ds.entry(*key), tag, value))
+            .filter(|key| is_tagged(entry_near(ds, &near, *key), tag, value))
             .collect(alloc),
         Form::IsNew => keys_of
-            .filter(|key| begins_new(ds.entry(*key)))
+            .filter(|key| begins_new(entry_near(ds, &near, *key)))
             .collect(alloc),
         Form::IsChanged => keys_of
-            .filter(|key| is_changed(ds.entry(*key)))
+            .filter(|key| is_changed(entry_near(ds, &near, *key)))
             .collect(alloc),
         Form::IsDeleted => keys_of
-            .filter(|key| is_deleted(ds.entry(*key)))
+            .filter(|key| is_deleted(entry_near(ds, &near, *key)))
             .collect(alloc),
         Form::IsIncomplete => keys_of
-            .filter(|key| is_incomplete(ds.entry(*key)))
+            .filter(|key| is_incomplete(entry_near(ds, &near, *key)))
             .collect(alloc),
         Form::HasConflict => keys_of
-            .filter(|key| has_conflict(ds.entry(*key)))
+            .filter(|key| has_conflict(entry_near(ds, &near, *key)))
             .collect(alloc),
         Form::Child(of) => children(ds, keys, &meeting(ds, all, all, of)?),
         Form::Parent(of) => parents(ds, keys, &meeting(ds, all, all, of)?),

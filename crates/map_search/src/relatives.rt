@@ -1,45 +1,85 @@
 //! Keys that refer to found ones, and those to which found ones refer.
-ghost use Rattle.std.specs.Prelude.{◌≡◌, IfOk};
-ghost use Rattle.std.specs.List.{filter, list_any};
+ghost use Rattle.std.specs.Prelude.{◌≡◌, ◌++◌, IfOk, OnOk};
+ghost use Rattle.std.specs.List.{filter, flat_map, list_any};
 ghost use Rattle.std.specs.Option.{option_copied};
 ghost use Rattle.closure.specs.Closure.{has};
 ghost use Rattle.dataset.specs.Exact.{refs_at};
 ghost use Rattle.osm_base.specs.Content.{node, refs_of};
 ghost use Rattle.osm_base.specs.Rank.{is_key};
 ghost use Rattle.osm_base.specs.RisingKeys.{is_in};
-ghost use Rattle.osm_table.specs.Table.{entry_of, users};
+ghost use Rattle.osm_table.specs.Table.{entry_of};
 
+use crate::entries::entry_near;
 use closure::{is_among, set_of};
 use dataset::DataSet;
 use indexmap::IndexSet;
-use osm_base::{Content, Key, Kind, Member, node_key};
+use osm_base::{Content, Key, Kind, Member, node_key, push_references};
 use osm_table::SharedEntry;
-use std::alloc::AllocError;
+use std::alloc::{AllocError, Global};
+use std::cell::Cell;
 
-/// The keys to which a found one refers. It looks at the users of each key.
+/// The keys to which a found one refers. It costs the references of the found ones, which it makes a hashed set of, and
+/// asks each key whether it is among them.
 pub fn children(ds: &DataSet, keys: &[Key], found: &[Key]) -> Result<Vec<Key>, AllocError>
-    ensures { IfOk result (λ met. met.items ≡ filter (λ k. list_any (λ user. is_in user found.now) (users ds.now k)) keys.now) }
+    ensures { IfOk result (λ met. met.items ≡ filter (λ k. list_any (λ user. is_in k (refs_at (entry_of ds.now user))) found.now) keys.now) }
 {
-    let found = set_of(ds.alloc(), found)?;
-    used_by(ds, keys, &found)
+    let refs = references(ds, found)?;
+    let set = set_of(ds.alloc(), &refs)?;
+    those_among(ds.alloc(), keys, &set)
 }
 
-fn used_by(ds: &DataSet, keys: &[Key], found: &IndexSet<Key>) -> Result<Vec<Key>, AllocError>
-    ensures { IfOk result (λ met. met.items ≡ filter (λ k. list_any (has is_key found.now.keys) (users ds.now k)) keys.now) }
+fn those_among(alloc: Global, keys: &[Key], set: &IndexSet<Key>) -> Result<Vec<Key>, AllocError>
+    ensures { IfOk result (λ met. met.items ≡ filter (has is_key set.now.keys) keys.now) }
 {
     keys.iter()
         .copied()
-        .filter(|key| any_among(ds.users(*key), found))
-        .collect(ds.alloc())
+        .filter(|key| is_among(set, *key))
+        .collect(alloc)
 }
 
-fn any_among(keys: &[Key], found: &IndexSet<Key>) -> bool
-    ensures { result ≡ list_any (has is_key found.now.keys) keys.now }
+/// To what the living objects of the keys refer, one after the other.
+fn references(ds: &DataSet, keys: &[Key]) -> Result<Vec<Key>, AllocError>
+    ensures { IfOk result (λ refs. refs.items ≡ flat_map (λ k. refs_at (entry_of ds.now k)) keys.now) }
 {
-    keys.iter().any(|key| is_among(found, *key))
+    let near = Cell::new(0);
+    let mut refs = Vec::new(ds.alloc());
+    for key in keys {
+        push_references_of(ds, &near, *key, &mut refs)?;
+    }
+    Ok(refs)
 }
 
-/// The keys of living objects that refer to a found one. It looks at the references of each way and relation.
+/// Appends to what the key's object refers, if it lives. Nodes refer to nothing, so a node's key isn't looked up.
+#[tactic(auto, using(crate::proofs::OfKinds::nodes_have_no_refs))]
+fn push_references_of(
+    ds: &DataSet,
+    near: &Cell<usize>,
+    key: Key,
+    refs: &mut Vec<Key>,
+) -> Result<(), AllocError>
+    ensures { OnOk result (refs.new.items ≡ refs.old.items ++ refs_at (entry_of ds.now key)) }
+{
+    ds.sound();
+    match key.kind {
+        Kind::Node => Ok(()),
+        Kind::Way | Kind::Relation => push_living(entry_near(ds, near, key), refs),
+    }
+}
+
+fn push_living(entry: Option<&SharedEntry>, refs: &mut Vec<Key>) -> Result<(), AllocError>
+    ensures { OnOk result (refs.new.items ≡ refs.old.items ++ refs_at (option_copied entry.entry)) }
+{
+    let Some(entry) = entry else {
+        return Ok(());
+    };
+    match entry.mine() {
+        None => Ok(()),
+        Some(content) => push_references(content, refs),
+    }
+}
+
+/// The keys of living objects that refer to a found one. It makes a hashed set of the found ones, and asks each reference
+/// of the ways and relations, up to the first, whether it is among them.
 pub fn parents(ds: &DataSet, keys: &[Key], found: &[Key]) -> Result<Vec<Key>, AllocError>
     ensures { IfOk result (λ met. met.items ≡ filter (λ k. list_any (λ of. is_in of found.now) (refs_at (entry_of ds.now k))) keys.now) }
 {
@@ -50,21 +90,22 @@ pub fn parents(ds: &DataSet, keys: &[Key], found: &[Key]) -> Result<Vec<Key>, Al
 fn users_of(ds: &DataSet, keys: &[Key], found: &IndexSet<Key>) -> Result<Vec<Key>, AllocError>
     ensures { IfOk result (λ met. met.items ≡ filter (λ k. list_any (has is_key found.now.keys) (refs_at (entry_of ds.now k))) keys.now) }
 {
+    let near = Cell::new(0);
     keys.iter()
         .copied()
-        .filter(|key| is_user(ds, *key, found))
+        .filter(|key| is_user(ds, &near, *key, found))
         .collect(ds.alloc())
 }
 
 /// Whether the key's object lives and refers to a found one. Nodes refer to nothing, so a node's key isn't looked up.
 #[tactic(auto, using(crate::proofs::OfKinds::nodes_have_no_refs))]
-fn is_user(ds: &DataSet, key: Key, found: &IndexSet<Key>) -> bool
+fn is_user(ds: &DataSet, near: &Cell<usize>, key: Key, found: &IndexSet<Key>) -> bool
     ensures { result ≡ list_any (has is_key found.now.keys) (refs_at (entry_of ds.now key)) }
 {
     ds.sound();
     match key.kind {
         Kind::Node => false,
-        Kind::Way | Kind::Relation => refers_among(ds.entry(key), found),
+        Kind::Way | Kind::Relation => refers_among(entry_near(ds, near, key), found),
     }
 }
 
