@@ -5,6 +5,9 @@ the program in crates/*/src, or to what the toolkit defines, and from there on. 
 on; of the toolkit it may be more, since there a lemma that a definition cites is followed too. The logic's own words (numbers,
 lists, equality) aren't followed.
 
+A law may settle a definition: it says of every answer when the definition gives it, in other words. Then what the law says is
+followed in the definition's place, since it leaves no other answer; the law is proved of it.
+
 Lines are counted without comments and empty ones.
 """
 import collections
@@ -22,6 +25,11 @@ ENDS = ('use ', 'pub use ', 'pub mod ', 'module ')
 WORD = re.compile(r'[^\s(){}\[\],;:λ→×≡]+')
 TYPE = re.compile(r'^(?:pub(?:\([a-z]+\))? )?(?:enum|struct|trait) (\w+)\b(?:[^\n]*[;}]$|.*?^\}$)', re.M | re.S)
 USE = re.compile(r'^(?:pub |ghost )?use ((?:Rattle|lib)\.[\w.]+?)(?:\.\{([^}\n]*)\}| as (\w+));?$', re.M)
+
+# the definitions that a law settles, by their crates, and where the law stands in src/ with its name
+SETTLED = {('saved_session', 'saved_table'): ('law.rt', 'saved_table_is_told')}
+# how it reads: variables, the definition of some of them, an answer that is another, and what is said of them
+LAW = re.compile(r'\{ ((?:\(\w+ : [^()]*(?:\([^()]*\)[^()]*)*\) )+)→ \((\w+) ((?:\w+ )*)≡ (\w+)\) ↔ (.+) \}')
 
 Definition = collections.namedtuple('Definition', 'crate file line name lines text')
 
@@ -229,8 +237,32 @@ class Tree:
         """What a word of a file leads to, if it is another definition."""
         key = (file.path, word)
         if key not in self.meanings:
-            self.meanings[key] = self.sought(file, word)
+            hit = self.sought(file, word)
+            self.meanings[key] = self.law(hit[1].crate, hit[1].name)[:2] if hit and (hit[1].crate, hit[1].name) in SETTLED else hit
         return self.meanings[key]
+
+    def law(self, crate, name):
+        """The file and the law that settles a definition, and what it says of it: for all that the definition may be given, and
+        for every answer."""
+        place, function = SETTLED[crate, name]
+        source = self.sources[CRATES / crate / 'src' / place]
+        (_, text), = clauses(source.path, function)
+        text = ' '.join(text.split())
+        said = said_of(name, text)
+        if not said:
+            raise SystemExit('{} of {} settles no {}'.format(function, source.place, name))
+        number = source.text[:source.text.index('fn ' + function)].count('\n') + 1
+        return source, Definition(crate, source.place, number, function, 1, text), said
+
+    def check_laws(self):
+        """Ends where a law rests on the definition that it settles."""
+        for crate, name in SETTLED:
+            source, law, said = self.law(crate, name)
+            self.forget()
+            self.follow(source, said)
+            if law[:4] in self.reached:
+                raise SystemExit('{} of {} rests on {}'.format(law.name, law.file, name))
+        self.forget()
 
     def sought(self, file, word):
         first, _, rest = word.partition('.')
@@ -281,6 +313,14 @@ class Tree:
                 left.append((key, True))
                 left += [(it, False) for it in reversed(list(self.users.get(key, ()))) if it not in done]
         return listed
+
+
+def said_of(name, law):
+    """What a law says of a definition, for whatever it is given and for every answer; or None."""
+    hit = LAW.fullmatch(law)
+    if not hit or hit[2] != name:
+        return None
+    return hit[5] if sorted(hit[3].split() + [hit[4]]) == sorted(re.findall(r'\((\w+) :', hit[1])) else None
 
 
 def clauses(path, function):

@@ -94,6 +94,20 @@ class Files(unittest.TestCase):
         self.assertEqual({'get': 2, 'Bag': 2, 'plain': 2}, {name: made.lines for name, made in file.own.items()})
         self.assertEqual(('core.specs.Option', 'is_some'), file.names['is_some'])
 
+    def test_what_a_law_says(self):
+        self.assertEqual('Said n answer', definitions.said_of('made', '{ (n : ℕ) (answer : List (A × B)) → (made n ≡ answer) ↔ Said n answer }'))
+        for law in ('{ (n : ℕ) (answer : ℕ) → (made n ≡ 1) ↔ Said n answer }', '{ (n : ℕ) (answer : ℕ) → made n ≡ answer → Said n answer }',
+                    '{ (answer : ℕ) → (made 1 ≡ answer) ↔ Said answer }', '{ (n : ℕ) (answer : ℕ) → Fits n → (made n ≡ answer) ↔ Said n answer }'):
+            self.assertIsNone(definitions.said_of('made', law))
+
+    def test_a_definition_that_a_law_settles(self):
+        tree = definitions.Tree()
+        tree.check_laws()
+        tree.follow(tree.specs['saved_session.specs.Resumed'], 'saved_table')
+        reached = {it.name for it in tree.reached.values()}
+        self.assertLessEqual({'saved_table_is_told', 'IsTold', 'saved_lines'}, reached)
+        self.assertFalse({'saved_table', 'session_from', 'least_unsound'} & reached)
+
 
 if __name__ == '__main__':
     unittest.main()

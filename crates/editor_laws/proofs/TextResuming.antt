@@ -34,10 +34,10 @@ use Rattle.saved_session.specs.declared.words.Words.{Words}
 use Rattle.saved_session.specs.declared.words.Head.{Head}
 use Rattle.saved_session.specs.declared.words.Head.TheVariants as head
 use Rattle.saved_session.specs.Answers.{◌>>=◌}
-use Rattle.saved_session.specs.Reading.{Entries, Session, base_as, base_at, behind_header, ending, entries_from, has_ended, is_behind, is_header, mine_at, object_behind, object_in, object_text, onto, server_base, session_from, step, stepped, table_of, theirs_at, with_base, with_head, with_mine, with_next, with_words}
+use Rattle.saved_session.specs.Reading.{Entries, Session, base_as, base_at, behind_header, ending, entries_from, has_ended, is_behind, mine_at, object_behind, object_in, object_text, onto, server_base, session_from, step, stepped, table_of, theirs_at, with_base, with_head, with_mine, with_next, with_words}
 use Rattle.saved_session.specs.Resumed.{if_sound, saved_table, tested}
 use Rattle.saved_session.specs.SoundTest.{least_unsound}
-use Rattle.saved_session.specs.Words.{behind_word, head_of, header_of}
+use Rattle.saved_session.specs.Words.{behind_word, head_of, header_of, is_header}
 use Rattle.download.specs.Tell.{told_side}
 use Rattle.editor_laws.proofs.SeenLists.{IfSome}
 use Rattle.editor_laws.specs.Texts.{HasTexts, IsTextBase, IsTextEntry, IsTextSide, IsTextTable}

@@ -66,17 +66,17 @@ theirs_step : (key : Key) (base : Base) (mine : Option Content) (c : Conflict) �
 unfolding step
 theirs_step key base mine c good = rw (theirs_again key c.theirs good) refl
 
-mine_follows : (key : Key) (base : Base) (mine : Option Content) (conflict : Option Conflict) (lines : List (List ℕ)) (es : Entries) → IfTheirs conflict (IsServerWritable key) → Reads (place.Head (Some key)) lines es →
+pub mine_follows : (key : Key) (base : Base) (mine : Option Content) (conflict : Option Conflict) (lines : List (List ℕ)) (es : Entries) → IfTheirs conflict (IsServerWritable key) → Reads (place.Head (Some key)) lines es →
     Follows (with_mine key base mine (why_word conflict)) (theirs_lines key conflict ++ lines) ((key, entry.Known base mine conflict) ∷ es)
 mine_follows key base mine None lines es good rest = ends key (entry.Known base mine None) lines es rest
 mine_follows key base mine (Some c) lines es good rest =
     one_line (place.Theirs key base mine c.why) (codes "theirs " ++ server_written key c.theirs) (ending key (entry.Known base mine (Some c))) lines ((key, entry.Known base mine (Some c)) ∷ es)
     (theirs_plain key c.theirs) (theirs_step key base mine c good) (ends key (entry.Known base mine (Some c)) lines es rest)
 
-mine_step : (key : Key) (base : Base) (c : Content) (conflict : Option Conflict) → IsWritable key (mine_version key.id) (Some c) empty_meta → same_mine (Some c) (held_by base) ≡ false →
-    step (place.Mine key base (why_word conflict)) (codes "mine " ++ own_written key (Some c)) ≡ Some (with_mine key base (Some c) (why_word conflict))
+pub mine_step : (key : Key) (base : Base) (c : Content) (why : Option Why) → IsWritable key (mine_version key.id) (Some c) empty_meta → same_mine (Some c) (held_by base) ≡ false →
+    step (place.Mine key base why) (codes "mine " ++ own_written key (Some c)) ≡ Some (with_mine key base (Some c) why)
 unfolding step
-mine_step key base c conflict good other = rw (own_again key base c good other) refl
+mine_step key base c why good other = rw (own_again key base c good other) refl
 
 -- what the word for mine says
 abbrev IsMineWord : MineWord → Base → Option Content → Type 0
@@ -104,14 +104,14 @@ base_follows Own key base mine conflict lines es (c, is, other) good rest =
     let writable : IsWritable key (mine_version key.id) (Some c) empty_meta = subst (λ (m : Option Content). IfContent m (λ c. IsWritable key (mine_version key.id) (Some c) empty_meta)) is good.mine_is in
     subst (λ (m : Option Content). Reads (place.Mine key base (why_word conflict)) ((codes "mine " ++ own_written key m) ∷ (theirs_lines key conflict ++ lines)) ((key, entry.Known base m conflict) ∷ es)) (sym is)
     (one_line (place.Mine key base (why_word conflict)) (codes "mine " ++ own_written key (Some c)) (with_mine key base (Some c) (why_word conflict)) (theirs_lines key conflict ++ lines) ((key, entry.Known base (Some c) conflict) ∷ es)
-    (mine_plain key (Some c)) (mine_step key base c conflict writable other) (mine_follows key base (Some c) conflict lines es good.theirs_is rest))
+    (mine_plain key (Some c)) (mine_step key base c (why_word conflict) writable other) (mine_follows key base (Some c) conflict lines es good.theirs_is rest))
 
-live_step : (key : Key) (version : ℕ) (content : Content) (meta : Meta) (mine : MineWord) (why : Option Why) → IsWritable key version (Some content) meta →
+pub live_step : (key : Key) (version : ℕ) (content : Content) (meta : Meta) (mine : MineWord) (why : Option Why) → IsWritable key version (Some content) meta →
     step (place.Base key (record { base = Live; mine = mine; why = why })) (codes "base " ++ server_written key (bases.Live version content meta)) ≡ Some (with_base key (bases.Live version content meta) mine why)
 unfolding step
 live_step key version content meta mine why good = rw (live_again key version content meta good) refl
 
-gone_step : (key : Key) (version : ℕ) (meta : Meta) (mine : MineWord) (why : Option Why) → IsWritable key version None meta →
+pub gone_step : (key : Key) (version : ℕ) (meta : Meta) (mine : MineWord) (why : Option Why) → IsWritable key version None meta →
     step (place.Base key (record { base = Gone; mine = mine; why = why })) (codes "base " ++ server_written key (bases.Gone version meta)) ≡ Some (with_base key (bases.Gone version meta) mine why)
 unfolding step
 gone_step key version meta mine why good = rw (gone_again key version meta good) refl
@@ -153,7 +153,7 @@ incomplete_step : (last : Option Key) (key : Key) → IsId key.id → is_behind 
 unfolding step
 incomplete_step last key id behind = rw (head_again (Incomplete key) id, behind) refl
 
-end_step : (last : Option Key) → step (place.Head last) (head_written End) ≡ Some (awaiting place.Behind)
+pub end_step : (last : Option Key) → step (place.Head last) (head_written End) ≡ Some (awaiting place.Behind)
 unfolding step
 end_step last = rw (head_again End tt) refl
 
@@ -191,7 +191,7 @@ unfolding step
 behind_step line = refl
 
 -- behind the end all is skipped
-behind_skipped : (lines : List (List ℕ)) → Reads place.Behind lines []
+pub behind_skipped : (lines : List (List ℕ)) → Reads place.Behind lines []
 behind_skipped [] n = refl
 behind_skipped (line ∷ lines) n = rw (behind_step (freed line)) (behind_skipped lines (n + 1))
 

@@ -13,4 +13,12 @@ pub mod Writable
 pub mod ObjectAgain
 pub mod EntryAgain
 pub mod TableAgain
+pub mod HasLines
+pub mod HeadRead
+pub mod Fitting
+pub mod Ahead
+pub mod Stopping
+pub mod Standing
+pub mod LeastUnsound
+pub mod ToldExactly
 mod Examples

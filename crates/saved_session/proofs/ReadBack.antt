@@ -26,8 +26,7 @@ use Rattle.osm_table.specs.declared.entry.Entry.TheVariants as entry
 use Rattle.opl_line.specs.Line.{freed}
 use Rattle.saved_session.specs.Words.{base_word, mine_word, why_word, words_of, head_of, head_written, header_of, header_written}
 use Rattle.saved_session.specs.Saved.{base_lines, mine_lines, theirs_lines, entry_lines, entries_lines, own_written}
-use Rattle.saved_session.specs.Reading.{Entries, Session, awaiting, base_at, behind_header, ending, entries_from, has_ended, is_behind, is_header, may_stand, mine_at, onto, session_from, step, stepped, theirs_at, with_base, with_head, with_mine, with_next, with_words}
-use Rattle.saved_session.specs.Resumed.{session_lines}
+use Rattle.saved_session.specs.Reading.{Entries, Session, awaiting, base_at, behind_header, ending, entries_from, has_ended, is_behind, may_stand, mine_at, onto, step, stepped, theirs_at, with_base, with_head, with_mine, with_next, with_words}
 use Rattle.saved_session.specs.declared.words.BaseWord.{BaseWord}
 use Rattle.saved_session.specs.declared.words.BaseWord.TheVariants.{New, Live, Gone}
 use Rattle.saved_session.specs.declared.words.MineWord.{MineWord}
@@ -91,7 +90,7 @@ Left s es lines = left_by s.entry s.place es lines
 
 -- ---- entries by rank
 
-less_behind : (x y : Key) (es : Entries) → rank_cmp x y ≡ Less → T (below_all rank_cmp y es) → T (below_all rank_cmp x es)
+pub less_behind : (x y : Key) (es : Entries) → rank_cmp x y ≡ Less → T (below_all rank_cmp y es) → T (below_all rank_cmp x es)
 less_behind x y [] less below = tt
 less_behind x y (e ∷ es) less below =
     both_T (is_lt (rank_cmp x e.0)) (below_all rank_cmp x es)
@@ -304,7 +303,7 @@ line_made place.Behind line s es lines wait e goes = subst (λ (s : Step). Goes 
 
 -- ---- all lines
 
-ok_is : (xs ys : Entries) → ◌≡◌ {A = Result Entries ℕ} (Ok xs) (Ok ys) → xs ≡ ys
+pub ok_is : (xs ys : Entries) → ◌≡◌ {A = Result Entries ℕ} (Ok xs) (Ok ys) → xs ≡ ys
 ok_is xs ys e = cc
 
 left_case : (o : Option (Key × Entry)) (here : Place) (r : Result Entries ℕ) (es : Entries) (lines : List (List ℕ)) → onto o r ≡ Ok es → ((fs : Entries) → r ≡ Ok fs → Made here fs lines) → left_by o here es lines
@@ -312,7 +311,7 @@ left_case None here r es lines e made = made es e
 left_case (Some x) here (Ok fs) es lines e made = (fs, sym (ok_is (x ∷ fs) es e), made fs refl)
 left_case (Some x) here (Err n) es lines e made = absurd cc
 
-stepped_ok : (n : ℕ) (o : Option Step) (go : Step → Result Entries ℕ) (es : Entries) → stepped n o go ≡ Ok es → (s : Step) × (o ≡ Some s) × (go s ≡ Ok es)
+pub stepped_ok : (n : ℕ) (o : Option Step) (go : Step → Result Entries ℕ) (es : Entries) → stepped n o go ≡ Ok es → (s : Step) × (o ≡ Some s) × (go s ≡ Ok es)
 stepped_ok n None go es e = absurd cc
 stepped_ok n (Some s) go es e = (s, refl, e)
 
@@ -340,11 +339,11 @@ pub record IsRead (s : Session) (lines : List (List ℕ)) : Type 0 where
 session_is : (a b : Session) → ◌≡◌ {A = Result Session ℕ} (Ok a) (Ok b) → a ≡ b
 session_is a b e = cc
 
-next_read : (next : ℕ) (r : Result Entries ℕ) (s : Session) → with_next next r ≡ Ok s → (r ≡ Ok s.entries) × (next ≡ s.next)
+pub next_read : (next : ℕ) (r : Result Entries ℕ) (s : Session) → with_next next r ≡ Ok s → (r ≡ Ok s.entries) × (next ≡ s.next)
 next_read next (Ok es) s e = let is : record { next = next; entries = es } ≡ s = session_is (record { next = next; entries = es }) s e in (ap (λ (x : Session). Ok x.entries) is, ap (λ (x : Session). x.next) is)
 next_read next (Err n) s e = absurd cc
 
-header_read : (n : ℕ) (o : Option ℕ) (line : List ℕ) (lines : List (List ℕ)) (s : Session) → header_of line ≡ o → behind_header n o lines ≡ Ok s → IsRead s (line ∷ map freed lines)
+pub header_read : (n : ℕ) (o : Option ℕ) (line : List ℕ) (lines : List (List ℕ)) (s : Session) → header_of line ≡ o → behind_header n o lines ≡ Ok s → IsRead s (line ∷ map freed lines)
 header_read n None line lines s is e = absurd cc
 header_read n (Some next) line lines s is e =
     let p = next_read next (entries_from (n + 1) (place.Head None) lines) s e in
@@ -355,14 +354,3 @@ header_read n (Some next) line lines s is e =
       behind = m.behind;
       read = λ i. (sym (header_back line next is) ∙ ap header_written p.1) i ∷ m.read i;
     }
-
-first_read : (b : Bool) (x y : Result Session ℕ) (s : Session) (ls ms : List (List ℕ)) → cond b x y ≡ Ok s → (x ≡ Ok s → IsRead s ls) → (y ≡ Ok s → IsRead s ms) → IsRead s (cond b ls ms)
-first_read true x y s ls ms e here later = here e
-first_read false x y s ls ms e here later = later e
-
--- what was read of a text
-pub session_read : (n : ℕ) (lines : List (List ℕ)) (s : Session) → session_from n lines ≡ Ok s → IsRead s (session_lines lines)
-session_read n [] s e = absurd cc
-session_read n (line ∷ lines) s e =
-    first_read (is_header (freed line)) (behind_header n (header_of (freed line)) lines) (session_from (n + 1) lines) s (freed line ∷ map freed lines) (session_lines lines) e
-    (header_read n (header_of (freed line)) (freed line) lines s refl) (session_read (n + 1) lines s)

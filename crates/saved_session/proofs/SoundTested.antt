@@ -240,7 +240,7 @@ tested_sound t number none =
     (ap (breaks t k) (sym has) ∙ none_found (is_unsound t) (keys_by_rank t) none k (sym (fin.contains_key-keys t.entries k) ∙ ap is_some has))) in
     record { entries = λ k e has. (each k e has).0; closed = λ k e has. (each k e has).1; number = number }
 
-fits_at : (t : TableValue) (k : Key) (o : Option Entry) → ((e : Entry) → o ≡ Some e → is_sound_at t k e ≡ true) → breaks t k o ≡ false
+pub fits_at : (t : TableValue) (k : Key) (o : Option Entry) → ((e : Entry) → o ≡ Some e → is_sound_at t k e ≡ true) → breaks t k o ≡ false
 fits_at t k None h = refl
 fits_at t k (Some e) h = ap not (h e refl)
 

@@ -14,10 +14,10 @@ use Rattle.opl_line.specs.Line.{freed}
 use Rattle.opl_line.proofs.Unbroken.{Unbroken, AllUnbroken}
 use Rattle.opl_file.specs.Cut.{has_lf, lines_of}
 use Rattle.opl_file.proofs.Cutting.{lines_of-line}
-use Rattle.saved_session.specs.Words.{header_written}
+use Rattle.saved_session.specs.Words.{header_written, is_header}
 use Rattle.saved_session.specs.Saved.{ended, saved, saved_lines}
 use Rattle.saved_session.specs.Savable.{AreReadable, is_before}
-use Rattle.saved_session.specs.Reading.{Entries, Session, is_header, session_from, table_of}
+use Rattle.saved_session.specs.Reading.{Entries, Session, session_from, table_of}
 use Rattle.saved_session.specs.Resumed.{if_sound, saved_table, tested, within}
 use Rattle.saved_session.proofs.ByKey.{Every}
 use Rattle.saved_session.proofs.EntryAgain.{entries_again, freed_plain}
@@ -71,14 +71,14 @@ text_again front t behind before =
 entries_back : (m : fin.FinMap rank_cmp Entry) → fin.from_entries (fin.entries m) ≡ m
 entries_back m = fin.same_map rank_total rank_exact (fin.from_entries (fin.entries m)) m (λ q. fin.get-from_entries rank_total (fin.entries m) q ∙ sym (fin.get-entries m q))
 
-first_behind : (es : Entries) → is_first_behind None es ≡ true
+pub first_behind : (es : Entries) → is_first_behind None es ≡ true
 first_behind [] = refl
 first_behind (e ∷ es) = refl
 
-abbrev session_of : TableValue → Session
+abbrev pub session_of : TableValue → Session
 session_of t = record { next = t.next; entries = fin.entries t.entries }
 
-from_header : (n : ℕ) (t : TableValue) (behind : List (List ℕ)) → id_test t.next ≡ true → Every IsSavableEntry (fin.entries t.entries) → session_from n (saved_lines t ++ behind) ≡ Ok (session_of t)
+pub from_header : (n : ℕ) (t : TableValue) (behind : List (List ℕ)) → id_test t.next ≡ true → Every IsSavableEntry (fin.entries t.entries) → session_from n (saved_lines t ++ behind) ≡ Ok (session_of t)
 from_header n t behind number good =
     let es = fin.entries t.entries in
     rw (freed_plain (header_written t.next) (header_plain t.next), header_again t.next number, entries_again None es behind (fin.entries_sorted t.entries) (first_behind es) good (n + 1)) refl
@@ -91,10 +91,10 @@ session_again n (line ∷ front) t behind before number good =
     let q = and_parts (not (has_lf line)) (not (is_header (freed line))) p.0 in
     rw (not-true (is_header (freed line)) q.1) (session_again (n + 1) front t behind p.1 number good)
 
-table_again : (t : TableValue) → table_of (session_of t) ≡ t
+pub table_again : (t : TableValue) → table_of (session_of t) ≡ t
 table_again t i = record { entries = entries_back t.entries i; next = t.next }
 
-within_again : (limit : ℕ) (t : TableValue) → IsSound t → fin.len t.entries ≤ limit → within limit t ≡ Ok t
+pub within_again : (limit : ℕ) (t : TableValue) → IsSound t → fin.len t.entries ≤ limit → within limit t ≡ Ok t
 within_again limit t sound fits = ap (if_sound limit t) (sound_tested t sound) ∙ rw (le-ltb limit (fin.len t.entries) fits) refl
 
 pub among_lines : (limit : ℕ) (t : TableValue) (front : List (List ℕ)) (behind : List ℕ) → IsSound t → AreReadable t → fin.len t.entries ≤ limit → list_all is_before front ≡ true → saved_table limit (ended front ++ (saved t ++ behind)) ≡ Ok t

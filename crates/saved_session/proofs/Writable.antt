@@ -49,11 +49,11 @@ server_version : (z : ℤ) (version : ℕ) → IsPositive z → IsVersion versio
 server_version (pos n) version h v = v
 server_version (negsuc n) version h v = absurd h
 
-own_version : (z : ℤ) → line.HasVersion z (mine_version z)
+pub own_version : (z : ℤ) → line.HasVersion z (mine_version z)
 own_version (pos n) = (omega arith, omega arith)
 own_version (negsuc n) = refl
 
-none_known : IsMeta empty_meta
+pub none_known : IsMeta empty_meta
 none_known = record { changeset = omega arith; time = tt; uid = omega arith; user = (([], (refl, refl)), refl) }
 
 live_writable : (key : Key) (version : ℕ) (content : Content) (meta : Meta) → IsPositive key.id → kind_of_content content ≡ key.kind → IsVersion version → IsContent content → IsMeta meta → IsWritable key version (Some content) meta
@@ -106,6 +106,9 @@ entry_savable next key (Known base mine (Some c)) most s r =
 
 pub number_id : (next : ℕ) → IsNumber next → id_test next ≡ true
 number_id next h = grind (arith, nat_tests)
+
+pub number_is : (next : ℕ) → id_test next ≡ true → IsNumber next
+number_is next e = grind (arith, nat_tests, e)
 
 pub sound_savable : (t : TableValue) → IsSound t → AreReadable t → Every IsSavableEntry (fin.entries t.entries)
 sound_savable t s r =

@@ -5,5 +5,6 @@ pub mod Pieces
 pub mod Reading
 pub mod SoundTest
 pub mod Resumed
+pub mod Told
 pub mod Savable
 pub mod Drafting

@@ -2,17 +2,16 @@
 --
 -- A text is refused by the first that holds: a line can't stand in its place (`BadSaved` with the first such line, or the
 -- number after the last where the text ends too early); an entry breaks a condition of a sound table (`Unsound` with the
--- least such key); there are more entries than the limit (`TableFull`).
-use Rattle.std.specs.Prelude.{◌≡◌, ℕ, nat_lt, if◌then◌else◌, List, [], ◌∷◌, ◌++◌, map, Option, Some, None, Result, Ok, Err}
+-- least such key); there are more entries than the limit (`TableFull`). This is how it is found; what it means stands in
+-- `Told`, which leaves no other answer (`saved_table_is_told`).
+use Rattle.std.specs.Prelude.{◌≡◌, ℕ, nat_lt, if◌then◌else◌, List, Option, Some, None, Result, Ok, Err}
 use Rattle.std.specs.FinMap as fin
 use Rattle.osm_base.specs.declared.key.Key.{Key}
 use Rattle.osm_table.specs.Table.{TableValue}
 use Rattle.dataset.specs.Patch.{PatchValue}
 use Rattle.dataset.specs.Diff.{diff}
-use Rattle.opl_line.specs.Line.{freed}
 use Rattle.opl_file.specs.Cut.{lines_of}
-use Rattle.saved_session.specs.Reading.{Session, is_header, session_from, table_of}
-use Rattle.saved_session.specs.Saved.{saved_lines}
+use Rattle.saved_session.specs.Reading.{Session, session_from, table_of}
 use Rattle.saved_session.specs.SoundTest.{least_unsound}
 use Rattle.saved_session.specs.declared.fault.SavedFault.{SavedFault}
 use Rattle.saved_session.specs.declared.fault.SavedFault.TheVariants.{BadSaved, Unsound, TableFull, Memory}
@@ -51,13 +50,3 @@ abbrev pub Resumes : Result PatchValue SavedFault → Result PatchValue SavedFau
 Resumes (Ok patch) answer = answer ≡ Ok patch
 Resumes (Err Memory) answer = Unit {0}
 Resumes (Err fault) answer = answer ≡ Err fault
-
--- the lines from the first that begins with `session ` on, without the CR at their ends
-abbrev pub session_lines : List (List ℕ) → List (List ℕ)
-session_lines [] = []
-session_lines (line ∷ lines) = if is_header (freed line) then freed line ∷ map freed lines else session_lines lines
-
--- The lines that were read, from the header to the end, are those of the table.
-pub record IsSavedIn (bytes : List ℕ) (t : TableValue) : Type 0 where
-  pub behind : List (List ℕ)
-  pub read : session_lines (lines_of bytes) ≡ saved_lines t ++ behind

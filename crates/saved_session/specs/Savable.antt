@@ -8,7 +8,7 @@ use Rattle.opl_line.specs.Line.{freed}
 use Rattle.opl_line.specs.Writable.{IsContent, IsMeta}
 use Rattle.opl_file.specs.Cut.{has_lf}
 use Rattle.dataset.specs.Sound.{IfTheirs, IfKnown}
-use Rattle.saved_session.specs.Reading.{is_header}
+use Rattle.saved_session.specs.Words.{is_header}
 
 -- a content and metadata that a reader of lines can give: texts of UTF-8 without U+0000, and times of time texts
 abbrev pub IsReadableBase : Base → Type 0

@@ -3,8 +3,7 @@
 ghost use Rattle.std.specs.Prelude.{◌≡◌, ◌≤◌, ◌^◌, IfSome};
 ghost use Rattle.std.specs.Option.{option_map};
 ghost use Rattle.saved_session.specs.Answers.{Gives};
-ghost use Rattle.saved_session.specs.Words.{base_text, mine_text, why_text, words_text, known_text, incomplete_text, head_text, head_named, head_of, header_text, header_of, first_word, behind_word};
-ghost use Rattle.saved_session.specs.Reading.{is_header};
+ghost use Rattle.saved_session.specs.Words.{base_text, mine_text, why_text, words_text, known_text, incomplete_text, head_text, head_named, head_of, header_text, header_of, first_word, behind_word, is_header};
 
 use crate::fault::Unread;
 use crate::words::{BaseWord, Head, MineWord, Words};

@@ -4,8 +4,10 @@ ghost use Rattle.std.specs.FinMap.Entries.{is_sorted};
 ghost use Rattle.osm_base.specs.Rank.{rank_cmp};
 ghost use Rattle.dataset.specs.Patch.{StandsBefore, after_of};
 ghost use Rattle.dataset.specs.Sound.{IsSound};
+ghost use Rattle.opl_file.specs.Cut.{lines_of};
 ghost use Rattle.saved_session.specs.Reading.{table_of};
-ghost use Rattle.saved_session.specs.Resumed.{IsSavedIn, Resumes, patch_to, saved_patch, within};
+ghost use Rattle.saved_session.specs.Resumed.{Resumes, patch_to, saved_patch, within};
+ghost use Rattle.saved_session.specs.Told.{StandsIn};
 
 use crate::drafting::draft_of;
 use crate::fault::SavedFault;
@@ -57,8 +59,8 @@ pub fn read_saved(ds: &DataSet, bytes: &[u8], limit: u64) -> Result<Patch, Saved
     // It leads to a sound table.
     ensures stands { IfOk result (λ patch. StandsBefore patch ds.now) }
     ensures sound { IfOk result (λ patch. IsSound (after_of patch ds.now)) }
-    // The lines that were read are those of that table.
-    ensures saved { IfOk result (λ patch. IsSavedIn bytes.now (after_of patch ds.now)) }
+    // The saved session of that table stands in the lines.
+    ensures saved { IfOk result (λ patch. StandsIn (after_of patch ds.now) (lines_of bytes.now)) }
 {
     let saved = read_table(ds.alloc(), bytes)?;
     patch_within(ds, &saved, limit)
