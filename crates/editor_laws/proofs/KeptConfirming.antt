@@ -29,7 +29,7 @@ use Rattle.placeholder.proofs.Moved.{moved_mine, same_open}
 use Rattle.placeholder.proofs.Named.{AreNamed, known_moved, named_again, left_again, none_named}
 use Rattle.placeholder.proofs.Steady.{IsFirst}
 use Rattle.placeholder.proofs.Steadily.{IsSteady, negative_key, answer_step, known_in, new_moved, within_moved, given_to, start_steady}
-use Rattle.editor_laws.specs.Kept.{wish, is_edited, IsWished}
+use Rattle.editor_laws.specs.Kept.{wish, IsWished}
 use Rattle.editor_laws.specs.Answered.{AnswerKeeps, EachAnswer}
 
 -- of what isn't in conflict mine is wanted
@@ -43,21 +43,24 @@ same_wish : (w : Option Content) → option_map (renamed (λ r. r)) w ≡ w
 same_wish None = refl
 same_wish (Some c) = ap (λ (d : Content). Some d) (renamed_itself (λ r. r) c (λ r h. refl))
 
-based_keeps : (b : Base) (o : Option Entry) (e : Entry) → o ≡ Some e → is_edited e ≡ true → IsWished (wish (Some e)) (Some (based_on b o))
-based_keeps b o e is edited = subst (λ (x : Option Entry). IsWished (wish (Some e)) (Some (based_on b x))) (sym is) (by e edited)
+-- on another base the same is wanted of an entry
+based_wishes : (b : Base) (o : Option Entry) (e : Entry) → o ≡ Some e → IsWished (wish (Some e)) (Some (based_on b o))
+based_wishes b o e is = subst (λ (x : Option Entry). IsWished (wish (Some e)) (Some (based_on b x))) (sym is) (by e)
   where
-    by : (e : Entry) → is_edited e ≡ true → IsWished (wish (Some e)) (Some (based_on b (Some e)))
-    by Incomplete edited = absurd (true≢false (sym edited))
-    by (Known old mine conflict) edited = (refl, refl)
+    by : (e : Entry) → IsWished (wish (Some e)) (Some (based_on b (Some e)))
+    by Incomplete = (refl, refl)
+    by (Known old mine conflict) = (refl, refl)
 
-set_keeps : (t : TableValue) (k : Key) (b : Base) (j : Key) (e : Entry) → entry_of t j ≡ Some e → is_edited e ≡ true → IsWished (option_map (renamed (λ r. r)) (wish (Some e))) (entry_of (with_entry t k (based_on b (entry_of t k))) j)
-set_keeps t k b j e is edited =
-    subst (λ (w : Option Content). IsWished w (entry_of (with_entry t k (based_on b (entry_of t k))) j)) (sym (same_wish (wish (Some e))))
-    (subst (IsWished (wish (Some e))) (sym (get_with t k (based_on b (entry_of t k)) j)) (by (is_key j k) refl))
+pub set_wishes : (t : TableValue) (k : Key) (b : Base) (j : Key) (e : Entry) → entry_of t j ≡ Some e → IsWished (wish (Some e)) (entry_of (with_entry t k (based_on b (entry_of t k))) j)
+set_wishes t k b j e is = subst (IsWished (wish (Some e))) (sym (get_with t k (based_on b (entry_of t k)) j)) (by (is_key j k) refl)
   where
     by : (x : Bool) → is_key j k ≡ x → IsWished (wish (Some e)) (cond x (Some (based_on b (entry_of t k))) (entry_of t j))
-    by true h = based_keeps b (entry_of t k) e (sym (ap (entry_of t) (one_key j k h)) ∙ is) edited
+    by true h = based_wishes b (entry_of t k) e (sym (ap (entry_of t) (one_key j k h)) ∙ is)
     by false h = subst (IsWished (wish (Some e))) (sym is) (refl, refl)
+
+set_keeps : (t : TableValue) (k : Key) (b : Base) (j : Key) (e : Entry) → entry_of t j ≡ Some e → IsWished (option_map (renamed (λ r. r)) (wish (Some e))) (entry_of (with_entry t k (based_on b (entry_of t k))) j)
+set_keeps t k b j e is =
+    subst (λ (w : Option Content). IsWished w (entry_of (with_entry t k (based_on b (entry_of t k))) j)) (sym (same_wish (wish (Some e)))) (set_wishes t k b j e is)
 
 -- An object was made.
 module _ (t : TableValue) (k : Key) (c : Content) (p : ℤ) (sound : IsSound t) (calm : (j : Key) (e : Entry) → entry_of t j ≡ Some e → is_open e ≡ false) (first : IsFirst t k c) (new : entry_of t (with_id k p) ≡ None) where
@@ -92,15 +95,15 @@ module _ (t : TableValue) (k : Key) (c : Content) (p : ℤ) (sound : IsSound t) 
       ∙ ap (option_map (moved_entry f)) is))
       (moved_wish e (calm j e is))
 
-  made_keeps : (j : Key) (e : Entry) → entry_of t j ≡ Some e → IsWished (option_map (renamed f) (wish (Some e))) (entry_of u (f j))
+  pub made_keeps : (j : Key) (e : Entry) → entry_of t j ≡ Some e → IsWished (option_map (renamed f) (wish (Some e))) (entry_of u (f j))
   made_keeps j e is = by_bool (is_key j k)
       (λ h. subst (λ (q : Key). IsWished (option_map (renamed f) (wish (Some e))) (entry_of u q)) (sym (created.f_here k p negative j h)) (own e (sym (ap (entry_of t) (one_key j k h)) ∙ is)))
       (λ h. subst (λ (q : Key). IsWished (option_map (renamed f) (wish (Some e))) (entry_of u q)) (sym (created.f_other k p negative j h)) (others j e is h))
 
 answer_keeps : (t : TableValue) (c : Change) (cs : List Change) (p : ℤ) → IsSteady t (c ∷ cs) → IsNewTo t c p → AnswerKeeps t c p
 answer_keeps t (Create k c) cs p a new j e is edited = made_keeps t k c p a.sound a.settled a.steady.0 new j e is
-answer_keeps t (Modify k v c) cs p a new j e is edited = set_keeps t k _ j e is edited
-answer_keeps t (Delete k v) cs p a new j e is edited = set_keeps t k _ j e is edited
+answer_keeps t (Modify k v c) cs p a new j e is edited = set_keeps t k _ j e is
+answer_keeps t (Delete k v) cs p a new j e is edited = set_keeps t k _ j e is
 
 steadily : (cs ds : List Change) (ns : Names) (t : TableValue) (ps : List ℤ) → IsSteady t (map (moved_change (called ns)) (cs ++ ds)) → AreNamed ns t → AreNewFrom ns t cs ps → AreWithin cs ps → EachAnswer AnswerKeeps ns t cs ps
 steadily [] ds ns t ps a named new within = tt

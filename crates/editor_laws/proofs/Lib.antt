@@ -7,6 +7,7 @@ pub mod SeenSteps
 pub mod SeenMergedSides
 pub mod SeenMergedKeys
 pub mod SeenMerging
+pub mod KeptAnswers
 pub mod KeptConfirming
 pub mod KeptJobs
 pub mod KeptJoins

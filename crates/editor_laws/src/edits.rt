@@ -1,9 +1,10 @@
 //! What each step leaves of what was edited here.
-ghost use Rattle.std.specs.Prelude.{◌≡◌, ℕ, List, [], false, None};
+ghost use Rattle.std.specs.Prelude.{◌≡◌, ℕ, List, [], false, None, Ok};
 ghost use Rattle.osm_base.specs.declared.key.Key.{Key};
 ghost use Rattle.osm_base.specs.declared.content.Content.{Content};
 ghost use Rattle.osm_table.specs.Table.{TableValue};
 ghost use Rattle.osm_table.specs.Told.{ToldEntries};
+ghost use Rattle.dataset.specs.Patch.{PatchValue, after_of};
 ghost use Rattle.dataset.specs.Sound.{IsSound};
 ghost use Rattle.tool_api.specs.declared.job.Job.{Job};
 ghost use Rattle.tool_api.specs.Merged.{merged};
@@ -11,8 +12,10 @@ ghost use Rattle.edit_history.specs.declared.edit_step.EditStep.{EditStep};
 ghost use Rattle.edit_history.specs.Machine.{State};
 ghost use Rattle.editor_laws.specs.Editing.{is_merge};
 ghost use Rattle.upload_order.specs.Refused.{upload_refusal};
+ghost use Rattle.placeholder.specs.declared.answer.Answer.{Answer};
+ghost use Rattle.placeholder.specs.Confirm.{confirm};
 ghost use Rattle.placeholder.specs.Laws.{FairAnswers};
-ghost use Rattle.editor_laws.specs.Answered.{AnswerKeeps, EachAnswer};
+ghost use Rattle.editor_laws.specs.Answered.{AnswerKeeps, EachAnswer, KeepsAllCalled, names_told};
 ghost use Rattle.editor_laws.specs.Kept.{KeepsAllIn};
 ghost use Rattle.editor_laws.specs.Listed.{Leaves, lists};
 ghost use Rattle.editor_laws.specs.Named.{LeavesOwn, names};
@@ -46,6 +49,12 @@ pub fn runs_keep_edits()
 /// Law: the answers of a server to first changes of a plan keep what was edited, one after the other, under the ids that it gave.
 pub fn answers_keep_edits()
     ensures { (t : TableValue) (a : FairAnswers t) → EachAnswer AnswerKeeps [] t a.changes a.ids }
+{}
+
+/// Law: where answers are taken, all that was edited is there after them, under the ids that they gave, and the same is wanted of
+/// it as before.
+pub fn confirmations_keep_edits()
+    ensures { (t : TableValue) (answers : List Answer) (patch : PatchValue) → IsSound t → confirm t answers ≡ Ok patch → KeepsAllCalled (names_told [] answers) t (after_of patch t) }
 {}
 
 /// Law: the plan of an upload brings all that is edited, and nothing else.

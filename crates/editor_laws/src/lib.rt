@@ -11,9 +11,9 @@
 //! **Edits** (`edits`, files named `Kept..`). `specs/Kept` says what is wanted of an object here, which objects are edited, and
 //! when an edit is kept in what stands under its key later. A job changes or forgets what `specs/Listed` lists, and leaves all
 //! else as it is (`jobs_leave_others`); of what it lists and doesn't name it leaves the tags (`jobs_leave_own`). A download keeps
-//! all edits (`merges_keep_edits`), and so do the answers of a server (`answers_keep_edits`). So each step of an editor keeps
-//! each edited object, unless the step says that it changes or forgets it (`runs_keep_edits`), and an upload sends what is edited,
-//! and nothing else (`uploads_send_edits`).
+//! all edits (`merges_keep_edits`), and so do the answers of a server, one by one (`answers_keep_edits`) and where they are
+//! taken (`confirmations_keep_edits`). So each step of an editor keeps each edited object, unless the step says that it changes
+//! or forgets it (`runs_keep_edits`), and an upload sends what is edited, and nothing else (`uploads_send_edits`).
 //!
 //! **Texts** (`texts`, files named `Text..`). Texts come into a table by jobs, downloads and saved sessions, and all of these were
 //! read as lines. Whatever job is done with them, each text of the new table is one of the old table or of the job
@@ -34,7 +34,7 @@ mod texts;
 
 pub use bases::{edits_keep_tables, jobs_keep_bases, merges_take_bases};
 pub use edits::{
-    answers_keep_edits, jobs_leave_others, jobs_leave_own, joins_keep_parts, merges_keep_edits,
-    runs_keep_edits, uploads_send_edits,
+    answers_keep_edits, confirmations_keep_edits, jobs_leave_others, jobs_leave_own,
+    joins_keep_parts, merges_keep_edits, runs_keep_edits, uploads_send_edits,
 };
 pub use texts::{edits_keep_texts, jobs_keep_texts, sound_tables_are_readable};

@@ -157,12 +157,15 @@ module _ (stage : Key → Staged) (keys : List Key) where
       (λ k e. (and_parts _ _ e).0) (λ j k p e. (and_parts _ _ e).0)
 
   module _ (fits : Fits) where
-    in_keys : (k : Key) → is_some (lost_content stage keys k) ≡ true → has is_key keys k ≡ true
+    pub in_keys : (k : Key) → is_some (lost_content stage keys k) ≡ true → has is_key keys k ≡ true
     in_keys k h = by (stage k).candidate refl h
       where
         by : (b : Bool) → (stage k).candidate ≡ b → is_some (cond b None (lost_of (stage k).entry)) ≡ true → has is_key keys k ≡ true
         by true e g = absurd (true≢false (sym g))
         by false e g = fits.covers k (lost_is (stage k).entry g)
+
+    pub candidate_in : (k : Key) → (stage k).candidate ≡ true → has is_key keys k ≡ true
+    candidate_in k c = fits.covers k (mine_is (stage k).entry (fits.alive k c))
 
     -- a lost object that is named is wanted, but for one that only a held candidate names, and there is none
     lost_wanted : (k : Key) → is_some (lost_content stage keys k) ≡ true → Named k → has is_key (wanted stage keys) k ≡ true
@@ -177,11 +180,11 @@ module _ (stage : Key → Staged) (keys : List Key) where
 
     named_held : (k : Key) → (stage k).candidate ≡ true → Named k → has is_key (held stage keys) k ≡ true
     unfolding Named
-    named_held k c (inl e) = by_start is_key key_itself one_key (held_start stage keys) (held_leads stage keys) keys k (fits.covers k (mine_is (stage k).entry (fits.alive k c))) (and_from _ _ c (or_left _ _ e))
-    named_held k c (inr (inl e)) = by_start is_key key_itself one_key (held_start stage keys) (held_leads stage keys) keys k (fits.covers k (mine_is (stage k).entry (fits.alive k c))) (and_from _ _ c (or_right _ _ e))
+    named_held k c (inl e) = by_start is_key key_itself one_key (held_start stage keys) (held_leads stage keys) keys k (candidate_in k c) (and_from _ _ c (or_left _ _ e))
+    named_held k c (inr (inl e)) = by_start is_key key_itself one_key (held_start stage keys) (held_leads stage keys) keys k (candidate_in k c) (and_from _ _ c (or_right _ _ e))
     named_held k c (inr (inr e)) =
         let s = some_of is_key key_itself one_key (λ j. refers_by (candidate_content stage keys j) k) (held stage keys) e in
-        by_lead is_key key_itself one_key (held_start stage keys) (held_leads stage keys) keys s.0 k (fits.covers k (mine_is (stage k).entry (fits.alive k c))) s.1 (and_from _ _ c s.2)
+        by_lead is_key key_itself one_key (held_start stage keys) (held_leads stage keys) keys s.0 k (candidate_in k c) s.1 (and_from _ _ c s.2)
 
     -- what a living entry refers to is named
     names : (k r : Key) (c : Content) → mine_at (final stage keys k) ≡ Some c → refers c r ≡ true → Named r

@@ -1,3 +1,5 @@
+pub mod MergeChains
 pub mod MergeLaws
 pub mod MergeOutcomes
+pub mod ResolveParts
 pub mod SplitPieces

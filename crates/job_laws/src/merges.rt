@@ -1,13 +1,14 @@
 //! What holds of merged tables.
-ghost use Rattle.std.specs.Prelude.{◌≡◌, false};
+ghost use Rattle.std.specs.Prelude.{◌≡◌, ◌↔◌, false, true};
 ghost use Rattle.osm_base.specs.declared.key.Key.{Key};
 ghost use Rattle.osm_table.specs.Table.{TableValue, entry_of, IsThere};
 ghost use Rattle.osm_table.specs.Told.{ToldEntries, IsToldMap};
 ghost use Rattle.dataset.specs.Sound.{IsSound};
 ghost use Rattle.tool_api.specs.Closing.{in_conflict};
 ghost use Rattle.tool_api.specs.Merged.{merged};
+ghost use Rattle.job_laws.specs.MergeChains.{EndsCandidates, EndsLost};
 ghost use Rattle.job_laws.specs.MergeLaws.{IsUntold, KeepsChanges, KeepsDeletions, Stays, ends_in_conflict};
-ghost use Rattle.job_laws.specs.MergeOutcomes.{final_at, is_named};
+ghost use Rattle.job_laws.specs.MergeOutcomes.{final_at, is_held, is_named, is_wanted};
 
 /// Law: a sound table with a download merged into it is sound, and has what is said of each key.
 pub fn merged_is_sound()
@@ -19,6 +20,13 @@ pub fn merged_is_sound()
 pub fn untold_stays()
     ensures there { (t : TableValue) (m : ToldEntries) (k : Key) → IsUntold m k → IsThere (entry_of t k) → Stays t m k }
     ensures unnamed { (t : TableValue) (m : ToldEntries) (k : Key) → IsUntold m k → is_named t m k ≡ false → Stays t m k }
+{}
+
+/// Law: just those lost objects are wanted at which a chain of lost ones ends, and just those candidates are held at which a
+/// chain of candidates ends.
+pub fn wanted_and_held_end_chains()
+    ensures wanted { (t : TableValue) (m : ToldEntries) (k : Key) → IsSound t → (is_wanted t m k ≡ true) ↔ EndsLost t m k }
+    ensures held { (t : TableValue) (m : ToldEntries) (k : Key) → IsSound t → (is_held t m k ≡ true) ↔ EndsCandidates t m k }
 {}
 
 /// Law: after a merge just those objects are in conflict that were about to go and are held, that are wanted, or that
