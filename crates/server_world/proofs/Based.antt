@@ -143,6 +143,18 @@ all_put t q =
     ∙ ap (λ b. cond (is_open t q && b) (option_or (based (entry_of t q)) (Some (empty_object q.kind))) (based (entry_of t q))) (held_in t (keys_by_rank t) q)
     ∙ standing_case (is_positive q.id) (list_any (λ u. held_refers t u q) (keys_by_rank t)) (empty_object q.kind) (entry_of t q)
 
+-- what is put of some keys
+pub those_put : (t : TableValue) (ks : List Key) (q : Key) → fin.get (with_all_mentions t (with_bases t fin.empty ks) ks) q ≡ cond (is_open t q && list_any (λ u. held_refers t u q) ks) (option_or (cond (is_in q ks) (based (entry_of t q)) None) (Some (empty_object q.kind))) (cond (is_in q ks) (based (entry_of t q)) None)
+those_put t ks q =
+    let g : Option WorldEntry → Bool → Option WorldEntry = λ g b. cond (is_open t q && b) (option_or g (Some (empty_object q.kind))) g in
+    let first : fin.get (with_bases t fin.empty ks) q ≡ cond (is_in q ks) (based (entry_of t q)) None =
+    bases_put t fin.empty ks q
+    ∙ ap (λ (g : Option WorldEntry). cond (is_in q ks) (option_or (based (entry_of t q)) g) g) (fin.get-empty rank_cmp q)
+    ∙ ap (λ (x : Option WorldEntry). cond (is_in q ks) x None) (option_or-none (based (entry_of t q))) in
+    ap (λ (m : Objects). fin.get m q) (mentions_flat t (with_bases t fin.empty ks) ks)
+    ∙ mentions_put t (with_bases t fin.empty ks) (flat_map (held_list t) ks) q
+    ∙ (λ i. g (first i) (held_in t ks q i))
+
 each_case : (k q : Key) (o : Option WorldEntry) (rest : List (Key × WorldEntry)) (b : Bool) → is_key q k ≡ b → fin.get (fin.from_entries {R = rank_cmp} (at_key k o ++ rest)) q ≡ cond b (option_or o (fin.get (fin.from_entries {R = rank_cmp} rest) q)) (fin.get (fin.from_entries {R = rank_cmp} rest) q)
 each_case k q None rest true e = refl
 each_case k q None rest false e = refl

@@ -1,6 +1,7 @@
 -- The search for a free id.
 use Rattle.std.proofs.Common.{◌≡◌, ◌<◌, ◌≤◌, ℕ, zero, suc, ◌+◌, ◌-◌, pos, Bool, true, false, cond, ◌||◌, Option, Some, None, is_some, refl, sym, ◌∙◌, ap, arith, inl, inr}
 use Rattle.std.specs.Prelude.{◌⊎◌}
+use Rattle.std.specs.Option.{option_map}
 use Rattle.std.proofs.Math.Nat.{eq-or-lt_of_le}
 use Rattle.osm_base.specs.declared.key.Kind.{Kind}
 use Rattle.osm_table.specs.Table.{TableValue}
@@ -47,3 +48,8 @@ neither : {A B : Type 0} (a : Option A) (b : Option B) → (is_some a || is_some
 neither None None e = (refl, refl)
 neither None (Some y) e = cc
 neither (Some x) b e = cc
+
+-- what is found of an entry is found where there is one
+pub found_there : {A B : Type 0} (f : A → B) (o : Option A) (p : Option B) → option_map f o ≡ p → is_some o ≡ true → is_some p ≡ true
+found_there f None p e h = cc
+found_there f (Some x) p e h = ap is_some (sym e)

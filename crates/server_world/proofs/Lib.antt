@@ -4,6 +4,9 @@ mod Freeness
 mod Starting
 mod Based
 mod Rehearsals
+mod Partial
+mod Covering
+mod PartRehearsals
 pub mod Answering
 pub mod Walking
 mod Unsoundness

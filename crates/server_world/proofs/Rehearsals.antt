@@ -50,7 +50,7 @@ pub bases_hold : (t : TableValue) → Holds (of_bases t) t
 bases_hold t k e is based = bases_stand t k ∙ ap (of_entry (of_mention t k)) is ∙ based_stands e (of_mention t k) based
 
 -- what isn't based there refers to nothing
-empty_alone : (kind : Kind) (k : Key) → refers (empty_content kind) k ≡ false
+pub empty_alone : (kind : Kind) (k : Key) → refers (empty_content kind) k ≡ false
 empty_alone kind.Node k = refl
 empty_alone kind.Way k = refl
 empty_alone kind.Relation k = refl
@@ -114,7 +114,7 @@ pub record Rehearses (t : TableValue) (cs items : List Change) (i n : ℕ) (w : 
   pub value : rehearsed t n w (drop i items) ≡ rehearsed t 0 (of_bases t) cs
   pub plan : upload t ≡ Ok cs → Accepts t w (drop i items) (IsEdited t (of_bases t))
 
-next_of : (items : List Change) (i : ℕ) (c : Change) → i < length items → c ≡ get_or items i c → drop i items ≡ c ∷ drop (i + 1) items
+pub next_of : (items : List Change) (i : ℕ) (c : Change) → i < length items → c ≡ get_or items i c → drop i items ≡ c ∷ drop (i + 1) items
 next_of items i c less is = rw add-one (drop-cons items i c less ∙ ap (λ (y : Change). y ∷ drop (suc i) items) (sym is))
 
 pub begins : (t : TableValue) (cs items : List Change) (w : World) (s : Starts) → IsSound t → items ≡ cs → w ≡ of_bases t → s ≡ record { node = 1; way = 1; relation = 1 } → Rehearses t cs items 0 0 w s

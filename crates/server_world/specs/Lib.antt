@@ -4,6 +4,7 @@ pub mod Answer
 pub mod Named
 pub mod Bases
 pub mod Putting
+pub mod Asked
 pub mod Free
 pub mod Starts
 pub mod Kept

@@ -5,6 +5,7 @@ ghost use Rattle.osm_base.specs.Content.{node, refs_of};
 ghost use Rattle.osm_base.specs.declared.key.Key.{Key};
 ghost use Rattle.upload_order.specs.Kinds.{held_at, held_list};
 ghost use Rattle.upload_order.specs.World.{stands, is_known};
+ghost use Rattle.server_world.specs.Asked.{of_those};
 ghost use Rattle.server_world.specs.Bases.{empty_content, of_base, standing, of_bases};
 ghost use Rattle.server_world.specs.Putting.{based, empty_object, is_open, with_base, with_bases, with_mention, with_mentions, with_all_mentions};
 
@@ -31,11 +32,23 @@ impl World {
         // The same by look-up.
         ensures stands { IfOk result (λ w. (key : Key) → stands w key ≡ standing ds.now key) }
     {
-        let alloc = ds.alloc();
         let keys = ds.ordered()?;
+        let world = World::of_those(ds, keys.as_slice())?;
+        Ok(world)
+    }
+
+    /// The part of that server that has the objects of these keys, and those to which their bases refer and of which nothing is
+    /// known. It costs what `of_bases` does, but for these keys alone.
+    ///
+    /// # Errors
+    /// No memory was left.
+    pub(crate) fn of_those(ds: &DataSet, keys: &[Key]) -> Result<World, AllocError>
+        ensures { IfOk result (λ w. w ≡ of_those ds.now keys.now) }
+    {
+        let alloc = ds.alloc();
         let mut objects = Objects::new(alloc);
-        put_bases(&mut objects, ds, keys.as_slice())?;
-        put_all_mentions(alloc, &mut objects, ds, keys.as_slice())?;
+        put_bases(&mut objects, ds, keys)?;
+        put_all_mentions(alloc, &mut objects, ds, keys)?;
         Ok(World::of_objects(alloc, objects))
     }
 }
@@ -190,7 +203,8 @@ fn is_open(ds: &DataSet, key: Key) -> bool
     0 < key.id && !is_known(ds.entry(key))
 }
 
-fn is_known(entry: Option<&SharedEntry>) -> bool
+/// Whether an object is known.
+pub fn is_known(entry: Option<&SharedEntry>) -> bool
     ensures { result ≡ option_map_or is_known (option_copied entry.entry) false }
 {
     match entry {

@@ -1,5 +1,6 @@
 //! Ids that are free.
-ghost use Rattle.std.specs.Prelude.{◌≡◌, ◌≤◌, pos};
+ghost use Rattle.std.specs.Prelude.{◌≡◌, ◌≤◌, is_some, pos};
+ghost use Rattle.osm_table.specs.Table.{entry_of};
 ghost use Rattle.server_world.specs.Free.{is_taken, free_id, last_id, IsStart};
 
 use crate::starts::LAST_ID;
@@ -9,7 +10,8 @@ use osm_base::{Key, Kind};
 
 impl World {
     /// The least positive id of the kind that stands neither in the world nor in the table; the greatest id, where all
-    /// below it stand. Costs two look-ups for each id up to it.
+    /// below it stand. Costs a look-up in the world for each id up to it, and a look at it where it lies in the table if the
+    /// keys lie by rank, else a look-up there too.
     pub fn free_id(&self, kind: Kind, ds: &DataSet) -> i64
         ensures { result ≡ free_id self.now ds.now kind }
     {
@@ -17,21 +19,23 @@ impl World {
     }
 }
 
-/// The least free id, of which it is known that it isn't below `from`. Costs two look-ups for each id from there on.
+/// The least free id, of which it is known that it isn't below `from`. Ids of the table that lie by rank cost a look each where
+/// they lie, all others a look-up in the table; and each costs one in the world.
 pub fn free_from(world: &World, ds: &DataSet, kind: Kind, from: u64) -> u64
     requires { IsStart world.now ds.now kind from }
     ensures value { pos result ≡ free_id world.now ds.now kind }
     ensures start { IsStart world.now ds.now kind result }
 {
     let mut id = from;
-    while id < LAST_ID && is_taken(world, ds, kind, id) {
+    let mut near = 0;
+    while id < LAST_ID && is_taken(world, ds, &mut near, kind, id) {
         id += 1;
     }
     id
 }
 
-/// Whether an id stands in the world or in the table.
-pub fn is_taken(world: &World, ds: &DataSet, kind: Kind, id: u64) -> bool
+/// Whether an id stands in the world or in the table, where it is sought first at the place behind the last one that was found.
+pub fn is_taken(world: &World, ds: &DataSet, near: &mut usize, kind: Kind, id: u64) -> bool
     requires { id ≤ last_id }
     ensures { result ≡ is_taken world.now ds.now kind id }
 {
@@ -39,5 +43,17 @@ pub fn is_taken(world: &World, ds: &DataSet, kind: Kind, id: u64) -> bool
         kind,
         id: id as i64,
     };
-    world.get(key).is_some() || ds.entry(key).is_some()
+    world.get(key).is_some() || has_entry(ds, near, key)
+}
+
+fn has_entry(ds: &DataSet, near: &mut usize, key: Key) -> bool
+    ensures { result ≡ is_some (entry_of ds.now key) }
+{
+    match ds.entry_near(*near, key) {
+        None => false,
+        Some((behind, _)) => {
+            *near = behind;
+            true
+        }
+    }
 }

@@ -12,6 +12,7 @@
 //! A rehearsal has one table, and keeps starts of its own, which pass by the ids of that table too.
 #![tactic(auto)]
 
+mod asked;
 mod bases;
 mod entry;
 mod free;

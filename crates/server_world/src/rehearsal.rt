@@ -5,6 +5,7 @@ ghost use Rattle.server_world.specs.declared.rehearsal.Rehearsal.TheVariants.{Ac
 ghost use Rattle.server_world.specs.Bases.{of_bases};
 ghost use Rattle.server_world.specs.Rehearsed.{rehearsed};
 
+use crate::asked::keys_met;
 use crate::refusal::WorldRefusal;
 use crate::sending::{Sent, send_from};
 use crate::starts::Starts;
@@ -25,8 +26,9 @@ pub enum Rehearsal {
 /// Sends changes to a server that has the bases of the data set and picks the least free id for each new object, up to the
 /// first that is refused.
 ///
-/// Costs what `World::of_bases` costs, a look-up for each id of the world and the table at most, and what the changes
-/// cost.
+/// No server of all bases is made: it has the objects that the changes meet. So it costs a look at each entry, where it lies if
+/// the keys lie by rank, and what the changes cost: for each object that they meet a sort, three look-ups and what its base
+/// refers to. Where objects are made, also a look-up for each id of the table and that server at most.
 ///
 /// # Errors
 /// No memory was left, or no id.
@@ -37,7 +39,8 @@ pub fn rehearse(ds: &DataSet, changes: &Changes) -> Result<Rehearsal, AllocError
     ensures plan { IfOk result (λ r. upload ds.now ≡ Ok changes.now → r ≡ Accepted (length changes.now)) }
 {
     ds.sound();
-    let mut world = World::of_bases(ds)?;
+    let keys = keys_met(ds, changes.as_slice())?;
+    let mut world = World::of_those(ds, &keys)?;
     let mut starts = Starts::new();
     let mut accepted = 0;
     for change in changes.as_slice() {

@@ -26,9 +26,9 @@ pub enum Sent {
 impl World {
     /// Sends a change, with the least id that is free in the world and in the table, if it makes an object.
     ///
-    /// It costs what `accept` costs, and three look-ups. To pick an id costs two for each from the least that doesn't
-    /// stand in the world up to it. Beside that the search costs a look-up for each id that stands in the world, once for
-    /// all sends, whatever their tables.
+    /// It costs what `accept` costs, and three look-ups. To pick an id costs what `free_id` does, for each from the least that
+    /// doesn't stand in the world up to it. Beside that the search costs a look-up for each id that stands in the world, once
+    /// for all sends, whatever their tables.
     ///
     /// # Errors
     /// No memory was left, or no id, or the object has the version 2^32 - 1. Nothing has changed then.
@@ -95,7 +95,7 @@ fn pick_id(world: &World, ds: &DataSet, starts: &mut Starts, kind: Kind) -> Resu
     ensures fresh { OnOk result (IsFreeId world.now ds.now kind (free_id world.now ds.now kind)) }
 {
     let id = free_from(world, ds, kind, starts.at(kind));
-    if is_taken(world, ds, kind, id) {
+    if is_taken(world, ds, &mut 0, kind, id) {
         return Err(AllocError);
     }
     starts.set(kind, id);

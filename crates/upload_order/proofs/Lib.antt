@@ -12,6 +12,7 @@ mod FallStart
 pub mod Versions
 pub mod Changed
 pub mod Vouching
+pub mod Vouchers
 pub mod Parts
 pub mod Basics
 pub mod Conditions

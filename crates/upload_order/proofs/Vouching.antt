@@ -43,14 +43,14 @@ or_case true i v w = refl
 or_case false true v w = refl
 or_case false false v w = refl
 
-by_all : (t : TableValue) (s ks : List Key) (r : Key) → is_in r (vouched_among t s ks) ≡ (is_in r s || (at_key t is_incomplete r && list_any (vouches_at t r) ks))
+pub by_all : (t : TableValue) (s ks : List Key) (r : Key) → is_in r (vouched_among t s ks) ≡ (is_in r s || (at_key t is_incomplete r && list_any (vouches_at t r) ks))
 by_all t s [] r = sym (or-false (is_in r s)) ∙ ap (λ b. is_in r s || b) (sym (and-false (at_key t is_incomplete r)))
 by_all t s (k ∷ ks) r =
     by_all t (put_where (λ r. at_key t is_incomplete r && keeps_at t k r) s (held_list t k)) ks r
     ∙ ap (λ b. b || (at_key t is_incomplete r && list_any (vouches_at t r) ks)) (by_one t s r k)
     ∙ or_case (is_in r s) (at_key t is_incomplete r) (vouches_at t r k) (list_any (vouches_at t r) ks)
 
-loose_case : (i v : Bool) → (i && not (i && v)) ≡ (i && not v)
+pub loose_case : (i v : Bool) → (i && not (i && v)) ≡ (i && not v)
 loose_case true v = refl
 loose_case false v = refl
 
@@ -94,7 +94,7 @@ among_case : (b : Bool) (loose : Key → Bool) (t : TableValue) (k : Key) (ks js
 among_case true loose t k ks js h e = ap (option_or (option_map (IncompleteRef k) (loose_of loose t k))) e
 among_case false loose t k ks js h e = e ∙ sym (ap (λ (rs : List Key). option_or (option_map (IncompleteRef k) (find loose rs)) (loose_among loose t ks)) (h refl))
 
-among_changed : (loose : Key → Bool) (t : TableValue) (ks : List Key) → loose_among loose t (filter (at_key t is_changed) ks) ≡ loose_among loose t ks
+pub among_changed : (loose : Key → Bool) (t : TableValue) (ks : List Key) → loose_among loose t (filter (at_key t is_changed) ks) ≡ loose_among loose t ks
 among_changed loose t [] = refl
 among_changed loose t (k ∷ ks) = among_case (at_key t is_changed k) loose t k ks (filter (at_key t is_changed) ks) (still_sends (entry_of t k)) (among_changed loose t ks)
 

@@ -6,6 +6,7 @@ pub mod First
 pub mod Part
 pub mod Plan
 pub mod Refused
+pub mod Marked
 pub mod Rename
 pub mod Bases
 pub mod World

@@ -1,14 +1,12 @@
 //! What an upload does with an object, told by its entry.
-ghost use Rattle.std.specs.Prelude.{◌≡◌, false, not, is_some, IfOk};
-ghost use Rattle.std.specs.List.{filter};
+ghost use Rattle.std.specs.Prelude.{◌≡◌, false, not, is_some};
 ghost use Rattle.std.specs.Option.{option_copied};
-ghost use Rattle.osm_table.specs.Table.{is_changed, is_incomplete, mine_of};
+ghost use Rattle.osm_table.specs.Table.{is_incomplete, mine_of};
 ghost use Rattle.upload_order.specs.Kinds.{at_key, held_at, is_rising, is_update, is_falling, is_sent};
 
 use dataset::DataSet;
 use osm_base::{Content, Key, same};
 use osm_table::{Base, EntryParts, SharedEntry};
-use std::alloc::{AllocError, Global};
 
 /// Whether an object is made: it is new, or the server deleted it and it lives.
 pub fn is_rising(entry: &SharedEntry) -> bool
@@ -83,26 +81,4 @@ pub fn is_incomplete(ds: &DataSet, key: Key) -> bool
         None => false,
         Some(entry) => entry.is_incomplete(),
     }
-}
-
-fn is_changed(ds: &DataSet, key: Key) -> bool
-    ensures { result ≡ at_key ds.now is_changed key }
-{
-    match ds.entry(key) {
-        None => false,
-        Some(entry) => entry.is_changed(),
-    }
-}
-
-/// Those of the keys whose objects an upload has something to say of, in order. One look-up a key.
-///
-/// # Errors
-/// No memory was left.
-pub fn changed_among(alloc: Global, ds: &DataSet, keys: &[Key]) -> Result<Vec<Key>, AllocError>
-    ensures { IfOk result (λ list. list.items ≡ filter (at_key ds.now is_changed) keys.now) }
-{
-    keys.iter()
-        .filter(|key| is_changed(ds, **key))
-        .copied()
-        .collect(alloc)
 }

@@ -12,11 +12,13 @@
 //! an argument. The definitions look at all that are left; the code asks the index who uses a key, and counts.
 #![tactic(auto)]
 
+mod backing;
 mod change;
 mod down;
 mod falling;
 mod kinds;
 mod laws;
+mod marking;
 mod order;
 mod part;
 mod planning;
@@ -28,5 +30,6 @@ mod waiting;
 
 pub use change::{Change, Changes};
 pub use laws::{fresh_ids_exist, servers_stay_sound, stuck_is_greatest, taken_one_by_one};
+pub use marking::changed_keys;
 pub use planning::plan;
 pub use refusal::PlanRefusal;

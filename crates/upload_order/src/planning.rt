@@ -1,18 +1,17 @@
 //! The plan, or why there is none.
 ghost use Rattle.std.specs.Prelude.{◌≡◌, IfOk, List, ℤ};
-ghost use Rattle.osm_table.specs.Table.{keys_by_rank};
 ghost use Rattle.upload_order.specs.Part.{changed_keys};
 ghost use Rattle.upload_order.specs.Plan.{made};
-ghost use Rattle.upload_order.specs.Refused.{open_refusal, upload, Gives};
+ghost use Rattle.upload_order.specs.Refused.{upload, Gives};
 ghost use Rattle.upload_order.specs.Run.{run_from, Ended, AreFresh};
 ghost use Rattle.upload_order.specs.World.{World, IsSoundWorld, Holds, Alone, AcceptsSoundly, IsEdited};
 
 use crate::change::Changes;
-use crate::kinds::changed_among;
+use crate::marking::{Marks, marked};
 use crate::order::{Order, order_of};
 use crate::part::{Part, part_of};
 use crate::refusal::PlanRefusal;
-use crate::refused::{loose_refusal, open_among, open_refusal, stuck_refusal};
+use crate::refused::{loose_refusal, open_refusal, stuck_refusal};
 use crate::sending::changes_of;
 use dataset::DataSet;
 use osm_base::Key;
@@ -21,8 +20,9 @@ use std::alloc::{AllocError, Global};
 /// The changes that bring the edits to the server, in an order in which it can take them; or why
 /// nothing is sent.
 ///
-/// Costs a sort of all keys and three walks over the entries; of what is sent a step of log n for each object, reference
-/// and user; and where something sent refers to an Incomplete object a walk over the references of all bases, a look-up each.
+/// Looks at each entry once, where it lies if the keys lie by rank, and else sorts the keys and looks each up. Beside that it
+/// costs what is sent, a step of log n for each object, reference and user; and where something that is sent refers to an
+/// Incomplete object the references of those that refer to it too, a look-up each.
 ///
 /// # Errors
 /// Answers the first refusal that holds, or that no memory was left.
@@ -43,13 +43,11 @@ fn planned(ds: &DataSet) -> Result<Changes, PlanRefusal>
     ensures { Gives result (upload ds.now) }
 {
     let alloc = ds.alloc();
-    let all = ds.ordered()?;
-    let keys = all.as_slice();
-    if let Some(refusal) = conflicts(alloc, ds, keys)? {
+    let Marks { open, changed } = marked(ds)?;
+    if let Some(refusal) = open_refusal(&open) {
         return Err(refusal);
     }
-    let changed = changed(alloc, ds, keys)?;
-    if let Some(refusal) = loose_refusal(alloc, ds, keys, &changed)? {
+    if let Some(refusal) = loose_refusal(alloc, ds, &changed)? {
         return Err(refusal);
     }
     let Order { order, stuck } = relations(alloc, ds, &changed)?;
@@ -58,22 +56,6 @@ fn planned(ds: &DataSet) -> Result<Changes, PlanRefusal>
     }
     let changes = changes_of(alloc, ds, &changed, &order)?;
     Ok(changes)
-}
-
-fn conflicts(alloc: Global, ds: &DataSet, keys: &[Key]) -> Result<Option<PlanRefusal>, AllocError>
-    requires { keys.now ≡ keys_by_rank ds.now }
-    ensures { IfOk result (λ refusal. refusal ≡ open_refusal ds.now) }
-{
-    let found = open_among(alloc, ds, keys)?;
-    Ok(open_refusal(&found))
-}
-
-fn changed(alloc: Global, ds: &DataSet, keys: &[Key]) -> Result<Vec<Key>, AllocError>
-    requires { keys.now ≡ keys_by_rank ds.now }
-    ensures { IfOk result (λ list. list.items ≡ changed_keys ds.now) }
-{
-    let list = changed_among(alloc, ds, keys)?;
-    Ok(list)
 }
 
 /// The rising relations, in the order in which they can be made, and those that can't.

@@ -1,42 +1,21 @@
 //! Why a table is not sent.
 ghost use Rattle.std.specs.Prelude.{◌≡◌, ◌&&◌, [], map, IfOk, OnOk};
-ghost use Rattle.std.specs.List.{filter, find};
+ghost use Rattle.std.specs.List.{find};
 ghost use Rattle.std.specs.Option.{option_copied};
 ghost use Rattle.osm_base.specs.Content.{node, refs_of};
-ghost use Rattle.osm_table.specs.Table.{entry_of, is_incomplete, keys_by_rank};
+ghost use Rattle.osm_table.specs.Table.{entry_of, is_incomplete};
 ghost use Rattle.upload_order.specs.Counts.{put_where};
 ghost use Rattle.upload_order.specs.Kinds.{at_key, held_list};
 ghost use Rattle.upload_order.specs.Part.{changed_keys};
-ghost use Rattle.upload_order.specs.Refused.{is_open, open_of, keeps_at, vouched_among, is_loose_in, loose_of, loose_among, loose_refusal, stuck_of};
+ghost use Rattle.upload_order.specs.Refused.{open_of, keeps_at, vouched_among, is_loose_in, loose_of, loose_among, loose_refusal, stuck_of};
 
+use crate::backing::vouchers;
 use crate::kinds::{held_at, is_incomplete, is_sent};
 use crate::rank_set::RankSet;
 use crate::refusal::PlanRefusal;
 use dataset::DataSet;
 use osm_base::{Content, Key, Keys, Member, node_key, push_references};
 use std::alloc::{AllocError, Global};
-
-fn is_open(ds: &DataSet, key: Key) -> bool
-    ensures { result ≡ at_key ds.now is_open key }
-{
-    match ds.entry(key) {
-        None => false,
-        Some(entry) => entry.conflict().is_some(),
-    }
-}
-
-/// Those of the keys that are in conflict, in order. One look-up a key.
-///
-/// # Errors
-/// No memory was left.
-pub fn open_among(alloc: Global, ds: &DataSet, keys: &[Key]) -> Result<Vec<Key>, AllocError>
-    ensures { IfOk result (λ list. list.items ≡ filter (at_key ds.now is_open) keys.now) }
-{
-    keys.iter()
-        .filter(|key| is_open(ds, **key))
-        .copied()
-        .collect(alloc)
-}
 
 /// That there are conflicts, if there are.
 pub fn open_refusal(keys: &[Key]) -> Option<PlanRefusal>
@@ -165,26 +144,25 @@ fn loose_among(ds: &DataSet, vouched: &RankSet, keys: &[Key]) -> Option<PlanRefu
     None
 }
 
-/// That something is sent that refers to what may not stand at the server, if it is so. The keys are all, by rank, and the
-/// changed ones of them. Costs a look-up for each reference of what is sent, and where one of these is Incomplete one for
-/// each reference of a base.
+/// That something is sent that refers to what may not stand at the server, if it is so. The keys are those of all that is
+/// changed. Costs a look-up for each reference of what is sent; and where one of these is Incomplete, one for each reference of
+/// the bases of what is changed and of what refers to such an object.
 ///
 /// # Errors
 /// No memory was left.
 pub fn loose_refusal(
     alloc: Global,
     ds: &DataSet,
-    keys: &[Key],
     changed: &[Key],
 ) -> Result<Option<PlanRefusal>, AllocError>
-    requires keys { keys.now ≡ keys_by_rank ds.now }
-    requires changed { changed.now ≡ changed_keys ds.now }
+    requires { changed.now ≡ changed_keys ds.now }
     ensures { IfOk result (λ r. r ≡ loose_refusal ds.now) }
 {
     if loose_among(ds, &RankSet::new(alloc), changed).is_none() {
         return Ok(None);
     }
-    let vouched = vouched_among(alloc, ds, keys)?;
+    let keys = vouchers(alloc, ds, changed)?;
+    let vouched = vouched_among(alloc, ds, &keys)?;
     Ok(loose_among(ds, &vouched, changed))
 }
 
