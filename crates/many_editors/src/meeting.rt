@@ -106,8 +106,8 @@ impl Meeting {
     /// What an editor does, and what comes of it, with at most so many objects in its table.
     ///
     /// A step on its own table costs what it costs in a history; a fetch a walk over the objects of the server, and over the
-    /// changes since the state that is fetched; a send the plan and what the changes cost; an answer a plan and the edits that
-    /// it makes. No state of the server is kept whole. While an editor waits its plan is kept.
+    /// changes since the state that is fetched; a send the plan and what the changes cost; an answer the edits that it
+    /// makes. No state of the server is kept whole. While an editor waits its plan is kept.
     ///
     /// # Errors
     /// No memory was left. Then each editor's table is sound, and the server has the first of the changes that were sent, as
