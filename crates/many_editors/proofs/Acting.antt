@@ -34,7 +34,8 @@ use Rattle.many_editors.specs.States.{IsFromStates, IsServer}
 use Rattle.many_editors.specs.Serving.{told_of_state}
 use Rattle.many_editors.specs.Sending.{version_end, ArePicked}
 use Rattle.many_editors.specs.Meeting.{Editor, Meeting, states, at_editor, at_work, first_editor, first_editors, served, stepped}
-use Rattle.many_editors.specs.Acts.{fetch_met, changes_met, send_met, met_at_work, met_waiting, met_by, met_of, met}
+use Rattle.many_editors.specs.Acts.{lifted, fetch_met, changes_met, send_met, met_at_work, met_by, met_of, met}
+use Rattle.many_editors.specs.Own.{own_wait}
 use Rattle.many_editors.specs.Laws.{AllKeysStand, IsAbsent, IsNewId, IsUnmentioned, KeysStand, MayKeepSound, OfEachTable}
 use Rattle.many_editors.specs.Sound.{MayWait, IsFrom, IsSoundMeeting, KeepsSound}
 use Rattle.many_editors.proofs.Stating.{keeps_states, empty_states, mentioned_stands, unmentioned}
@@ -75,18 +76,16 @@ module _ (m : Meeting) (s : IsSoundMeeting m) (n : ℕ) (e : Editor) (at : slice
       work_sound act.Lost may = s
 
   -- An editor that waits.
-  wait_sound : (act : MeetAct) (answers : List Answer) → e.waits ≡ Some answers → IsSoundMeeting (met_waiting n act answers m).meeting
-  wait_sound (act.Fetch back area wanted) answers waits = s
-  wait_sound (act.Own step) answers waits = s
-  wait_sound (act.Send count) answers waits = s
+  wait_sound : (act : MeetAct) (answers : List Answer) → e.waits ≡ Some answers → IsSoundMeeting (lifted n (own_wait act answers) e m).meeting
   wait_sound act.Answer answers waits = answered_sound m s n e at answers waits
   wait_sound act.Lost answers waits = lost_sound m s n e at
+  wait_sound act answers waits = at_sound m s n e at (λ x. x) (here m s n e at)
 
   by_sound : (limit : ℕ) (act : MeetAct) → IsSound e.state.now → (e.waits ≡ None → KeepsSound act e.state m.world) → (o : Option (List Answer)) → e.waits ≡ o → IsSoundMeeting (met_by limit n act e o m).meeting
   by_sound limit act is may None waits = work_sound waits is limit act (may waits)
   by_sound limit act is may (Some answers) waits = wait_sound act answers waits
 
-of_sound : (limit n : ℕ) (act : MeetAct) (m : Meeting) → IsSoundMeeting m → (o : Option Editor) → slice_get m.editors n ≡ o → ((e : Editor) → o ≡ Some e → IsSound e.state.now × (e.waits ≡ None → KeepsSound act e.state m.world)) → IsSoundMeeting (met_of limit n act o m).meeting
+of_sound : (limit n : ℕ) (act : MeetAct) (m : Meeting) → IsSoundMeeting m → (o : Option Editor) → slice_get m.editors n ≡ o → ((e : Editor) → o ≡ Some e → IsSound e.state.now × (e.waits ≡ None → KeepsSound act e.state m.world)) → IsSoundMeeting (met_of (λ e. met_by limit n act e e.waits) o m).meeting
 of_sound limit n act m s None at may = s
 of_sound limit n act m s (Some e) at may = let x = may e refl in by_sound m s n e at limit act x.0 x.1 e.waits refl
 

@@ -41,7 +41,8 @@ use Rattle.editor_laws.specs.Editing.{EachTable}
 use Rattle.editor_laws.proofs.SeenSteps.{refused_tables}
 use Rattle.many_editors.specs.declared.act.MeetAct.{MeetAct}
 use Rattle.many_editors.specs.declared.act.MeetAct.TheVariants as act
-use Rattle.many_editors.specs.Acts.{changes_met, fetch_met, met, met_at_work, met_by, met_of, met_waiting, send_met}
+use Rattle.many_editors.specs.Acts.{changes_met, fetch_met, lifted, met, met_at_work, met_by, met_of, send_met}
+use Rattle.many_editors.specs.Own.{own_wait}
 use Rattle.many_editors.specs.Meeting.{Editor, Meeting, answered, at_editor, confirmed_state, first_editors, first_meeting, lost, served, states, stepped, waiting_for, with_editor}
 use Rattle.many_editors.specs.Sending.{Sent, sent, sent_on, version_end}
 use Rattle.many_editors.specs.Serving.{entry_served, objects_served, told_object, told_objects, told_of_state, with_served}
@@ -171,21 +172,21 @@ work_texts limit n (act.Send count) s m i t h = send_texts n count s (upload_ref
 work_texts limit n act.Answer s m i t h = h
 work_texts limit n act.Lost s m i t h = h
 
-wait_texts : (n : ℕ) (a : MeetAct) (answers : List Answer) (m : Meeting) → IsTextMeeting m → IsTextMeeting (met_waiting n a answers m).meeting
-wait_texts n act.Answer answers m h = at_texts n (answered (Some answers)) m (answered_texts answers) h
-wait_texts n act.Lost answers m h = at_texts n lost m (λ e t. t) h
-wait_texts n a answers m h = h
+wait_texts : (n : ℕ) (a : MeetAct) (answers : List Answer) (e : Editor) (m : Meeting) → IsTextMeeting m → IsTextMeeting (lifted n (own_wait a answers) e m).meeting
+wait_texts n act.Answer answers e m h = at_texts n (answered (Some answers)) m (answered_texts answers) h
+wait_texts n act.Lost answers e m h = at_texts n lost m (λ x t. t) h
+wait_texts n a answers e m h = at_texts n (λ x. x) m (λ x t. t) h
 
 by_texts : (limit n : ℕ) (a : MeetAct) (e : Editor) (o : Option (List Answer)) (m : Meeting) → MeetActBringsTexts a → IsTextEditor e → IsTextMeeting m → IsTextMeeting (met_by limit n a e o m).meeting
 by_texts limit n a e None m i t h = work_texts limit n a e.state m i t.now h
-by_texts limit n a e (Some answers) m i t h = wait_texts n a answers m h
+by_texts limit n a e (Some answers) m i t h = wait_texts n a answers e m h
 
 editor_at : (es : List Editor) (n : ℕ) (e : Editor) → AllByRecursion IsTextEditor es → slice_get es n ≡ Some e → IsTextEditor e
 editor_at [] n e h at = cc
 editor_at (x ∷ xs) zero e h at = subst IsTextEditor (let same : x ≡ e = cc in same) h.0
 editor_at (x ∷ xs) (suc n) e h at = editor_at xs n e h.1 at
 
-of_texts : (limit n : ℕ) (a : MeetAct) (o : Option Editor) (m : Meeting) → slice_get m.editors n ≡ o → MeetActBringsTexts a → IsTextMeeting m → IsTextMeeting (met_of limit n a o m).meeting
+of_texts : (limit n : ℕ) (a : MeetAct) (o : Option Editor) (m : Meeting) → slice_get m.editors n ≡ o → MeetActBringsTexts a → IsTextMeeting m → IsTextMeeting (met_of (λ e. met_by limit n a e e.waits) o m).meeting
 of_texts limit n a None m at i h = h
 of_texts limit n a (Some e) m at i h = by_texts limit n a e e.waits m i (editor_at m.editors n e h.editors at) h
 

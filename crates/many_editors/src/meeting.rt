@@ -1,22 +1,25 @@
 //! Many editors at one server.
-ghost use Rattle.std.specs.Prelude.{◌≡◌, ◌<◌, ◌++◌, ◌∷◌, [], length, map, is_some, IfOk, IfSome, IfNone, OnOk, OnErr};
+ghost use Rattle.std.specs.Prelude.{◌≡◌, ◌<◌, ◌++◌, ◌∷◌, None, Ok, [], length, map, take, is_some, IfOk, IfSome, IfNone, OnOk, OnErr};
 ghost use Rattle.std.specs.Option.{option_copied};
 ghost use Rattle.download.specs.Tell.{AreTellable};
 ghost use Rattle.edit_history.specs.Trail.{KeepNothing};
+ghost use Rattle.upload_order.specs.Refused.{upload};
 ghost use Rattle.server_world.specs.Unsound.{first_unsound};
+ghost use Rattle.many_editors.specs.declared.act.MeetAct.TheVariants as act;
 ghost use Rattle.many_editors.specs.Acts.{met};
 ghost use Rattle.many_editors.specs.Asked.{MayAct, MayServe, IsSeen, NeverClashes};
-ghost use Rattle.many_editors.specs.Boxed.{shown_meeting, verbs_met, AreValid, ComesOf, FitsMeeting, IsAsked, IsKept, IsServed, KeepsVerbs, MovedMeeting, ValidMeeting};
+ghost use Rattle.many_editors.specs.Boxed.{shown_meeting, verbs_met, AreValid, ComesOf, FitsMeeting, IsAsked, IsKept, IsServed, KeepsVerbs, LeftMeeting, MovedMeeting, ValidMeeting};
 ghost use Rattle.many_editors.specs.Laws.{AllKeysStand};
-ghost use Rattle.many_editors.specs.Lifted.{changes_at, fetched, own_act, sent_at, ArePickedAt, IsAt, IsPickedAt, MayFetch, MaySend};
+ghost use Rattle.many_editors.specs.Left.{changes_sent};
 ghost use Rattle.many_editors.specs.Meeting.{first_meeting, joined, IfEditor};
-ghost use Rattle.many_editors.specs.Own.{MayOwn};
+ghost use Rattle.many_editors.specs.Parts.{changes_at, fetched, sent_at, ArePickedAt, IsAt, IsPickedAt, MayFetch, MaySend};
+ghost use Rattle.many_editors.specs.Sending as sending;
 ghost use Rattle.many_editors.specs.Serving.{objects_served, with_served};
 ghost use Rattle.many_editors.specs.Shown as shown;
 ghost use Rattle.many_editors.specs.States.{world_of};
 
 use crate::act::MeetAct;
-use crate::editor::Editor;
+use crate::editor::{Editor, Waiting};
 use crate::log::{Before, copied, objects_before};
 use crate::reply::{MeetRefusal, MeetReply};
 use crate::sending::{first_changes, send, version_end};
@@ -30,7 +33,7 @@ use osm_table::Shared;
 use server_world::{World, WorldEntry};
 use std::alloc::{AllocError, Global};
 use tool_api::{Job, Tool};
-use upload_order::{Change, PlanRefusal, plan};
+use upload_order::{Changes, PlanRefusal, plan};
 
 /// A server in memory with its earlier states, and editors, numbered from 0.
 ///
@@ -71,7 +74,7 @@ impl Meeting {
         let alloc = self.alloc();
         self.editors.push(Editor {
             history: History::new(alloc, tools),
-            answers: None,
+            waiting: None,
         })?;
         Ok(())
     }
@@ -102,11 +105,13 @@ impl Meeting {
 
     /// What an editor does, and what comes of it, with at most so many objects in its table.
     ///
-    /// A fetch costs a walk over the objects of the server, and over the changes since the state that is fetched; a send what
-    /// the plan and the changes cost. No state of the server is kept whole.
+    /// A step on its own table costs what it costs in a history; a fetch a walk over the objects of the server, and over the
+    /// changes since the state that is fetched; a send the plan and what the changes cost; an answer the edits that it
+    /// makes. No state of the server is kept whole. While an editor waits its plan is kept.
     ///
     /// # Errors
-    /// No memory was left. The meeting isn't used any more then.
+    /// No memory was left. Then each editor's table is sound, and the server has the first of the changes that were sent, as
+    /// many as it has states more, each whole, and nothing of the others. The meeting isn't used any more then.
     pub fn step(
         &mut self,
         editor: usize,
@@ -122,17 +127,31 @@ impl Meeting {
         ensures clash { IfOk result (NeverClashes act.now) }
         // Each object with a server's id in a table of an editor stands at the server.
         ensures keys { OnOk result (AllKeysStand (shown_meeting done undone self.new)) }
+        // After want of memory each change that was accepted stands whole, and it is said which.
+        ensures left { OnErr result (LeftMeeting done undone kind editor (changes_sent act.now) self.old self.new) }
     {
         self.editors[editor].history.ds().sound();
-        if self.editors[editor].answers.is_some() {
-            return self.own(editor, act, limit);
+        self.act(editor, act, limit)
+    }
+
+    /// The same: what comes of it.
+    fn act(&mut self, editor: usize, act: &MeetAct, limit: u64) -> Result<MeetReply, AllocError>
+        requires { FitsMeeting done undone kind self.old (MayAct editor act.now) }
+        ensures moved { MovedMeeting done undone kind self.old self.new result (met limit editor act.now) }
+        ensures left { OnErr result (LeftMeeting done undone kind editor (changes_sent act.now) self.old self.new) }
+    {
+        self.editors[editor].history.ds().sound();
+        if self.editors[editor].waiting.is_some() {
+            return self.editors[editor].wait(act);
         }
         match act {
+            MeetAct::Own(step) => self.editors[editor].step(step, limit),
             MeetAct::Fetch { back, area, wanted } => {
                 self.fetch(editor, *back, *area, *wanted, limit)
             }
             MeetAct::Send { count } => self.send(editor, *count),
-            _ => self.own(editor, act, limit),
+            MeetAct::Answer => Ok(MeetReply::Refused(MeetRefusal::NotWaiting)),
+            MeetAct::Lost => Ok(MeetReply::Refused(MeetRefusal::NotWaiting)),
         }
     }
 
@@ -157,7 +176,7 @@ impl Meeting {
         requires { editor < length (shown_meeting done undone self.now).editors }
         ensures { IfEditor editor (shown_meeting done undone self.now) (λ e. result ≡ is_some e.waits) }
     {
-        self.editors[editor].answers.is_some()
+        self.editors[editor].waiting.is_some()
     }
 
     /// The server.
@@ -171,15 +190,6 @@ impl Meeting {
         *self.editors.allocator()
     }
 
-    /// An act that an editor does alone.
-    fn own(&mut self, editor: usize, act: &MeetAct, limit: u64) -> Result<MeetReply, AllocError>
-        requires valid { AreValid done undone self.old }
-        requires asked { IsAsked done undone kind self.old (IsAt editor (MayOwn act.now)) }
-        ensures { ComesOf done undone kind self.old self.new result (own_act limit editor act.now) }
-    {
-        self.editors[editor].act(act, limit)
-    }
-
     /// A fetch of an editor at work.
     fn fetch(
         &mut self,
@@ -191,7 +201,8 @@ impl Meeting {
     ) -> Result<MeetReply, AllocError>
         requires valid { ValidMeeting done undone self.old }
         requires asked { IsAsked done undone kind self.old (IsAt editor MayFetch) }
-        ensures { ComesOf done undone kind self.old self.new result (fetched limit editor back area (option_copied wanted.entry)) }
+        ensures comes { ComesOf done undone kind self.old self.new result (fetched limit editor back area (option_copied wanted.entry)) }
+        ensures left { OnErr result (LeftMeeting done undone kind editor (λ _. []) self.old self.new) }
     {
         let alloc = self.alloc();
         match objects_before(alloc, &self.world, self.log.as_slice(), back)? {
@@ -210,31 +221,43 @@ impl Meeting {
         requires asked { IsAsked done undone kind self.old (IsAt editor MaySend) }
         ensures comes { ComesOf done undone kind self.old self.new result (sent_at editor count) }
         ensures picked { OnOk result (IsPickedAt editor count (shown_meeting done undone self.old)) }
+        ensures left { OnErr result (LeftMeeting done undone kind editor (changes_sent (act.Send count)) self.old self.new) }
     {
         let changes = match plan(self.editors[editor].history.ds()) {
             Ok(changes) => changes,
             Err(PlanRefusal::Memory) => return Err(AllocError),
             Err(why) => return Ok(MeetReply::Refused(MeetRefusal::Plan(why))),
         };
-        let first = first_changes(changes.as_slice(), count);
-        if let Some(key) = version_end(first) {
+        if let Some(key) = version_end(first_changes(changes.as_slice(), count)) {
             return Ok(MeetReply::Refused(MeetRefusal::VersionEnd(key)));
         }
-        self.send_changes(editor, first)
+        self.send_first(editor, changes, count)
     }
 
-    /// Sends changes of an editor's plan, of which none is of an object in the last version.
-    fn send_changes(&mut self, editor: usize, changes: &[Change]) -> Result<MeetReply, AllocError>
+    /// Sends the first changes of an editor's plan, of which none is of an object in the last version.
+    fn send_first(
+        &mut self,
+        editor: usize,
+        changes: Changes,
+        count: u32,
+    ) -> Result<MeetReply, AllocError>
         requires valid { AreValid done undone self.old }
         requires asked { editor < length (shown_meeting done undone self.old).editors }
-        ensures comes { ComesOf done undone kind self.old self.new result (changes_at editor changes.now) }
-        ensures picked { OnOk result (ArePickedAt editor changes.now (shown_meeting done undone self.old)) }
+        requires planned { IfEditor editor (shown_meeting done undone self.old) (λ e. upload e.state.now ≡ Ok changes) }
+        requires before_end { sending.version_end (take count changes) ≡ None }
+        ensures comes { ComesOf done undone kind self.old self.new result (changes_at editor (take count changes)) }
+        ensures picked { OnOk result (ArePickedAt editor (take count changes) (shown_meeting done undone self.old)) }
+        ensures left { OnErr result (LeftMeeting done undone kind editor (λ _. take count changes) self.old self.new) }
     {
         let alloc = self.alloc();
         let ds = self.editors[editor].history.ds();
-        let outcome = send(alloc, &mut self.world, &mut self.log, ds, changes)?;
+        let first = first_changes(changes.as_slice(), count);
+        let outcome = send(alloc, &mut self.world, &mut self.log, ds, first)?;
         let accepted = outcome.answers.len() as u64;
-        self.editors[editor].answers = Some(outcome.answers);
+        self.editors[editor].waiting = Some(Waiting {
+            plan: changes,
+            answers: outcome.answers,
+        });
         Ok(MeetReply::Sent(accepted, outcome.refused))
     }
 }

@@ -113,7 +113,25 @@ pub fn confirm(ds: &DataSet, answers: &[Answer]) -> Result<Patch, ConfirmFault>
         Err(PlanRefusal::Memory) => return Err(ConfirmFault::Memory),
         Err(refusal) => return Err(ConfirmFault::Plan { refusal }),
     };
-    let draft = confirmed(ds, changes.as_slice(), answers)?;
+    confirm_plan(ds, changes.as_slice(), answers)
+}
+
+/// The same where the plan of the table is at hand. Costs of each object that was made its users with their references.
+///
+/// # Errors
+/// An answer isn't one to its change, or gives an id that is taken; or no memory was left.
+pub fn confirm_plan(
+    ds: &DataSet,
+    plan: &[Change],
+    answers: &[Answer],
+) -> Result<Patch, ConfirmFault>
+    requires plan { upload ds.now ≡ Ok plan.now }
+    ensures value { Confirms result (confirm ds.now answers.now) }
+    ensures numbered { IfErr result (IsNumbered (length answers.now)) }
+    ensures stands { IfOk result (λ patch. StandsBefore patch ds.now) }
+    ensures sound { IfOk result (λ patch. IsSound (after_of patch ds.now)) }
+{
+    let draft = confirmed(ds, plan, answers)?;
     let patch = ds.patch_of(&draft)?;
     Ok(patch)
 }

@@ -15,6 +15,6 @@ mod laws;
 mod renaming;
 
 pub use answer::Answer;
-pub use confirming::confirm;
+pub use confirming::{confirm, confirm_plan};
 pub use fault::ConfirmFault;
 pub use laws::{confirmed_by_key, confirmed_is_sound, plan_is_resumed, plan_is_resumed_after};

@@ -2,7 +2,7 @@ use Rattle.std.proofs.Common.{subst}
 use Rattle.dataset.specs.Draft.{drafted}
 use Rattle.dataset.specs.Sound.{IsSound}
 use Rattle.dataset.proofs.Laws.{diff_leads}
-use Rattle.placeholder.proofs.confirming.confirm.Goals as goal
+use Rattle.placeholder.proofs.confirming.confirm_plan.Goals as goal
 
 pub returns-clause-sound : goal.returns-clause-sound
 returns-clause-sound c =
