@@ -1,8 +1,8 @@
--- The lines of a script: one definition for each form, found by the first word of the line.
+-- The lines of a script: the first word of a line gives its form, and the form says how the words behind it are read.
 --
--- For example `combine w1,w2` combines these ways, and `combine w1` is outside the grammar. A form reads the words behind
--- the first one, and so may have parts that can be left out: `resolve n1 mine` and `resolve n1 mix theirs mine` are both
--- lines, and so are `download town.opl` and `download town.opl Famenity=bench`.
+-- For example `combine w1,w2` combines these ways, and `combine w1` is outside the grammar. A form may have parts that can be
+-- left out: `resolve n1 mine` and `resolve n1 mix theirs mine` are both lines, and so are `download town.opl` and
+-- `download town.opl Famenity=bench`.
 use Rattle.std.specs.Prelude.{ℕ, nat_le, if◌then◌else◌, codes, List, [], ◌∷◌, length, Option, Some, None}
 use Rattle.std.specs.Str.{bytes_eq}
 use Rattle.osm_base.specs.Coord.{coord_text}
@@ -13,10 +13,15 @@ use Rattle.opl_text.specs.Time.{◌>>=◌}
 use Rattle.merge_cases.specs.declared.choice.Choice.{Choice}
 use Rattle.merge_cases.specs.declared.choice.Choice.TheVariants as choice
 use Rattle.tool_api.specs.declared.job.Job.TheVariants as job
+use Rattle.edit_script.specs.declared.forms.Form.{Form}
+use Rattle.edit_script.specs.declared.forms.Form.TheVariants.{Answer, Begin, Check, Combine, Confirm, Conflicts, Count, Delete, Download, Editor, End, Erase, Fetch, Find, Fuse, Generate, Import, Lost, Members, Move, Node, Nodes, Place, Print, Purge, Redo, Rehearse, Relation, Resolve, Resume, Reverse, Save, Send, Serve, Split, Squeeze, Tag, Undo, Upload, Way}
 use Rattle.edit_script.specs.declared.step.Act.{Act}
 use Rattle.edit_script.specs.declared.step.Act.TheVariants as act
-use Rattle.edit_script.specs.Items.{alone, one_word, two_words, three_words, file_word, optional, area_text, wanted_text, keys_word, tags_word, refs_word, members_word, place_words, count_word, streets_word, size_word, side_word, tag_keys_word}
-use Rattle.edit_script.specs.Meeting.{meeting_form}
+use Rattle.edit_script.specs.declared.step.HistoryStep.TheVariants as history
+use Rattle.edit_script.specs.declared.step.Look.TheVariants as look
+use Rattle.edit_script.specs.declared.step.MeetStep.TheVariants as meet
+use Rattle.edit_script.specs.declared.step.Purpose.TheVariants as purpose
+use Rattle.edit_script.specs.Items.{alone, one_word, two_words, three_words, file_word, optional, area_text, wanted_text, keys_word, tags_word, refs_word, members_word, place_words, count_word, streets_word, size_word, editor_word, back_word, side_word, tag_keys_word}
 
 -- `download FILE`, and then `B..` and `F..`, of which each can be left out
 unfoldable pub download : List (List ℕ) → Option Act
@@ -25,59 +30,16 @@ download (file ∷ words) = do
   name ← unescaped file
   (area, words) ← optional 66 area_text words
   (wanted, words) ← optional 70 wanted_text words
-  alone (act.Download name area wanted) words
+  alone (act.File name (purpose.Download area wanted)) words
 
--- `generate N`
-unfoldable pub generate : List (List ℕ) → Option Act
-generate words = do
-  number ← one_word words
-  streets ← streets_word number
-  Some (act.Generate streets)
-
--- `import FILE`
-unfoldable pub import_file : List (List ℕ) → Option Act
-import_file words = do
-  name ← file_word words
-  Some (act.ImportFile name)
-
--- `confirm FILE`
-unfoldable pub confirm : List (List ℕ) → Option Act
-confirm words = do
-  name ← file_word words
-  Some (act.Confirm name)
-
--- `resume FILE`
-unfoldable pub resume : List (List ℕ) → Option Act
-resume words = do
-  name ← file_word words
-  Some (act.Resume name)
-
--- `undo N`
-unfoldable pub undo : List (List ℕ) → Option Act
-undo words = do
-  count ← one_word words
-  n ← count_word count
-  Some (act.Undo n)
-
--- `redo N`
-unfoldable pub redo : List (List ℕ) → Option Act
-redo words = do
-  count ← one_word words
-  n ← count_word count
-  Some (act.Redo n)
-
--- `find QUERY`: all words behind the first are the query
-unfoldable pub find : List (List ℕ) → Option Act
-find words = do
-  query ← query_of_words words
-  Some (act.Find query)
-
--- `upload SIZE`
-unfoldable pub upload : List (List ℕ) → Option Act
-upload words = do
-  number ← one_word words
-  size ← size_word number
-  Some (act.Upload size)
+-- `fetch M`, and then `B..` and `F..` as of a `download`
+unfoldable pub fetch : List (List ℕ) → Option Act
+fetch [] = None
+fetch (number ∷ words) = do
+  back ← back_word number
+  (area, words) ← optional 66 area_text words
+  (wanted, words) ← optional 70 wanted_text words
+  alone (act.Meet (meet.Fetch back area wanted)) words
 
 -- `node x.. y.. T..`
 unfoldable pub add_node : List (List ℕ) → Option Act
@@ -144,27 +106,6 @@ set_members words = do
   members ← members_word second
   Some (act.Job (job.SetMembers key members))
 
--- `delete KEYS`
-unfoldable pub delete : List (List ℕ) → Option Act
-delete words = do
-  named ← one_word words
-  keys ← keys_word named
-  Some (act.Job (job.Delete keys))
-
--- `erase KEYS`
-unfoldable pub erase : List (List ℕ) → Option Act
-erase words = do
-  named ← one_word words
-  keys ← keys_word named
-  Some (act.Job (job.Erase keys))
-
--- `purge KEYS`
-unfoldable pub purge : List (List ℕ) → Option Act
-purge words = do
-  named ← one_word words
-  keys ← keys_word named
-  Some (act.Job (job.Purge keys))
-
 -- `split KEY KEYS`
 unfoldable pub split : List (List ℕ) → Option Act
 split words = do
@@ -179,20 +120,6 @@ combine words = do
   named ← one_word words
   ways ← keys_word named
   if nat_le 2 (length ways) then Some (act.Job (job.Combine ways)) else None
-
--- `reverse KEY`
-unfoldable pub reverse : List (List ℕ) → Option Act
-reverse words = do
-  named ← one_word words
-  way ← key_text named
-  Some (act.Job (job.Reverse way))
-
--- `squeeze KEYS`
-unfoldable pub squeeze : List (List ℕ) → Option Act
-squeeze words = do
-  named ← one_word words
-  keys ← keys_word named
-  Some (act.Job (job.Squeeze keys))
 
 -- `fuse KEYS`, at least two
 unfoldable pub fuse : List (List ℕ) → Option Act
@@ -238,86 +165,149 @@ resolve (named ∷ words) = do
   choice ← choice_of words
   Some (act.Job (job.Resolve key choice))
 
--- what a check finds is mended
-unfoldable pub mend_form : List ℕ → List (List ℕ) → Option Act
-mend_form verb words =
-    if bytes_eq verb (codes "squeeze") then squeeze words
-    else (if bytes_eq verb (codes "fuse") then fuse words
-    else meeting_form verb words)
+-- the form that is listed with the word
+abbrev pub listed_form : List ℕ → List (List ℕ × Form) → Option Form
+listed_form word [] = None
+listed_form word (at ∷ more) = if bytes_eq word at.0 then Some at.1 else listed_form word more
 
--- a way is cut, joined or reversed
-unfoldable pub way_form : List ℕ → List (List ℕ) → Option Act
-way_form verb words =
-    if bytes_eq verb (codes "split") then split words
-    else (if bytes_eq verb (codes "combine") then combine words
-    else (if bytes_eq verb (codes "reverse") then reverse words
-    else mend_form verb words))
+-- the words with which lines begin, and their forms
+abbrev pub all_forms : List (List ℕ × Form)
+all_forms =
+    (codes "answer", Answer)
+    ∷ (codes "begin", Begin)
+    ∷ (codes "check", Check)
+    ∷ (codes "combine", Combine)
+    ∷ (codes "confirm", Confirm)
+    ∷ (codes "conflicts", Conflicts)
+    ∷ (codes "count", Count)
+    ∷ (codes "delete", Delete)
+    ∷ (codes "download", Download)
+    ∷ (codes "editor", Editor)
+    ∷ (codes "end", End)
+    ∷ (codes "erase", Erase)
+    ∷ (codes "fetch", Fetch)
+    ∷ (codes "find", Find)
+    ∷ (codes "fuse", Fuse)
+    ∷ (codes "generate", Generate)
+    ∷ (codes "import", Import)
+    ∷ (codes "lost", Lost)
+    ∷ (codes "members", Members)
+    ∷ (codes "move", Move)
+    ∷ (codes "node", Node)
+    ∷ (codes "nodes", Nodes)
+    ∷ (codes "place", Place)
+    ∷ (codes "print", Print)
+    ∷ (codes "purge", Purge)
+    ∷ (codes "redo", Redo)
+    ∷ (codes "rehearse", Rehearse)
+    ∷ (codes "relation", Relation)
+    ∷ (codes "resolve", Resolve)
+    ∷ (codes "resume", Resume)
+    ∷ (codes "reverse", Reverse)
+    ∷ (codes "save", Save)
+    ∷ (codes "send", Send)
+    ∷ (codes "serve", Serve)
+    ∷ (codes "split", Split)
+    ∷ (codes "squeeze", Squeeze)
+    ∷ (codes "tag", Tag)
+    ∷ (codes "undo", Undo)
+    ∷ (codes "upload", Upload)
+    ∷ (codes "way", Way)
+    ∷ []
 
--- objects go
-unfoldable pub delete_form : List ℕ → List (List ℕ) → Option Act
-delete_form verb words =
-    if bytes_eq verb (codes "delete") then delete words
-    else (if bytes_eq verb (codes "erase") then erase words
-    else (if bytes_eq verb (codes "purge") then purge words
-    else way_form verb words))
+-- the form of the lines that begin with the word
+unfoldable pub form_of : List ℕ → Option Form
+form_of word = listed_form word all_forms
 
--- objects are changed one by one
-unfoldable pub change_form : List ℕ → List (List ℕ) → Option Act
-change_form verb words =
-    if bytes_eq verb (codes "tag") then set_tags words
-    else (if bytes_eq verb (codes "move") then shift words
-    else (if bytes_eq verb (codes "place") then place words
-    else (if bytes_eq verb (codes "nodes") then set_nodes words
-    else (if bytes_eq verb (codes "members") then set_members words
-    else (if bytes_eq verb (codes "resolve") then resolve words
-    else delete_form verb words)))))
-
--- an object is added
-unfoldable pub add_form : List ℕ → List (List ℕ) → Option Act
-add_form verb words =
-    if bytes_eq verb (codes "node") then add_node words
-    else (if bytes_eq verb (codes "way") then add_way words
-    else (if bytes_eq verb (codes "relation") then add_relation words
-    else change_form verb words))
-
--- the table is sent, or what the server answered is taken in
-unfoldable pub send_form : List ℕ → List (List ℕ) → Option Act
-send_form verb words =
-    if bytes_eq verb (codes "rehearse") then alone act.Rehearse words
-    else (if bytes_eq verb (codes "upload") then upload words
-    else (if bytes_eq verb (codes "confirm") then confirm words
-    else add_form verb words))
-
--- the table is looked at
-unfoldable pub look_form : List ℕ → List (List ℕ) → Option Act
-look_form verb words =
-    if bytes_eq verb (codes "print") then alone act.Print words
-    else (if bytes_eq verb (codes "count") then alone act.Count words
-    else (if bytes_eq verb (codes "conflicts") then alone act.Conflicts words
-    else (if bytes_eq verb (codes "save") then alone act.Save words
-    else (if bytes_eq verb (codes "find") then find words
-    else (if bytes_eq verb (codes "check") then alone act.Check words
-    else send_form verb words)))))
-
--- a group begins or ends, or steps are undone or redone
-unfoldable pub group_form : List ℕ → List (List ℕ) → Option Act
-group_form verb words =
-    if bytes_eq verb (codes "begin") then alone act.Begin words
-    else (if bytes_eq verb (codes "end") then alone act.End words
-    else (if bytes_eq verb (codes "undo") then undo words
-    else (if bytes_eq verb (codes "redo") then redo words
-    else look_form verb words)))
-
--- objects are taken in from outside
-unfoldable pub form : List ℕ → List (List ℕ) → Option Act
-form verb words =
-    if bytes_eq verb (codes "download") then download words
-    else (if bytes_eq verb (codes "generate") then generate words
-    else (if bytes_eq verb (codes "import") then import_file words
-    else (if bytes_eq verb (codes "resume") then resume words
-    else group_form verb words)))
+-- what the words behind the first ask for
+abbrev pub read_form : Form → List (List ℕ) → Option Act
+read_form Answer words = alone (act.Meet meet.Answer) words
+read_form Begin words = alone (act.History history.Begin) words
+read_form Check words = alone (act.Look look.Check) words
+read_form Combine words = combine words
+read_form Confirm words = do
+  name ← file_word words
+  Some (act.File name purpose.Confirm)
+read_form Conflicts words = alone (act.Look look.Conflicts) words
+read_form Count words = alone (act.Look look.Count) words
+read_form Delete words = do
+  named ← one_word words
+  keys ← keys_word named
+  Some (act.Job (job.Delete keys))
+read_form Download words = download words
+read_form Editor words = do
+  number ← one_word words
+  n ← editor_word number
+  Some (act.Editor n)
+read_form End words = alone (act.History history.End) words
+read_form Erase words = do
+  named ← one_word words
+  keys ← keys_word named
+  Some (act.Job (job.Erase keys))
+read_form Fetch words = fetch words
+read_form Find words = do
+  query ← query_of_words words
+  Some (act.Look (look.Find query))
+read_form Fuse words = fuse words
+read_form Generate words = do
+  number ← one_word words
+  streets ← streets_word number
+  Some (act.Generate streets)
+read_form Import words = do
+  name ← file_word words
+  Some (act.File name purpose.Import)
+read_form Lost words = alone (act.Meet meet.Lost) words
+read_form Members words = set_members words
+read_form Move words = shift words
+read_form Node words = add_node words
+read_form Nodes words = set_nodes words
+read_form Place words = place words
+read_form Print words = alone (act.Look look.Print) words
+read_form Purge words = do
+  named ← one_word words
+  keys ← keys_word named
+  Some (act.Job (job.Purge keys))
+read_form Redo words = do
+  number ← one_word words
+  n ← count_word number
+  Some (act.History (history.Redo n))
+read_form Rehearse words = alone (act.Look look.Rehearse) words
+read_form Relation words = add_relation words
+read_form Resolve words = resolve words
+read_form Resume words = do
+  name ← file_word words
+  Some (act.File name purpose.Resume)
+read_form Reverse words = do
+  named ← one_word words
+  way ← key_text named
+  Some (act.Job (job.Reverse way))
+read_form Save words = alone (act.Look look.Save) words
+read_form Send words = do
+  number ← one_word words
+  count ← size_word number
+  Some (act.Meet (meet.Send count))
+read_form Serve words = do
+  name ← file_word words
+  Some (act.Serve name)
+read_form Split words = split words
+read_form Squeeze words = do
+  named ← one_word words
+  keys ← keys_word named
+  Some (act.Job (job.Squeeze keys))
+read_form Tag words = set_tags words
+read_form Undo words = do
+  number ← one_word words
+  n ← count_word number
+  Some (act.History (history.Undo n))
+read_form Upload words = do
+  number ← one_word words
+  size ← size_word number
+  Some (act.Look (look.Upload size))
+read_form Way words = add_way words
 
 -- What the words of a line ask for; none where they are no line of the grammar.
-abbrev pub act_of : List (List ℕ) → Option Act
+unfoldable pub act_of : List (List ℕ) → Option Act
 act_of [] = None
-act_of (verb ∷ words) = form verb words
+act_of (word ∷ words) = do
+  form ← form_of word
+  read_form form words

@@ -1,7 +1,6 @@
 pub mod Answers
 pub mod Forms
 pub mod Items
-pub mod Meeting
 pub mod Order
 pub mod Place
 pub mod Reply

@@ -10,30 +10,32 @@ use Rattle.tool_api.specs.declared.job.Job.TheVariants.{Merge}
 use Rattle.edit_script.specs.declared.line.ScriptLine.{ScriptLine}
 use Rattle.edit_script.specs.declared.line.ScriptLine.TheVariants.{Skipped, Asks}
 use Rattle.edit_script.specs.declared.step.Act.{Act}
-use Rattle.edit_script.specs.declared.step.Act.TheVariants.{Job, Generate, Begin, End, Undo, Redo, Find, Rehearse, Upload, Confirm, Resume, Editor, Fetch, Send, Answer, Lost}
+use Rattle.edit_script.specs.declared.step.Act.TheVariants.{Job, Generate, History, Look, File, Editor, Meet}
+use Rattle.edit_script.specs.declared.step.HistoryStep.TheVariants.{Begin, End, Undo, Redo}
+use Rattle.edit_script.specs.declared.step.Look.TheVariants.{Find, Rehearse, Upload}
+use Rattle.edit_script.specs.declared.step.MeetStep.TheVariants.{Fetch, Send}
+use Rattle.edit_script.specs.declared.step.Purpose.TheVariants.{Confirm, Resume}
 use Rattle.edit_script.specs.declared.step.Step.{Step}
 
 -- whether an act may stand where it does, inside a group or outside
 abbrev pub may_stand : (is_inside : Bool) → Act → Bool
-may_stand true Begin = false
-may_stand true (Undo n) = false
-may_stand true (Redo n) = false
-may_stand true Rehearse = false
-may_stand true (Upload size) = false
-may_stand true (Confirm name) = false
-may_stand true (Resume name) = false
+may_stand true (History End) = true
+may_stand true (History step) = false
+may_stand true (Look Rehearse) = false
+may_stand true (Look (Upload size)) = false
+may_stand true (File name Confirm) = false
+may_stand true (File name Resume) = false
 may_stand true (Editor n) = false
-may_stand true (Send count) = false
-may_stand true Answer = false
-may_stand true Lost = false
+may_stand true (Meet (Fetch back area wanted)) = true
+may_stand true (Meet step) = false
 may_stand true act = true
-may_stand false End = false
+may_stand false (History End) = false
 may_stand false act = true
 
 -- whether the next act stands inside a group
 abbrev pub inside_after : (is_inside : Bool) → Act → Bool
-inside_after is_inside Begin = true
-inside_after is_inside End = false
+inside_after is_inside (History Begin) = true
+inside_after is_inside (History End) = false
 inside_after is_inside act = is_inside
 
 -- a download is no job of a line
@@ -47,13 +49,13 @@ IsNoDownload job = Unit {0}
 abbrev pub IsMeant : Act → Type 0
 IsMeant (Job job) = IsWellFormed job × IsNoDownload job
 IsMeant (Generate streets) = (1 ≤ streets) × (streets ≤ 100000)
-IsMeant (Undo n) = 1 ≤ n
-IsMeant (Redo n) = 1 ≤ n
-IsMeant (Find query) = depth query ≤ 1100
-IsMeant (Upload size) = (1 ≤ size) × (size ≤ 10000)
+IsMeant (History (Undo n)) = 1 ≤ n
+IsMeant (History (Redo n)) = 1 ≤ n
+IsMeant (Look (Find query)) = depth query ≤ 1100
+IsMeant (Look (Upload size)) = (1 ≤ size) × (size ≤ 10000)
 IsMeant (Editor n) = (1 ≤ n) × (n ≤ 4)
-IsMeant (Fetch back area wanted) = back < 10000000
-IsMeant (Send count) = (1 ≤ count) × (count ≤ 10000)
+IsMeant (Meet (Fetch back area wanted)) = back < 10000000
+IsMeant (Meet (Send count)) = (1 ≤ count) × (count ≤ 10000)
 IsMeant act = Unit {0}
 
 abbrev pub IsMeantLine : ScriptLine → Type 0

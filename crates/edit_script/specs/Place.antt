@@ -6,7 +6,8 @@ use Rattle.std.specs.Prelude.{◌≡◌, Bool, true, false, ◌&&◌, ◌||◌, 
 use Rattle.edit_script.specs.declared.place.Place.{Place}
 use Rattle.edit_script.specs.declared.place.Place.TheVariants.{Start, Script, Meeting}
 use Rattle.edit_script.specs.declared.step.Act.{Act}
-use Rattle.edit_script.specs.declared.step.Act.TheVariants.{Download, Generate, Confirm, Resume, Serve, Editor, Fetch, Send, Answer, Lost}
+use Rattle.edit_script.specs.declared.step.Act.TheVariants.{Generate, File, Serve, Editor, Meet}
+use Rattle.edit_script.specs.declared.step.Purpose.TheVariants.{Import}
 use Rattle.edit_script.specs.declared.step.Step.{Step}
 use Rattle.edit_script.specs.Order.{may_stand, inside_after}
 
@@ -23,17 +24,13 @@ is_meeting (first ∷ steps) = begins_meeting first.act
 -- Whether an act is one of those behind the first of a meeting script, or one of any other script.
 abbrev pub belongs : (in_meeting : Bool) → Act → Bool
 belongs true (Serve name) = false
-belongs true (Download name area wanted) = false
 belongs true (Generate streets) = false
-belongs true (Confirm name) = false
-belongs true (Resume name) = false
+belongs true (File name Import) = true
+belongs true (File name purpose) = false
 belongs true act = true
 belongs false (Serve name) = false
 belongs false (Editor n) = false
-belongs false (Fetch back area wanted) = false
-belongs false (Send count) = false
-belongs false Answer = false
-belongs false Lost = false
+belongs false (Meet step) = false
 belongs false act = true
 
 -- Each act is one of those.

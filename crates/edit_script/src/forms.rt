@@ -1,8 +1,8 @@
-//! The lines of a script: one function for each form, found by the first word of the line.
-ghost use Rattle.std.specs.Prelude.{IfOk};
+//! The lines of a script: the first word of a line gives its form, and the form reads the words behind it.
+ghost use Rattle.std.specs.Prelude.{◌≡◌, IfOk};
 ghost use Rattle.map_search.specs.Words.{words_of};
 ghost use Rattle.edit_script.specs.Answers.{Gives};
-ghost use Rattle.edit_script.specs.Forms.{download, generate, import_file, confirm, resume, add_node, add_way, add_relation, set_tags, shift, place, set_nodes, set_members, delete, erase, purge, split, combine, reverse, squeeze, fuse, undo, redo, find, upload, mix, parts, choice_form, choice_of, resolve, mend_form, way_form, delete_form, change_form, add_form, send_form, look_form, group_form, form, act_of};
+ghost use Rattle.edit_script.specs.Forms.{download, fetch, add_node, add_way, add_relation, set_tags, shift, place, set_nodes, set_members, split, combine, fuse, mix, parts, choice_form, choice_of, resolve, form_of, read_form, act_of};
 ghost use Rattle.edit_script.specs.Order.{IsMeant};
 
 use crate::fault::Unread;
@@ -11,188 +11,206 @@ use crate::items::{
     one_word, place_words, query_words, refs_word, side_word, tag_keys_word, tags_word,
     three_words, two_words, wanted_part,
 };
-use crate::meeting::meeting_form;
-use crate::numbers::{count_word, size_word, streets_word};
-use crate::step::Act;
+use crate::numbers::{back_word, count_word, editor_word, size_word, streets_word};
+use crate::step::{Act, HistoryStep, Look, MeetStep, Purpose};
 use merge_cases::Choice;
 use opl_text::{Pool, read_escaped};
 use tool_api::Job;
 
+/// How the words of a line behind the first are read.
+#[derive(Clone, Copy)]
+pub enum Form {
+    Answer,
+    Begin,
+    Check,
+    Combine,
+    Confirm,
+    Conflicts,
+    Count,
+    Delete,
+    Download,
+    Editor,
+    End,
+    Erase,
+    Fetch,
+    Find,
+    Fuse,
+    Generate,
+    Import,
+    Lost,
+    Members,
+    Move,
+    Node,
+    Nodes,
+    Place,
+    Print,
+    Purge,
+    Redo,
+    Rehearse,
+    Relation,
+    Resolve,
+    Resume,
+    Reverse,
+    Save,
+    Send,
+    Serve,
+    Split,
+    Squeeze,
+    Tag,
+    Undo,
+    Upload,
+    Way,
+}
+
+/// The words with which lines begin, in their order, and the forms of these lines.
+const FORMS: [(&[u8], Form); 40] = [
+    (b"answer", Form::Answer),
+    (b"begin", Form::Begin),
+    (b"check", Form::Check),
+    (b"combine", Form::Combine),
+    (b"confirm", Form::Confirm),
+    (b"conflicts", Form::Conflicts),
+    (b"count", Form::Count),
+    (b"delete", Form::Delete),
+    (b"download", Form::Download),
+    (b"editor", Form::Editor),
+    (b"end", Form::End),
+    (b"erase", Form::Erase),
+    (b"fetch", Form::Fetch),
+    (b"find", Form::Find),
+    (b"fuse", Form::Fuse),
+    (b"generate", Form::Generate),
+    (b"import", Form::Import),
+    (b"lost", Form::Lost),
+    (b"members", Form::Members),
+    (b"move", Form::Move),
+    (b"node", Form::Node),
+    (b"nodes", Form::Nodes),
+    (b"place", Form::Place),
+    (b"print", Form::Print),
+    (b"purge", Form::Purge),
+    (b"redo", Form::Redo),
+    (b"rehearse", Form::Rehearse),
+    (b"relation", Form::Relation),
+    (b"resolve", Form::Resolve),
+    (b"resume", Form::Resume),
+    (b"reverse", Form::Reverse),
+    (b"save", Form::Save),
+    (b"send", Form::Send),
+    (b"serve", Form::Serve),
+    (b"split", Form::Split),
+    (b"squeeze", Form::Squeeze),
+    (b"tag", Form::Tag),
+    (b"undo", Form::Undo),
+    (b"upload", Form::Upload),
+    (b"way", Form::Way),
+];
+
+/// The form of the lines that begin with the word. It is looked up: six comparisons of words at most.
+fn form_of(word: &[u8]) -> Option<Form>
+    ensures { result ≡ form_of word.now }
+{
+    let forms = FORMS.as_slice();
+    match forms.binary_search_by_key(&word, |listed| listed.0) {
+        Ok(at) => Some(forms[at].1),
+        Err(_) => None,
+    }
+}
+
 /// What the words of a line ask for.
+#[tactic(auto, unfolding(crate::specs::Forms::act_of))]
 pub fn act_of(pool: &mut Pool, line: &[u8]) -> Result<Act, Unread>
     ensures value { Gives result (act_of (words_of line.now)) }
     ensures meant { IfOk result IsMeant }
 {
-    match next_word(line) {
+    let Some((word, words)) = next_word(line) else {
+        return Err(Unread::Outside);
+    };
+    match form_of(word) {
         None => Err(Unread::Outside),
-        Some((verb, words)) => form(pool, verb, words),
+        Some(form) => read_form(pool, form, words),
     }
 }
 
-/// Objects are taken in from outside.
-#[tactic(auto, unfolding(crate::specs::Forms::form))]
-fn form(pool: &mut Pool, verb: &[u8], words: &[u8]) -> Result<Act, Unread>
-    ensures value { Gives result (form verb.now (words_of words.now)) }
+/// What the words behind the first ask for.
+fn read_form(pool: &mut Pool, form: Form, words: &[u8]) -> Result<Act, Unread>
+    ensures value { Gives result (read_form form (words_of words.now)) }
     ensures meant { IfOk result IsMeant }
 {
-    if verb == b"download".as_slice() {
-        download(pool, words)
-    } else if verb == b"generate".as_slice() {
-        generate(words)
-    } else if verb == b"import".as_slice() {
-        import_file(pool, words)
-    } else if verb == b"resume".as_slice() {
-        resume(pool, words)
-    } else {
-        group_form(pool, verb, words)
-    }
-}
-
-/// A group begins or ends, or steps are undone or redone.
-#[tactic(auto, unfolding(crate::specs::Forms::group_form))]
-fn group_form(pool: &mut Pool, verb: &[u8], words: &[u8]) -> Result<Act, Unread>
-    ensures value { Gives result (group_form verb.now (words_of words.now)) }
-    ensures meant { IfOk result IsMeant }
-{
-    if verb == b"begin".as_slice() {
-        alone(Act::Begin, words)
-    } else if verb == b"end".as_slice() {
-        alone(Act::End, words)
-    } else if verb == b"undo".as_slice() {
-        undo(words)
-    } else if verb == b"redo".as_slice() {
-        redo(words)
-    } else {
-        look_form(pool, verb, words)
-    }
-}
-
-/// The table is looked at.
-#[tactic(auto, unfolding(crate::specs::Forms::look_form))]
-fn look_form(pool: &mut Pool, verb: &[u8], words: &[u8]) -> Result<Act, Unread>
-    ensures value { Gives result (look_form verb.now (words_of words.now)) }
-    ensures meant { IfOk result IsMeant }
-{
-    if verb == b"print".as_slice() {
-        alone(Act::Print, words)
-    } else if verb == b"count".as_slice() {
-        alone(Act::Count, words)
-    } else if verb == b"conflicts".as_slice() {
-        alone(Act::Conflicts, words)
-    } else if verb == b"save".as_slice() {
-        alone(Act::Save, words)
-    } else if verb == b"find".as_slice() {
-        find(pool, words)
-    } else if verb == b"check".as_slice() {
-        alone(Act::Check, words)
-    } else {
-        send_form(pool, verb, words)
-    }
-}
-
-/// The table is sent, or what the server answered is taken in.
-#[tactic(auto, unfolding(crate::specs::Forms::send_form))]
-fn send_form(pool: &mut Pool, verb: &[u8], words: &[u8]) -> Result<Act, Unread>
-    ensures value { Gives result (send_form verb.now (words_of words.now)) }
-    ensures meant { IfOk result IsMeant }
-{
-    if verb == b"rehearse".as_slice() {
-        alone(Act::Rehearse, words)
-    } else if verb == b"upload".as_slice() {
-        upload(words)
-    } else if verb == b"confirm".as_slice() {
-        confirm(pool, words)
-    } else {
-        add_form(pool, verb, words)
-    }
-}
-
-/// An object is added.
-#[tactic(auto, unfolding(crate::specs::Forms::add_form))]
-fn add_form(pool: &mut Pool, verb: &[u8], words: &[u8]) -> Result<Act, Unread>
-    ensures value { Gives result (add_form verb.now (words_of words.now)) }
-    ensures meant { IfOk result IsMeant }
-{
-    if verb == b"node".as_slice() {
-        add_node(pool, words)
-    } else if verb == b"way".as_slice() {
-        add_way(pool, words)
-    } else if verb == b"relation".as_slice() {
-        add_relation(pool, words)
-    } else {
-        change_form(pool, verb, words)
-    }
-}
-
-/// Objects are changed one by one.
-#[tactic(auto, unfolding(crate::specs::Forms::change_form))]
-fn change_form(pool: &mut Pool, verb: &[u8], words: &[u8]) -> Result<Act, Unread>
-    ensures value { Gives result (change_form verb.now (words_of words.now)) }
-    ensures meant { IfOk result IsMeant }
-{
-    if verb == b"tag".as_slice() {
-        set_tags(pool, words)
-    } else if verb == b"move".as_slice() {
-        shift(pool, words)
-    } else if verb == b"place".as_slice() {
-        place(words)
-    } else if verb == b"nodes".as_slice() {
-        set_nodes(pool, words)
-    } else if verb == b"members".as_slice() {
-        set_members(pool, words)
-    } else if verb == b"resolve".as_slice() {
-        resolve(pool, words)
-    } else {
-        delete_form(pool, verb, words)
-    }
-}
-
-/// Objects go.
-#[tactic(auto, unfolding(crate::specs::Forms::delete_form))]
-fn delete_form(pool: &mut Pool, verb: &[u8], words: &[u8]) -> Result<Act, Unread>
-    ensures value { Gives result (delete_form verb.now (words_of words.now)) }
-    ensures meant { IfOk result IsMeant }
-{
-    if verb == b"delete".as_slice() {
-        delete(pool, words)
-    } else if verb == b"erase".as_slice() {
-        erase(pool, words)
-    } else if verb == b"purge".as_slice() {
-        purge(pool, words)
-    } else {
-        way_form(pool, verb, words)
-    }
-}
-
-/// A way is cut, joined or reversed.
-#[tactic(auto, unfolding(crate::specs::Forms::way_form))]
-fn way_form(pool: &mut Pool, verb: &[u8], words: &[u8]) -> Result<Act, Unread>
-    ensures value { Gives result (way_form verb.now (words_of words.now)) }
-    ensures meant { IfOk result IsMeant }
-{
-    if verb == b"split".as_slice() {
-        split(pool, words)
-    } else if verb == b"combine".as_slice() {
-        combine(pool, words)
-    } else if verb == b"reverse".as_slice() {
-        reverse(words)
-    } else {
-        mend_form(pool, verb, words)
-    }
-}
-
-/// What a check finds is mended.
-#[tactic(auto, unfolding(crate::specs::Forms::mend_form))]
-fn mend_form(pool: &mut Pool, verb: &[u8], words: &[u8]) -> Result<Act, Unread>
-    ensures value { Gives result (mend_form verb.now (words_of words.now)) }
-    ensures meant { IfOk result IsMeant }
-{
-    if verb == b"squeeze".as_slice() {
-        squeeze(pool, words)
-    } else if verb == b"fuse".as_slice() {
-        fuse(pool, words)
-    } else {
-        meeting_form(pool, verb, words)
+    match form {
+        Form::Answer => alone(Act::Meet(MeetStep::Answer), words),
+        Form::Begin => alone(Act::History(HistoryStep::Begin), words),
+        Form::Check => alone(Act::Look(Look::Check), words),
+        Form::Combine => combine(pool, words),
+        Form::Confirm => Ok(Act::File {
+            name: file_word(pool, words)?,
+            purpose: Purpose::Confirm,
+        }),
+        Form::Conflicts => alone(Act::Look(Look::Conflicts), words),
+        Form::Count => alone(Act::Look(Look::Count), words),
+        Form::Delete => Ok(Act::Job(Job::Delete {
+            keys: keys_word(pool, one_word(words)?)?,
+        })),
+        Form::Download => download(pool, words),
+        Form::Editor => Ok(Act::Editor {
+            n: editor_word(one_word(words)?)?,
+        }),
+        Form::End => alone(Act::History(HistoryStep::End), words),
+        Form::Erase => Ok(Act::Job(Job::Erase {
+            keys: keys_word(pool, one_word(words)?)?,
+        })),
+        Form::Fetch => fetch(pool, words),
+        Form::Find => Ok(Act::Look(Look::Find(query_words(pool, words)?))),
+        Form::Fuse => fuse(pool, words),
+        Form::Generate => Ok(Act::Generate {
+            streets: streets_word(one_word(words)?)?,
+        }),
+        Form::Import => Ok(Act::File {
+            name: file_word(pool, words)?,
+            purpose: Purpose::Import,
+        }),
+        Form::Lost => alone(Act::Meet(MeetStep::Lost), words),
+        Form::Members => set_members(pool, words),
+        Form::Move => shift(pool, words),
+        Form::Node => add_node(pool, words),
+        Form::Nodes => set_nodes(pool, words),
+        Form::Place => place(words),
+        Form::Print => alone(Act::Look(Look::Print), words),
+        Form::Purge => Ok(Act::Job(Job::Purge {
+            keys: keys_word(pool, one_word(words)?)?,
+        })),
+        Form::Redo => Ok(Act::History(HistoryStep::Redo {
+            n: count_word(one_word(words)?)?,
+        })),
+        Form::Rehearse => alone(Act::Look(Look::Rehearse), words),
+        Form::Relation => add_relation(pool, words),
+        Form::Resolve => resolve(pool, words),
+        Form::Resume => Ok(Act::File {
+            name: file_word(pool, words)?,
+            purpose: Purpose::Resume,
+        }),
+        Form::Reverse => Ok(Act::Job(Job::Reverse {
+            way: key_word(one_word(words)?)?,
+        })),
+        Form::Save => alone(Act::Look(Look::Save), words),
+        Form::Send => Ok(Act::Meet(MeetStep::Send {
+            count: size_word(one_word(words)?)?,
+        })),
+        Form::Serve => Ok(Act::Serve {
+            name: file_word(pool, words)?,
+        }),
+        Form::Split => split(pool, words),
+        Form::Squeeze => Ok(Act::Job(Job::Squeeze {
+            keys: keys_word(pool, one_word(words)?)?,
+        })),
+        Form::Tag => set_tags(pool, words),
+        Form::Undo => Ok(Act::History(HistoryStep::Undo {
+            n: count_word(one_word(words)?)?,
+        })),
+        Form::Upload => Ok(Act::Look(Look::Upload {
+            size: size_word(one_word(words)?)?,
+        })),
+        Form::Way => add_way(pool, words),
     }
 }
 
@@ -208,48 +226,24 @@ fn download(pool: &mut Pool, words: &[u8]) -> Result<Act, Unread>
     let name = read_escaped(pool, file)?;
     let (area, rest) = area_part(rest)?;
     let (wanted, rest) = wanted_part(pool, rest)?;
-    alone(Act::Download { name, area, wanted }, rest)
+    let purpose = Purpose::Download { area, wanted };
+    alone(Act::File { name, purpose }, rest)
 }
 
-/// `generate N`.
-#[tactic(auto, unfolding(crate::specs::Forms::generate))]
-fn generate(words: &[u8]) -> Result<Act, Unread>
-    ensures value { Gives result (generate (words_of words.now)) }
+/// `fetch M`, and then `B..` and `F..` as of a `download`.
+#[tactic(auto, unfolding(crate::specs::Forms::fetch))]
+fn fetch(pool: &mut Pool, words: &[u8]) -> Result<Act, Unread>
+    ensures value { Gives result (fetch (words_of words.now)) }
     ensures meant { IfOk result IsMeant }
 {
-    let number = one_word(words)?;
-    let streets = streets_word(number)?;
-    Ok(Act::Generate { streets })
-}
-
-/// `import FILE`.
-#[tactic(auto, unfolding(crate::specs::Forms::import_file))]
-fn import_file(pool: &mut Pool, words: &[u8]) -> Result<Act, Unread>
-    ensures value { Gives result (import_file (words_of words.now)) }
-    ensures meant { IfOk result IsMeant }
-{
-    let name = file_word(pool, words)?;
-    Ok(Act::ImportFile { name })
-}
-
-/// `confirm FILE`.
-#[tactic(auto, unfolding(crate::specs::Forms::confirm))]
-fn confirm(pool: &mut Pool, words: &[u8]) -> Result<Act, Unread>
-    ensures value { Gives result (confirm (words_of words.now)) }
-    ensures meant { IfOk result IsMeant }
-{
-    let name = file_word(pool, words)?;
-    Ok(Act::Confirm { name })
-}
-
-/// `resume FILE`.
-#[tactic(auto, unfolding(crate::specs::Forms::resume))]
-fn resume(pool: &mut Pool, words: &[u8]) -> Result<Act, Unread>
-    ensures value { Gives result (resume (words_of words.now)) }
-    ensures meant { IfOk result IsMeant }
-{
-    let name = file_word(pool, words)?;
-    Ok(Act::Resume { name })
+    let Some((first, rest)) = next_word(words) else {
+        return Err(Unread::Outside);
+    };
+    let back = back_word(first)?;
+    let (area, rest) = area_part(rest)?;
+    let (wanted, rest) = wanted_part(pool, rest)?;
+    let step = MeetStep::Fetch { back, area, wanted };
+    alone(Act::Meet(step), rest)
 }
 
 /// `node x.. y.. T..`.
@@ -413,39 +407,6 @@ fn parts(pool: &mut Pool, words: &[u8]) -> Result<Choice, Unread>
     Ok(Choice::Parts { body, theirs })
 }
 
-/// `delete KEYS`.
-#[tactic(auto, unfolding(crate::specs::Forms::delete))]
-fn delete(pool: &Pool, words: &[u8]) -> Result<Act, Unread>
-    ensures value { Gives result (delete (words_of words.now)) }
-    ensures meant { IfOk result IsMeant }
-{
-    let first = one_word(words)?;
-    let keys = keys_word(pool, first)?;
-    Ok(Act::Job(Job::Delete { keys }))
-}
-
-/// `erase KEYS`.
-#[tactic(auto, unfolding(crate::specs::Forms::erase))]
-fn erase(pool: &Pool, words: &[u8]) -> Result<Act, Unread>
-    ensures value { Gives result (erase (words_of words.now)) }
-    ensures meant { IfOk result IsMeant }
-{
-    let first = one_word(words)?;
-    let keys = keys_word(pool, first)?;
-    Ok(Act::Job(Job::Erase { keys }))
-}
-
-/// `purge KEYS`.
-#[tactic(auto, unfolding(crate::specs::Forms::purge))]
-fn purge(pool: &Pool, words: &[u8]) -> Result<Act, Unread>
-    ensures value { Gives result (purge (words_of words.now)) }
-    ensures meant { IfOk result IsMeant }
-{
-    let first = one_word(words)?;
-    let keys = keys_word(pool, first)?;
-    Ok(Act::Job(Job::Purge { keys }))
-}
-
 /// `split KEY KEYS`.
 #[tactic(auto, unfolding(crate::specs::Forms::split))]
 fn split(pool: &Pool, words: &[u8]) -> Result<Act, Unread>
@@ -472,28 +433,6 @@ fn combine(pool: &Pool, words: &[u8]) -> Result<Act, Unread>
     Ok(Act::Job(Job::Combine { ways }))
 }
 
-/// `reverse KEY`.
-#[tactic(auto, unfolding(crate::specs::Forms::reverse))]
-fn reverse(words: &[u8]) -> Result<Act, Unread>
-    ensures value { Gives result (reverse (words_of words.now)) }
-    ensures meant { IfOk result IsMeant }
-{
-    let first = one_word(words)?;
-    let way = key_word(first)?;
-    Ok(Act::Job(Job::Reverse { way }))
-}
-
-/// `squeeze KEYS`.
-#[tactic(auto, unfolding(crate::specs::Forms::squeeze))]
-fn squeeze(pool: &Pool, words: &[u8]) -> Result<Act, Unread>
-    ensures value { Gives result (squeeze (words_of words.now)) }
-    ensures meant { IfOk result IsMeant }
-{
-    let first = one_word(words)?;
-    let keys = keys_word(pool, first)?;
-    Ok(Act::Job(Job::Squeeze { keys }))
-}
-
 /// `fuse KEYS`, at least two.
 #[tactic(auto, unfolding(crate::specs::Forms::fuse))]
 fn fuse(pool: &Pool, words: &[u8]) -> Result<Act, Unread>
@@ -506,47 +445,4 @@ fn fuse(pool: &Pool, words: &[u8]) -> Result<Act, Unread>
         return Err(Unread::Outside);
     }
     Ok(Act::Job(Job::Fuse { nodes }))
-}
-
-/// `undo N`.
-#[tactic(auto, unfolding(crate::specs::Forms::undo))]
-fn undo(words: &[u8]) -> Result<Act, Unread>
-    ensures value { Gives result (undo (words_of words.now)) }
-    ensures meant { IfOk result IsMeant }
-{
-    let first = one_word(words)?;
-    let n = count_word(first)?;
-    Ok(Act::Undo { n })
-}
-
-/// `redo N`.
-#[tactic(auto, unfolding(crate::specs::Forms::redo))]
-fn redo(words: &[u8]) -> Result<Act, Unread>
-    ensures value { Gives result (redo (words_of words.now)) }
-    ensures meant { IfOk result IsMeant }
-{
-    let first = one_word(words)?;
-    let n = count_word(first)?;
-    Ok(Act::Redo { n })
-}
-
-/// `find QUERY`.
-#[tactic(auto, unfolding(crate::specs::Forms::find))]
-fn find(pool: &mut Pool, words: &[u8]) -> Result<Act, Unread>
-    ensures value { Gives result (find (words_of words.now)) }
-    ensures meant { IfOk result IsMeant }
-{
-    let query = query_words(pool, words)?;
-    Ok(Act::Find(query))
-}
-
-/// `upload SIZE`.
-#[tactic(auto, unfolding(crate::specs::Forms::upload))]
-fn upload(words: &[u8]) -> Result<Act, Unread>
-    ensures value { Gives result (upload (words_of words.now)) }
-    ensures meant { IfOk result IsMeant }
-{
-    let first = one_word(words)?;
-    let size = size_word(first)?;
-    Ok(Act::Upload { size })
 }

@@ -8,18 +8,21 @@
 //! `map_search` for queries and for the cut of a line into words, on `merge_cases` for the ways out
 //! of a conflict, and on `tool_api` for jobs and their refusals.
 //!
-//! The first word of a line finds its form. A new line wants a definition in `specs/Forms` and a
-//! function of that name in `forms.rt`, or in `specs/Meeting` and `meeting.rt` where only meeting
-//! scripts have it, which read the words behind the first one; its word in one of the lists of words
-//! there; and an example in `proofs/Examples` or `MeetingExamples`. A word that can be left out begins
-//! with a letter of its own, and is read by `optional` of `specs/Items`.
+//! The first word of a line gives its form, and the form says how the words behind it are read. A
+//! new line wants a variant of `Form` with its word in `FORMS`, and in `all_forms` of
+//! `specs/Forms`, and its line in `read_form` of both; where it has several words behind the first, a
+//! definition there and a function of that name in `forms.rt`; and an example in `proofs/Examples` or
+//! `MeetingExamples`. A word that can be left out begins with a letter of its own, and is read by
+//! `optional` of `specs/Items`.
+//!
+//! What a line asks for is an `Act`, by families: a job, a step on the history, a look at the table,
+//! a file with what it is read for, and what only meetings have.
 #![tactic(auto)]
 
 mod fault;
 mod forms;
 mod items;
 mod line;
-mod meeting;
 mod numbers;
 mod place;
 mod reply;
@@ -32,4 +35,4 @@ pub use line::{has_outer_blank, is_skipped, next_line};
 pub use place::is_meeting;
 pub use reply::{StepRefusal, StepReply, write_reply};
 pub use script::read_script;
-pub use step::{Act, Step};
+pub use step::{Act, HistoryStep, Look, MeetStep, Purpose, Step};

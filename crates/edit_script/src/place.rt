@@ -2,7 +2,7 @@
 ghost use Rattle.std.specs.Prelude.{◌≡◌};
 ghost use Rattle.edit_script.specs.Place.{begins_meeting, belongs, is_meeting, may_stand_at, place_after};
 
-use crate::step::{Act, Step};
+use crate::step::{Act, Purpose, Step};
 
 /// Where a step stands.
 #[derive(Clone, Copy, Debug, PartialEq, Eq)]
@@ -74,10 +74,12 @@ impl Act {
     {
         match self {
             Act::Serve { .. } => false,
-            Act::Download { .. } | Act::Generate { .. } => !in_meeting,
-            Act::Confirm { .. } | Act::Resume { .. } => !in_meeting,
-            Act::Editor { .. } | Act::Fetch { .. } | Act::Send { .. } => in_meeting,
-            Act::Answer | Act::Lost => in_meeting,
+            Act::File {
+                purpose: Purpose::Import,
+                ..
+            } => true,
+            Act::Generate { .. } | Act::File { .. } => !in_meeting,
+            Act::Editor { .. } | Act::Meet(_) => in_meeting,
             _ => true,
         }
     }

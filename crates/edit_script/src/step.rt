@@ -11,26 +11,39 @@ use tool_api::Job;
 pub enum Act {
     /// Runs a job.
     Job(Job),
-    /// Takes the objects of a file into the table, all or a part of them.
-    Download {
-        /// The name of the file.
-        name: Text,
-        /// The box from which they are taken, in units of 10^-7 degree: its west isn't beyond its east, nor its
-        /// south beyond its north.
-        area: Option<Area>,
-        /// The tags that are wanted of them, at least one.
-        wanted: Option<Tags>,
-    },
     /// Takes the objects of a made city into the table.
     Generate {
         /// How many streets it has: 1 to 100,000.
         streets: u32,
     },
-    /// Makes the new objects of a file.
-    ImportFile {
+    /// Goes back or on in the history, or groups what comes.
+    History(HistoryStep),
+    /// Looks at the table, and changes nothing.
+    Look(Look),
+    /// Reads a file into the table.
+    File {
         /// The name of the file.
         name: Text,
+        /// What it is read for.
+        purpose: Purpose,
     },
+    /// Begins a meeting, in which up to four editors work at one server.
+    Serve {
+        /// The name of the file whose objects the server has.
+        name: Text,
+    },
+    /// Says which editor of the meeting does what stands below.
+    Editor {
+        /// Its number: 1 to 4.
+        n: u32,
+    },
+    /// Deals with the server of the meeting.
+    Meet(MeetStep),
+}
+
+/// A step on the history of the steps before.
+#[derive(Drop)]
+pub enum HistoryStep {
     /// Begins a group, whose steps are undone and redone as one.
     Begin,
     /// Ends the group.
@@ -45,46 +58,55 @@ pub enum Act {
         /// How often.
         n: u64,
     },
-    /// Writes the objects of the table.
+}
+
+/// What is looked at: the text of each stands behind its reply.
+#[derive(Drop)]
+pub enum Look {
+    /// The objects of the table.
     Print,
-    /// Writes how many objects the table has.
+    /// How many objects the table has.
     Count,
-    /// Writes the objects in conflict, each with its base, mine and theirs.
+    /// The objects in conflict, each with its base, mine and theirs.
     Conflicts,
-    /// Writes the whole table, so that a later session can go on from it.
+    /// The whole table, so that a later session can go on from it.
     Save,
-    /// Writes the keys of the objects that meet a query: one of at most 1,100 levels.
+    /// The keys of the objects that meet a query: one of at most 1,100 levels.
     Find(Query),
-    /// Writes what a check finds: nodes at the place of others, ways that name a node twice side by side, and rings
-    /// whose ends are two nodes at one place.
+    /// What a check finds: nodes at the place of others, ways that name a node twice side by side, and rings whose
+    /// ends are two nodes at one place.
     Check,
-    /// Runs the changes of an upload against a server in memory.
+    /// How many changes of an upload a server in memory accepts.
     Rehearse,
-    /// Writes the changes of an upload, in chunks.
+    /// The changes of an upload, in chunks.
     Upload {
         /// How many changes a chunk has at most: 1 to 10,000.
         size: u32,
     },
-    /// Takes in what the server answered to the changes of an upload.
-    Confirm {
-        /// The name of the file of answers.
-        name: Text,
+}
+
+/// What a file is read for.
+#[derive(Drop)]
+pub enum Purpose {
+    /// Its objects are taken into the table, all or a part of them.
+    Download {
+        /// The box from which they are taken, in units of 10^-7 degree: its west isn't beyond its east, nor its
+        /// south beyond its north.
+        area: Option<Area>,
+        /// The tags that are wanted of them, at least one.
+        wanted: Option<Tags>,
     },
-    /// Takes in a table that was saved, in place of the one that is there.
-    Resume {
-        /// The name of the file in which it was saved.
-        name: Text,
-    },
-    /// Begins a meeting, in which up to four editors work at one server.
-    Serve {
-        /// The name of the file whose objects the server has.
-        name: Text,
-    },
-    /// Says which editor does what stands below.
-    Editor {
-        /// Its number: 1 to 4.
-        n: u32,
-    },
+    /// Its new objects are made.
+    Import,
+    /// It has what the server answered to the changes of an upload.
+    Confirm,
+    /// It has a table that was saved, which is taken in place of the one that is there.
+    Resume,
+}
+
+/// What an editor of a meeting does with the server.
+#[derive(Drop)]
+pub enum MeetStep {
     /// Takes objects that the server has, or had, into the editor's table, all or a part of them.
     Fetch {
         /// How many states of the server back: 0 is what it has, and at most 9,999,999.
@@ -120,11 +142,16 @@ impl Act {
         ensures { result ≡ may_stand is_inside self.now }
     {
         match self {
-            Act::Begin | Act::Undo { .. } | Act::Redo { .. } => !is_inside,
-            Act::Rehearse | Act::Upload { .. } | Act::Confirm { .. } => !is_inside,
-            Act::Resume { .. } => !is_inside,
-            Act::Editor { .. } | Act::Send { .. } | Act::Answer | Act::Lost => !is_inside,
-            Act::End => is_inside,
+            Act::History(HistoryStep::End) => is_inside,
+            Act::History(_) => !is_inside,
+            Act::Look(Look::Rehearse | Look::Upload { .. }) => !is_inside,
+            Act::File {
+                purpose: Purpose::Confirm | Purpose::Resume,
+                ..
+            } => !is_inside,
+            Act::Editor { .. } => !is_inside,
+            Act::Meet(MeetStep::Fetch { .. }) => true,
+            Act::Meet(_) => !is_inside,
             _ => true,
         }
     }
@@ -134,8 +161,8 @@ impl Act {
         ensures { result ≡ inside_after is_inside self.now }
     {
         match self {
-            Act::Begin => true,
-            Act::End => false,
+            Act::History(HistoryStep::Begin) => true,
+            Act::History(HistoryStep::End) => false,
             _ => is_inside,
         }
     }

@@ -11,7 +11,8 @@ use Rattle.placeholder.specs.Confirmed.{confirmed_all}
 use Rattle.answer_file.specs.Answers.{confirm_text}
 use Rattle.answer_file.specs.Resumed.{GoesOn, TellsAnswers}
 use Rattle.answer_file.proofs.Resumes.{answers_resumed, text_confirms}
-use Rattle.edit_script.specs.declared.step.Act.TheVariants.{Confirm}
+use Rattle.edit_script.specs.declared.step.Act.TheVariants.{File}
+use Rattle.edit_script.specs.declared.step.Purpose.TheVariants.{Confirm}
 use Rattle.edit_script.specs.declared.step.Step.{Step}
 use Rattle.edit_script.specs.declared.reply.StepReply.TheVariants.{Done}
 use Rattle.edit_history.specs.Machine.{State, fresh}
@@ -28,15 +29,15 @@ use Rattle.edit_session.specs.Settled.{of_answers}
 use Rattle.edit_session.specs.Turn.{Turn, act_turn, done_turn, settled_turn, skipped_turn, step_turn, turn}
 use Rattle.edit_session.specs.Uploads.{run_of}
 
-module _ (limits : Limits) (given : Given) (step : Step) (name : List ℕ) (s : State) (is : step.act ≡ Confirm name) (bytes : List ℕ) (there : given ≡ Some bytes) where
+module _ (limits : Limits) (given : Given) (step : Step) (name : List ℕ) (s : State) (is : step.act ≡ File name Confirm) (bytes : List ℕ) (there : given ≡ Some bytes) where
   -- what the step does, by two tests
   abbrev by_tests : Bool → Bool → Turn
-  by_tests given_up fits = if given_up then skipped_turn (Confirm name) s else act_turn limits (if given_up then found.Nothing else bytes_found (if fits then Whole bytes else TooLong)) (Confirm name) s
+  by_tests given_up fits = if given_up then skipped_turn (File name Confirm) s else act_turn limits (if given_up then found.Nothing else bytes_found (if fits then Whole bytes else TooLong)) (File name Confirm) s
 
   its_turn : (given_up fits : Bool) → is_given_up s.group ≡ given_up → nat_le (length bytes) limits.file ≡ fits → step_turn limits given step s ≡ by_tests given_up fits
   its_turn given_up fits group fit =
       ap (λ a. turn limits (found_in limits given s.group a) a s) is
-      ∙ ap (λ (o : Option (List ℕ)). if is_given_up s.group then skipped_turn (Confirm name) s else act_turn limits (if is_given_up s.group then found.Nothing else bytes_found (reading limits.file o)) (Confirm name) s) there
+      ∙ ap (λ (o : Option (List ℕ)). if is_given_up s.group then skipped_turn (File name Confirm) s else act_turn limits (if is_given_up s.group then found.Nothing else bytes_found (reading limits.file o)) (File name Confirm) s) there
       ∙ ap (λ b. by_tests b (nat_le (length bytes) limits.file)) group
       ∙ ap (by_tests given_up) fit
 
@@ -63,16 +64,16 @@ module _ (limits : Limits) (given : Given) (step : Step) (name : List ℕ) (s : 
     by_reply false true group fit done =
         subst (λ (t : Turn). GoesOn w changes left ids t.state.now) (sym (its_turn false true group fit ∙ confirms)) goes_on
 
-is_confirmed : (limits : Limits) (given : Given) (step : Step) (name : List ℕ) (s : State) → step.act ≡ Confirm name → IsConfirmed limits given step s
+is_confirmed : (limits : Limits) (given : Given) (step : Step) (name : List ℕ) (s : State) → step.act ≡ File name Confirm → IsConfirmed limits given step s
 is_confirmed limits given step name s is = record {
   taken = λ bytes there fits going w changes left ids tells. its_reply limits given step name s is bytes there w changes left ids tells fits going;
   resumed = λ bytes there done w changes left ids tells. by_reply limits given step name s is bytes there w changes left ids tells (is_given_up s.group) (nat_le (length bytes) limits.file) refl refl done;
 }
 
 all_confirmed : (limits : Limits) (steps : List (Step × Given × State)) → AreConfirmed limits steps
-all_confirmed limits [] = All-nil (λ (at : Step × Given × State). (name : List ℕ) → at.0.act ≡ Confirm name → IsConfirmed limits at.1 at.0 at.2)
+all_confirmed limits [] = All-nil (λ (at : Step × Given × State). (name : List ℕ) → at.0.act ≡ File name Confirm → IsConfirmed limits at.1 at.0 at.2)
 all_confirmed limits (at ∷ steps) =
-    All-cons (λ (at : Step × Given × State). (name : List ℕ) → at.0.act ≡ Confirm name → IsConfirmed limits at.1 at.0 at.2) at steps (λ name is. is_confirmed limits at.1 at.0 name at.2 is) (all_confirmed limits steps)
+    All-cons (λ (at : Step × Given × State). (name : List ℕ) → at.0.act ≡ File name Confirm → IsConfirmed limits at.1 at.0 at.2) at steps (λ name is. is_confirmed limits at.1 at.0 name at.2 is) (all_confirmed limits steps)
 
 -- Whatever is asked for and given, each confirmation of it is so.
 pub confirmed_by : (asked : Option CommandLineValue) (given : List Given) → AreConfirmedBy asked given

@@ -7,7 +7,8 @@ use Rattle.osm_outside.specs.Outside.{AppendsFront, Shelved}
 use Rattle.osm_outside.proofs.Along.{Along, along-more, along-end, along-front}
 use Rattle.osm_outside.proofs.Pieces.{along-stop}
 use Rattle.dataset.specs.Sound.{IsSound}
-use Rattle.edit_script.specs.declared.step.Act.TheVariants.{Upload}
+use Rattle.edit_script.specs.declared.step.Act.TheVariants.{Look}
+use Rattle.edit_script.specs.declared.step.Look.TheVariants.{Upload}
 use Rattle.edit_script.specs.declared.step.Step.{Step}
 use Rattle.edit_script.specs.Order.{IsOrderly}
 use Rattle.edit_script.specs.Place.{is_meeting}
@@ -168,7 +169,7 @@ reached_none limits old given steps front = record {
   count = 0;
   text = front (first_output limits given steps 0);
   tables = All-nil (λ (at : Step × Given × State). IsSound at.2.now);
-  uploads = All-nil (λ (at : Step × Given × State). (size : ℕ) → at.0.act ≡ Upload size → IsUpload limits at.1 at.0 size at.2);
+  uploads = All-nil (λ (at : Step × Given × State). (size : ℕ) → at.0.act ≡ Look (Upload size) → IsUpload limits at.1 at.0 size at.2);
 }
 
 -- Nothing was read or written.

@@ -10,6 +10,8 @@ use Rattle.sample_city.specs.City.{city}
 use Rattle.tool_api.specs.declared.job.Job.TheVariants.{Merge}
 use Rattle.edit_script.specs.declared.step.Act.{Act}
 use Rattle.edit_script.specs.declared.step.Act.TheVariants as act
+use Rattle.edit_script.specs.declared.step.HistoryStep.TheVariants as history
+use Rattle.edit_script.specs.declared.step.Purpose.TheVariants as purpose
 use Rattle.edit_script.specs.declared.step.Step.{Step}
 use Rattle.edit_script.specs.Place.{is_meeting}
 use Rattle.edit_history.specs.declared.counts.Group.{Group}
@@ -48,19 +50,19 @@ module _ (s : State) (sound : IsSound s.now) (k : Key) (e : Entry) (is : entry_o
 
   act_keeps : (limits : Limits) (f : Found) (a : Act) → act_says limits f a s k ≡ false → Keeps e (entry_of (act_turn limits f a s).state.now k)
   act_keeps limits f (act.Job job) free = job_step_keeps limits.objects job s sound k e is edits free
-  act_keeps limits f (act.Download name area wanted) free = file_keeps limits.objects f free
   act_keeps limits f (act.Generate streets) free = job_step_keeps limits.objects (Merge (city streets)) s sound k e is edits free
-  act_keeps limits f (act.ImportFile name) free = file_keeps limits.objects f free
-  act_keeps limits f act.Begin free = still
-  act_keeps limits f act.End free = still
-  act_keeps limits f (act.Undo n) free = absurd (true≢false free)
-  act_keeps limits f (act.Redo n) free = absurd (true≢false free)
-  act_keeps limits f (act.Confirm name) free = absurd (true≢false free)
-  act_keeps limits f (act.Resume name) free = absurd (true≢false free)
+  act_keeps limits f (act.History history.Begin) free = still
+  act_keeps limits f (act.History history.End) free = still
+  act_keeps limits f (act.History (history.Undo n)) free = absurd (true≢false free)
+  act_keeps limits f (act.History (history.Redo n)) free = absurd (true≢false free)
+  act_keeps limits f (act.File name (purpose.Download area wanted)) free = file_keeps limits.objects f free
+  act_keeps limits f (act.File name purpose.Import) free = file_keeps limits.objects f free
+  act_keeps limits f (act.File name purpose.Confirm) free = absurd (true≢false free)
+  act_keeps limits f (act.File name purpose.Resume) free = absurd (true≢false free)
   act_keeps limits f a free = still
 
   skipped_keeps : (a : Act) → Keeps e (entry_of (skipped_turn a s).state.now k)
-  skipped_keeps act.End = still
+  skipped_keeps (act.History history.End) = still
   skipped_keeps a = still
 
   either_keeps : (b : Bool) (t u : Turn) → Keeps e (entry_of t.state.now k) → Keeps e (entry_of u.state.now k) → Keeps e (entry_of (cond b t u).state.now k)

@@ -57,7 +57,10 @@ use Rattle.upload_order.specs.World.{World, WorldEntry, content_at, content_in, 
 use Rattle.edit_script.specs.Forms.{add_form, add_node, change_form, delete, delete_form, download, form, group_form, look_form, place, send_form, upload}
 use Rattle.edit_script.specs.Items.{keys_word, number_word, place_texts, place_words, tags_word}
 use Rattle.edit_script.specs.Script.{kind_of_line, steps_of}
-use Rattle.edit_script.specs.declared.step.Act.TheVariants.{Download, Job, Send, Upload}
+use Rattle.edit_script.specs.declared.step.Act.TheVariants.{File, Job, Look, Meet}
+use Rattle.edit_script.specs.declared.step.Look.TheVariants.{Upload}
+use Rattle.edit_script.specs.declared.step.MeetStep.TheVariants.{Send}
+use Rattle.edit_script.specs.declared.step.Purpose.TheVariants.{Download}
 use Rattle.edit_script.specs.declared.step.Step.{Step}
 use Rattle.edit_script.specs.declared.reply.StepReply.TheVariants.{Done}
 use Rattle.edit_history.specs.Machine.{State, done_in, first_state, fresh, ran}
@@ -134,11 +137,11 @@ abbrev file : List ℕ
 file = codes "n1 v1 x0 y0\nw5 v1 Nn1\n"
 
 abbrev uploading : Step
-uploading = record { line = 5; act = Upload 100 }
+uploading = record { line = 5; act = Look (Upload 100) }
 
 abbrev steps : List Step
 steps =
-    record { line = 1; act = Download (codes "f") None None }
+    record { line = 1; act = File (codes "f") (Download None None) }
     ∷ record { line = 2; act = Job (job.Place n1 to_the_east) }
     ∷ record { line = 3; act = Job (job.AddNode [] first_place) }
     ∷ record { line = 4; act = Job (job.Delete (w5 ∷ [])) }
@@ -306,7 +309,7 @@ with_node = done_in group.Outside (table 2 one_made) with_move
 abbrev ready : State
 ready = done_in group.Outside edited with_node
 
-after_download : after (Some file) (record { line = 1; act = Download (codes "f") None None }) first_state ≡ downloaded
+after_download : after (Some file) (record { line = 1; act = File (codes "f") (Download None None) }) first_state ≡ downloaded
 after_download =
     ap (λ read. (file_turn 2000000 (job_found (λ os. job.Merge (filtered os None None)) (Some read)) first_state).state) file_read
     ∙ ap (λ t. (job_turn 2000000 (job.Merge t) first_state).state) tells_news
@@ -322,7 +325,7 @@ after_delete : after None (record { line = 4; act = Job (job.Delete (w5 ∷ []))
 after_delete = ap (λ answer. ran answer.reply answer.table with_node) deletes
 
 before_upload : after None (record { line = 4; act = Job (job.Delete (w5 ∷ [])) }) (after None (record { line = 3; act = Job (job.AddNode [] first_place) })
-    (after None (record { line = 2; act = Job (job.Place n1 to_the_east) }) (after (Some file) (record { line = 1; act = Download (codes "f") None None }) first_state))) ≡ ready
+    (after None (record { line = 2; act = Job (job.Place n1 to_the_east) }) (after (Some file) (record { line = 1; act = File (codes "f") (Download None None) }) first_state))) ≡ ready
 before_upload =
     ap (λ s. after None (record { line = 4; act = Job (job.Delete (w5 ∷ [])) }) (after None (record { line = 3; act = Job (job.AddNode [] first_place) }) (after None (record { line = 2; act = Job (job.Place n1 to_the_east) }) s))) after_download
     ∙ ap (λ s. after None (record { line = 4; act = Job (job.Delete (w5 ∷ [])) }) (after None (record { line = 3; act = Job (job.AddNode [] first_place) }) s)) after_place
@@ -455,7 +458,7 @@ accepted : refusal server eastwards (pos 0) ≡ None
 accepted = simp (fin.get-entries, server_listed) refl
 
 abbrev sending : Step
-sending = record { line = 1; act = Send 1 }
+sending = record { line = 1; act = Meet (Send 1) }
 
 abbrev seat : Seat
 seat = record { editor = 0; meeting = record { world = server; earlier = []; editors = at_work (fresh of_one) ∷ [] } }

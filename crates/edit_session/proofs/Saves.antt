@@ -11,6 +11,7 @@ use Rattle.saved_session.specs.Saved.{saved}
 use Rattle.saved_session.proofs.TableAgain as again
 use Rattle.edit_history.specs.Machine.{State, first_state, fresh}
 use Rattle.edit_script.specs.declared.step.Act.TheVariants as act
+use Rattle.edit_script.specs.declared.step.Look.TheVariants.{Save}
 use Rattle.edit_script.specs.declared.step.Step.{Step}
 use Rattle.edit_script.specs.declared.reply.StepReply.TheVariants.{Done}
 use Rattle.edit_script.specs.Place.{is_meeting}
@@ -37,11 +38,11 @@ use Rattle.edit_session.proofs.SeatTexts.{seats_texts}
 use Rattle.edit_session.proofs.Texts.{AreTextTables, first_texts, run_texts}
 
 -- One save.
-module _ (limits : Limits) (given : Given) (step : Step) (s : State) (is : step.act ≡ act.Save) (sound : IsSound s.now) (texts : IsTextTable s.now) where
-  its_turn : (b : Bool) → is_given_up s.group ≡ b → step_turn limits given step s ≡ (if b then skipped_turn act.Save s else still_turn (looked behind.Saved) s)
+module _ (limits : Limits) (given : Given) (step : Step) (s : State) (is : step.act ≡ act.Look Save) (sound : IsSound s.now) (texts : IsTextTable s.now) where
+  its_turn : (b : Bool) → is_given_up s.group ≡ b → step_turn limits given step s ≡ (if b then skipped_turn (act.Look Save) s else still_turn (looked behind.Saved) s)
   its_turn b group =
       ap (λ a. turn limits (found_in limits given s.group a) a s) is
-      ∙ ap (λ b. if b then skipped_turn act.Save s else still_turn (looked behind.Saved) s) group
+      ∙ ap (λ b. if b then skipped_turn (act.Look Save) s else still_turn (looked behind.Saved) s) group
 
   resumes : (limit : ℕ) (u : State) → fin.len s.now.entries ≤ limit → resume_turn limit (found.Bytes (saved s.now)) u ≡ done_turn (fresh s.now)
   unfolding saved_patch
@@ -58,9 +59,9 @@ module _ (limits : Limits) (given : Given) (step : Step) (s : State) (is : step.
   }
 
 all_saved : (limits : Limits) (steps : List (Step × Given × State)) → AreSound steps → AreTextTables steps → AreSaves limits steps
-all_saved limits [] sound texts = All-nil (λ (at : Step × Given × State). at.0.act ≡ act.Save → (step_turn limits at.1 at.0 at.2).answer.reply ≡ Done [] → IsSaved limits at.1 at.0 at.2)
+all_saved limits [] sound texts = All-nil (λ (at : Step × Given × State). at.0.act ≡ act.Look Save → (step_turn limits at.1 at.0 at.2).answer.reply ≡ Done [] → IsSaved limits at.1 at.0 at.2)
 all_saved limits (at ∷ steps) sound texts =
-    All-cons (λ (at : Step × Given × State). at.0.act ≡ act.Save → (step_turn limits at.1 at.0 at.2).answer.reply ≡ Done [] → IsSaved limits at.1 at.0 at.2) at steps
+    All-cons (λ (at : Step × Given × State). at.0.act ≡ act.Look Save → (step_turn limits at.1 at.0 at.2).answer.reply ≡ Done [] → IsSaved limits at.1 at.0 at.2) at steps
     (λ is done. is_saved limits at.1 at.0 at.2 is (All-head (λ (at : Step × Given × State). IsSound at.2.now) at steps sound) (All-head (λ (at : Step × Given × State). IsTextTable at.2.now) at steps texts) (is_given_up at.2.group) refl done)
     (all_saved limits steps (All-tail (λ (at : Step × Given × State). IsSound at.2.now) at steps sound) (All-tail (λ (at : Step × Given × State). IsTextTable at.2.now) at steps texts))
 

@@ -1,7 +1,6 @@
 -- What the lines of a script bring.
 use Rattle.std.proofs.Common.{◌≡◌, ℕ, ◌+◌, Bool, true, false, cond, T, List, [], ◌∷◌, ◌++◌, length, nat_lt, Option, Some, None, Result, Ok, Err, refl, sym, subst, arith}
-use Rattle.std.specs.Prelude.{◌==◌, is_some, codes}
-use Rattle.std.specs.Str.{bytes_eq}
+use Rattle.std.specs.Prelude.{◌==◌, is_some}
 use Rattle.std.specs.List.{AllByRecursion}
 use Rattle.std.specs.Option.{option_map}
 use Rattle.std.proofs.lemmas.Bool.Decides.{nat_tests}
@@ -31,11 +30,16 @@ use Rattle.edit_script.specs.declared.place.Place.{Place}
 use Rattle.edit_script.specs.declared.place.Place.TheVariants.{Start}
 use Rattle.edit_script.specs.declared.step.Act.{Act}
 use Rattle.edit_script.specs.declared.step.Act.TheVariants as act
+use Rattle.edit_script.specs.declared.step.HistoryStep.TheVariants as history
+use Rattle.edit_script.specs.declared.step.Look.TheVariants as look
+use Rattle.edit_script.specs.declared.step.MeetStep.TheVariants as meet
+use Rattle.edit_script.specs.declared.step.Purpose.TheVariants as purpose
+use Rattle.edit_script.specs.declared.forms.Form.{Form}
+use Rattle.edit_script.specs.declared.forms.Form.TheVariants.{Answer, Begin, Check, Combine, Confirm, Conflicts, Count, Delete, Download, Editor, End, Erase, Fetch, Find, Fuse, Generate, Import, Lost, Members, Move, Node, Nodes, Place, Print, Purge, Redo, Rehearse, Relation, Resolve, Resume, Reverse, Save, Send, Serve, Split, Squeeze, Tag, Undo, Upload, Way}
 use Rattle.edit_script.specs.declared.step.Step.{Step}
+use Rattle.edit_script.specs.Forms.{act_of, add_node, add_relation, add_way, choice_of, combine, download, fetch, form_of, fuse, place, read_form, resolve, set_members, set_nodes, set_tags, shift}
 use Rattle.edit_script.specs.Forms as form
-use Rattle.edit_script.specs.Forms.{act_of}
 use Rattle.edit_script.specs.Items.{alone, area_text, back_word, behind, count_word, editor_word, file_word, keys_word, members_word, one_word, optional, place_words, refs_word, size_word, streets_word, tags_word, three_words, two_words, wanted_text, words_of}
-use Rattle.edit_script.specs.Meeting as meeting
 use Rattle.edit_script.specs.Place.{may_stand_at, place_after}
 use Rattle.edit_script.specs.Script.{after_line, has_outer_blank, is_skipped, kind_of_line, line_of, onto_steps, steps_from, steps_of}
 use Rattle.editor_laws.proofs.SeenLists.{IfSome}
@@ -129,6 +133,9 @@ members_word_texts word = bind_any AreRoles (behind 77 word) _ (λ text. ok_if A
 abbrev Brings : Option Act → Type 0
 Brings o = IfSome ActBringsTexts o
 
+any_of : {A : Type 0} (o : Option A) (f : A → Option Act) → ((a : A) → Brings (f a)) → Brings (o >>= f)
+any_of o f i = bind_any ActBringsTexts o f i
+
 alone_brings : (a : Act) (words : List (List ℕ)) → ActBringsTexts a → Brings (alone a words)
 alone_brings a [] h = h
 alone_brings a (w ∷ ws) h = tt
@@ -137,268 +144,58 @@ test_brings : (b : Bool) (a : Act) → ActBringsTexts a → Brings (cond b (Some
 test_brings true a h = h
 test_brings false a h = tt
 
-either_brings : (b : Bool) (o p : Option Act) → Brings o → Brings p → Brings (cond b o p)
-either_brings true o p h i = h
-either_brings false o p h i = i
-
 -- The lines.
 
-generate_brings : (words : List (List ℕ)) → Brings (form.generate words)
-unfolding form.generate
-generate_brings words = bind_any ActBringsTexts (one_word words) _ (λ w. bind_any ActBringsTexts (streets_word w) _ (λ n. tt))
-
-import_brings : (words : List (List ℕ)) → Brings (form.import_file words)
-unfolding form.import_file
-import_brings words = bind_any ActBringsTexts (file_word words) _ (λ n. tt)
-
-confirm_brings : (words : List (List ℕ)) → Brings (form.confirm words)
-unfolding form.confirm
-confirm_brings words = bind_any ActBringsTexts (file_word words) _ (λ n. tt)
-
-resume_brings : (words : List (List ℕ)) → Brings (form.resume words)
-unfolding form.resume
-resume_brings words = bind_any ActBringsTexts (file_word words) _ (λ n. tt)
-
-undo_brings : (words : List (List ℕ)) → Brings (form.undo words)
-unfolding form.undo
-undo_brings words = bind_any ActBringsTexts (one_word words) _ (λ w. bind_any ActBringsTexts (count_word w) _ (λ n. tt))
-
-redo_brings : (words : List (List ℕ)) → Brings (form.redo words)
-unfolding form.redo
-redo_brings words = bind_any ActBringsTexts (one_word words) _ (λ w. bind_any ActBringsTexts (count_word w) _ (λ n. tt))
-
-find_brings : (words : List (List ℕ)) → Brings (form.find words)
-unfolding form.find
-find_brings words = bind_any ActBringsTexts (query_of_words words) _ (λ q. tt)
-
-upload_brings : (words : List (List ℕ)) → Brings (form.upload words)
-unfolding form.upload
-upload_brings words = bind_any ActBringsTexts (one_word words) _ (λ w. bind_any ActBringsTexts (size_word w) _ (λ n. tt))
-
-node_brings : (words : List (List ℕ)) → Brings (form.add_node words)
-unfolding form.add_node
-node_brings words = bind_any ActBringsTexts (three_words words) _ (λ w. bind_any ActBringsTexts (place_words w.0 w.1) _ (λ at. bind_if AreTexts ActBringsTexts (tags_word w.2) _ (tags_word_texts w.2) (λ tags i. i)))
-
-way_brings : (words : List (List ℕ)) → Brings (form.add_way words)
-unfolding form.add_way
-way_brings words = bind_any ActBringsTexts (two_words words) _ (λ w. bind_if AreTexts ActBringsTexts (tags_word w.0) _ (tags_word_texts w.0) (λ tags i. bind_any ActBringsTexts (refs_word w.1) _ (λ refs. i)))
-
-relation_brings : (words : List (List ℕ)) → Brings (form.add_relation words)
-unfolding form.add_relation
-relation_brings words = bind_any ActBringsTexts (two_words words) _ (λ w. bind_if AreTexts ActBringsTexts (tags_word w.0) _ (tags_word_texts w.0) (λ tags i. bind_if AreRoles ActBringsTexts (members_word w.1) _ (members_word_texts w.1) (λ members j. (i, j))))
-
-tag_brings : (words : List (List ℕ)) → Brings (form.set_tags words)
-unfolding form.set_tags
-tag_brings words = bind_any ActBringsTexts (two_words words) _ (λ w. bind_any ActBringsTexts (keys_word w.0) _ (λ keys. bind_if AreTexts ActBringsTexts (tags_word w.1) _ (tags_word_texts w.1) (λ tags i. i)))
-
-move_brings : (words : List (List ℕ)) → Brings (form.shift words)
-unfolding form.shift
-move_brings words = bind_any ActBringsTexts (three_words words) _ (λ w. bind_any ActBringsTexts (keys_word w.0) _ (λ k. bind_any ActBringsTexts (coord_text w.1) _ (λ dx. bind_any ActBringsTexts (coord_text w.2) _ (λ dy. tt))))
-
-place_brings : (words : List (List ℕ)) → Brings (form.place words)
-unfolding form.place
-place_brings words = bind_any ActBringsTexts (three_words words) _ (λ w. bind_any ActBringsTexts (key_text w.0) _ (λ k. bind_any ActBringsTexts (place_words w.1 w.2) _ (λ at. tt)))
-
-nodes_brings : (words : List (List ℕ)) → Brings (form.set_nodes words)
-unfolding form.set_nodes
-nodes_brings words = bind_any ActBringsTexts (two_words words) _ (λ w. bind_any ActBringsTexts (key_text w.0) _ (λ k. bind_any ActBringsTexts (refs_word w.1) _ (λ r. tt)))
-
-members_brings : (words : List (List ℕ)) → Brings (form.set_members words)
-unfolding form.set_members
-members_brings words = bind_any ActBringsTexts (two_words words) _ (λ w. bind_any ActBringsTexts (key_text w.0) _ (λ k. bind_if AreRoles ActBringsTexts (members_word w.1) _ (members_word_texts w.1) (λ members i. i)))
-
-delete_brings : (words : List (List ℕ)) → Brings (form.delete words)
-unfolding form.delete
-delete_brings words = bind_any ActBringsTexts (one_word words) _ (λ w. bind_any ActBringsTexts (keys_word w) _ (λ k. tt))
-
-erase_brings : (words : List (List ℕ)) → Brings (form.erase words)
-unfolding form.erase
-erase_brings words = bind_any ActBringsTexts (one_word words) _ (λ w. bind_any ActBringsTexts (keys_word w) _ (λ k. tt))
-
-purge_brings : (words : List (List ℕ)) → Brings (form.purge words)
-unfolding form.purge
-purge_brings words = bind_any ActBringsTexts (one_word words) _ (λ w. bind_any ActBringsTexts (keys_word w) _ (λ k. tt))
-
-split_brings : (words : List (List ℕ)) → Brings (form.split words)
-unfolding form.split
-split_brings words = bind_any ActBringsTexts (two_words words) _ (λ w. bind_any ActBringsTexts (key_text w.0) _ (λ k. bind_any ActBringsTexts (keys_word w.1) _ (λ ks. tt)))
-
-combine_brings : (words : List (List ℕ)) → Brings (form.combine words)
-unfolding form.combine
-combine_brings words = bind_any ActBringsTexts (one_word words) _ (λ w. bind_any ActBringsTexts (keys_word w) _ (λ ks. test_brings _ (act.Job (job.Combine ks)) tt))
-
-reverse_brings : (words : List (List ℕ)) → Brings (form.reverse words)
-unfolding form.reverse
-reverse_brings words = bind_any ActBringsTexts (one_word words) _ (λ w. bind_any ActBringsTexts (key_text w) _ (λ k. tt))
-
-squeeze_brings : (words : List (List ℕ)) → Brings (form.squeeze words)
-unfolding form.squeeze
-squeeze_brings words = bind_any ActBringsTexts (one_word words) _ (λ w. bind_any ActBringsTexts (keys_word w) _ (λ ks. tt))
-
-fuse_brings : (words : List (List ℕ)) → Brings (form.fuse words)
-unfolding form.fuse
-fuse_brings words = bind_any ActBringsTexts (one_word words) _ (λ w. bind_any ActBringsTexts (keys_word w) _ (λ ks. test_brings _ (act.Job (job.Fuse ks)) tt))
-
-resolve_brings : (words : List (List ℕ)) → Brings (form.resolve words)
-unfolding form.resolve
-resolve_brings [] = tt
-resolve_brings (named ∷ words) = bind_any ActBringsTexts (key_text named) _ (λ k. bind_any ActBringsTexts (form.choice_of words) _ (λ c. tt))
-
-download_brings : (words : List (List ℕ)) → Brings (form.download words)
-unfolding form.download
-download_brings [] = tt
-download_brings (file ∷ words) = bind_any ActBringsTexts (unescaped file) _ (λ name. bind_any ActBringsTexts (optional 66 area_text words) _ (λ a. bind_any ActBringsTexts (optional 70 wanted_text a.1) _ (λ f. alone_brings (act.Download name a.0 f.0) f.1 tt)))
-
-serve_brings : (words : List (List ℕ)) → Brings (meeting.serve words)
-unfolding meeting.serve
-serve_brings words = bind_any ActBringsTexts (file_word words) _ (λ n. tt)
-
-editor_brings : (words : List (List ℕ)) → Brings (meeting.editor words)
-unfolding meeting.editor
-editor_brings words = bind_any ActBringsTexts (one_word words) _ (λ w. bind_any ActBringsTexts (editor_word w) _ (λ n. tt))
-
-send_brings : (words : List (List ℕ)) → Brings (meeting.send words)
-unfolding meeting.send
-send_brings words = bind_any ActBringsTexts (one_word words) _ (λ w. bind_any ActBringsTexts (size_word w) _ (λ n. tt))
-
-fetch_brings : (words : List (List ℕ)) → Brings (meeting.fetch words)
-unfolding meeting.fetch
-fetch_brings [] = tt
-fetch_brings (number ∷ words) = bind_any ActBringsTexts (back_word number) _ (λ back. bind_any ActBringsTexts (optional 66 area_text words) _ (λ a. bind_any ActBringsTexts (optional 70 wanted_text a.1) _ (λ f. alone_brings (act.Fetch back a.0 f.0) f.1 tt)))
-
-met_brings : (verb : List ℕ) (words : List (List ℕ)) → Brings (meeting.meeting_form verb words)
-unfolding meeting.meeting_form
-met_brings verb words =
-    let p0 : Option Act = None in
-    let h0 : Brings p0 = tt in
-    let p1 : Option Act = cond (bytes_eq verb (codes "lost")) (alone act.Lost words) p0 in
-    let h1 : Brings p1 = either_brings (bytes_eq verb (codes "lost")) (alone act.Lost words) p0 (alone_brings act.Lost words tt) h0 in
-    let p2 : Option Act = cond (bytes_eq verb (codes "answer")) (alone act.Answer words) p1 in
-    let h2 : Brings p2 = either_brings (bytes_eq verb (codes "answer")) (alone act.Answer words) p1 (alone_brings act.Answer words tt) h1 in
-    let p3 : Option Act = cond (bytes_eq verb (codes "send")) (meeting.send words) p2 in
-    let h3 : Brings p3 = either_brings (bytes_eq verb (codes "send")) (meeting.send words) p2 (send_brings words) h2 in
-    let p4 : Option Act = cond (bytes_eq verb (codes "fetch")) (meeting.fetch words) p3 in
-    let h4 : Brings p4 = either_brings (bytes_eq verb (codes "fetch")) (meeting.fetch words) p3 (fetch_brings words) h3 in
-    let p5 : Option Act = cond (bytes_eq verb (codes "editor")) (meeting.editor words) p4 in
-    let h5 : Brings p5 = either_brings (bytes_eq verb (codes "editor")) (meeting.editor words) p4 (editor_brings words) h4 in
-    either_brings (bytes_eq verb (codes "serve")) (meeting.serve words) p5 (serve_brings words) h5
-
-mend_brings : (verb : List ℕ) (words : List (List ℕ)) → Brings (form.mend_form verb words)
-unfolding form.mend_form
-mend_brings verb words =
-    let p0 : Option Act = meeting.meeting_form verb words in
-    let h0 : Brings p0 = met_brings verb words in
-    let p1 : Option Act = cond (bytes_eq verb (codes "fuse")) (form.fuse words) p0 in
-    let h1 : Brings p1 = either_brings (bytes_eq verb (codes "fuse")) (form.fuse words) p0 (fuse_brings words) h0 in
-    either_brings (bytes_eq verb (codes "squeeze")) (form.squeeze words) p1 (squeeze_brings words) h1
-
-ways_brings : (verb : List ℕ) (words : List (List ℕ)) → Brings (form.way_form verb words)
-unfolding form.way_form
-ways_brings verb words =
-    let p0 : Option Act = form.mend_form verb words in
-    let h0 : Brings p0 = mend_brings verb words in
-    let p1 : Option Act = cond (bytes_eq verb (codes "reverse")) (form.reverse words) p0 in
-    let h1 : Brings p1 = either_brings (bytes_eq verb (codes "reverse")) (form.reverse words) p0 (reverse_brings words) h0 in
-    let p2 : Option Act = cond (bytes_eq verb (codes "combine")) (form.combine words) p1 in
-    let h2 : Brings p2 = either_brings (bytes_eq verb (codes "combine")) (form.combine words) p1 (combine_brings words) h1 in
-    either_brings (bytes_eq verb (codes "split")) (form.split words) p2 (split_brings words) h2
-
-gone_brings : (verb : List ℕ) (words : List (List ℕ)) → Brings (form.delete_form verb words)
-unfolding form.delete_form
-gone_brings verb words =
-    let p0 : Option Act = form.way_form verb words in
-    let h0 : Brings p0 = ways_brings verb words in
-    let p1 : Option Act = cond (bytes_eq verb (codes "purge")) (form.purge words) p0 in
-    let h1 : Brings p1 = either_brings (bytes_eq verb (codes "purge")) (form.purge words) p0 (purge_brings words) h0 in
-    let p2 : Option Act = cond (bytes_eq verb (codes "erase")) (form.erase words) p1 in
-    let h2 : Brings p2 = either_brings (bytes_eq verb (codes "erase")) (form.erase words) p1 (erase_brings words) h1 in
-    either_brings (bytes_eq verb (codes "delete")) (form.delete words) p2 (delete_brings words) h2
-
-change_brings : (verb : List ℕ) (words : List (List ℕ)) → Brings (form.change_form verb words)
-unfolding form.change_form
-change_brings verb words =
-    let p0 : Option Act = form.delete_form verb words in
-    let h0 : Brings p0 = gone_brings verb words in
-    let p1 : Option Act = cond (bytes_eq verb (codes "resolve")) (form.resolve words) p0 in
-    let h1 : Brings p1 = either_brings (bytes_eq verb (codes "resolve")) (form.resolve words) p0 (resolve_brings words) h0 in
-    let p2 : Option Act = cond (bytes_eq verb (codes "members")) (form.set_members words) p1 in
-    let h2 : Brings p2 = either_brings (bytes_eq verb (codes "members")) (form.set_members words) p1 (members_brings words) h1 in
-    let p3 : Option Act = cond (bytes_eq verb (codes "nodes")) (form.set_nodes words) p2 in
-    let h3 : Brings p3 = either_brings (bytes_eq verb (codes "nodes")) (form.set_nodes words) p2 (nodes_brings words) h2 in
-    let p4 : Option Act = cond (bytes_eq verb (codes "place")) (form.place words) p3 in
-    let h4 : Brings p4 = either_brings (bytes_eq verb (codes "place")) (form.place words) p3 (place_brings words) h3 in
-    let p5 : Option Act = cond (bytes_eq verb (codes "move")) (form.shift words) p4 in
-    let h5 : Brings p5 = either_brings (bytes_eq verb (codes "move")) (form.shift words) p4 (move_brings words) h4 in
-    either_brings (bytes_eq verb (codes "tag")) (form.set_tags words) p5 (tag_brings words) h5
-
-add_brings : (verb : List ℕ) (words : List (List ℕ)) → Brings (form.add_form verb words)
-unfolding form.add_form
-add_brings verb words =
-    let p0 : Option Act = form.change_form verb words in
-    let h0 : Brings p0 = change_brings verb words in
-    let p1 : Option Act = cond (bytes_eq verb (codes "relation")) (form.add_relation words) p0 in
-    let h1 : Brings p1 = either_brings (bytes_eq verb (codes "relation")) (form.add_relation words) p0 (relation_brings words) h0 in
-    let p2 : Option Act = cond (bytes_eq verb (codes "way")) (form.add_way words) p1 in
-    let h2 : Brings p2 = either_brings (bytes_eq verb (codes "way")) (form.add_way words) p1 (way_brings words) h1 in
-    either_brings (bytes_eq verb (codes "node")) (form.add_node words) p2 (node_brings words) h2
-
-sends_brings : (verb : List ℕ) (words : List (List ℕ)) → Brings (form.send_form verb words)
-unfolding form.send_form
-sends_brings verb words =
-    let p0 : Option Act = form.add_form verb words in
-    let h0 : Brings p0 = add_brings verb words in
-    let p1 : Option Act = cond (bytes_eq verb (codes "confirm")) (form.confirm words) p0 in
-    let h1 : Brings p1 = either_brings (bytes_eq verb (codes "confirm")) (form.confirm words) p0 (confirm_brings words) h0 in
-    let p2 : Option Act = cond (bytes_eq verb (codes "upload")) (form.upload words) p1 in
-    let h2 : Brings p2 = either_brings (bytes_eq verb (codes "upload")) (form.upload words) p1 (upload_brings words) h1 in
-    either_brings (bytes_eq verb (codes "rehearse")) (alone act.Rehearse words) p2 (alone_brings act.Rehearse words tt) h2
-
-look_brings : (verb : List ℕ) (words : List (List ℕ)) → Brings (form.look_form verb words)
-unfolding form.look_form
-look_brings verb words =
-    let p0 : Option Act = form.send_form verb words in
-    let h0 : Brings p0 = sends_brings verb words in
-    let p1 : Option Act = cond (bytes_eq verb (codes "check")) (alone act.Check words) p0 in
-    let h1 : Brings p1 = either_brings (bytes_eq verb (codes "check")) (alone act.Check words) p0 (alone_brings act.Check words tt) h0 in
-    let p2 : Option Act = cond (bytes_eq verb (codes "find")) (form.find words) p1 in
-    let h2 : Brings p2 = either_brings (bytes_eq verb (codes "find")) (form.find words) p1 (find_brings words) h1 in
-    let p3 : Option Act = cond (bytes_eq verb (codes "save")) (alone act.Save words) p2 in
-    let h3 : Brings p3 = either_brings (bytes_eq verb (codes "save")) (alone act.Save words) p2 (alone_brings act.Save words tt) h2 in
-    let p4 : Option Act = cond (bytes_eq verb (codes "conflicts")) (alone act.Conflicts words) p3 in
-    let h4 : Brings p4 = either_brings (bytes_eq verb (codes "conflicts")) (alone act.Conflicts words) p3 (alone_brings act.Conflicts words tt) h3 in
-    let p5 : Option Act = cond (bytes_eq verb (codes "count")) (alone act.Count words) p4 in
-    let h5 : Brings p5 = either_brings (bytes_eq verb (codes "count")) (alone act.Count words) p4 (alone_brings act.Count words tt) h4 in
-    either_brings (bytes_eq verb (codes "print")) (alone act.Print words) p5 (alone_brings act.Print words tt) h5
-
-group_brings : (verb : List ℕ) (words : List (List ℕ)) → Brings (form.group_form verb words)
-unfolding form.group_form
-group_brings verb words =
-    let p0 : Option Act = form.look_form verb words in
-    let h0 : Brings p0 = look_brings verb words in
-    let p1 : Option Act = cond (bytes_eq verb (codes "redo")) (form.redo words) p0 in
-    let h1 : Brings p1 = either_brings (bytes_eq verb (codes "redo")) (form.redo words) p0 (redo_brings words) h0 in
-    let p2 : Option Act = cond (bytes_eq verb (codes "undo")) (form.undo words) p1 in
-    let h2 : Brings p2 = either_brings (bytes_eq verb (codes "undo")) (form.undo words) p1 (undo_brings words) h1 in
-    let p3 : Option Act = cond (bytes_eq verb (codes "end")) (alone act.End words) p2 in
-    let h3 : Brings p3 = either_brings (bytes_eq verb (codes "end")) (alone act.End words) p2 (alone_brings act.End words tt) h2 in
-    either_brings (bytes_eq verb (codes "begin")) (alone act.Begin words) p3 (alone_brings act.Begin words tt) h3
-
-form_brings : (verb : List ℕ) (words : List (List ℕ)) → Brings (form.form verb words)
-unfolding form.form
-form_brings verb words =
-    let p0 : Option Act = form.group_form verb words in
-    let h0 : Brings p0 = group_brings verb words in
-    let p1 : Option Act = cond (bytes_eq verb (codes "resume")) (form.resume words) p0 in
-    let h1 : Brings p1 = either_brings (bytes_eq verb (codes "resume")) (form.resume words) p0 (resume_brings words) h0 in
-    let p2 : Option Act = cond (bytes_eq verb (codes "import")) (form.import_file words) p1 in
-    let h2 : Brings p2 = either_brings (bytes_eq verb (codes "import")) (form.import_file words) p1 (import_brings words) h1 in
-    let p3 : Option Act = cond (bytes_eq verb (codes "generate")) (form.generate words) p2 in
-    let h3 : Brings p3 = either_brings (bytes_eq verb (codes "generate")) (form.generate words) p2 (generate_brings words) h2 in
-    either_brings (bytes_eq verb (codes "download")) (form.download words) p3 (download_brings words) h3
+form_brings : (f : Form) (words : List (List ℕ)) → Brings (read_form f words)
+unfolding download fetch add_node add_way add_relation set_tags shift place set_nodes set_members form.split combine fuse resolve
+form_brings Answer words = alone_brings (act.Meet meet.Answer) words tt
+form_brings Begin words = alone_brings (act.History history.Begin) words tt
+form_brings Check words = alone_brings (act.Look look.Check) words tt
+form_brings Combine words = any_of (one_word words) _ (λ w. any_of (keys_word w) _ (λ ks. test_brings _ (act.Job (job.Combine ks)) tt))
+form_brings Confirm words = any_of (file_word words) _ (λ name. tt)
+form_brings Conflicts words = alone_brings (act.Look look.Conflicts) words tt
+form_brings Count words = alone_brings (act.Look look.Count) words tt
+form_brings Delete words = any_of (one_word words) _ (λ w. any_of (keys_word w) _ (λ x. tt))
+form_brings Download [] = tt
+form_brings Download (file ∷ words) = any_of (unescaped file) _ (λ x. any_of (optional 66 area_text words) _ (λ a. any_of (optional 70 wanted_text a.1) _ (λ f. alone_brings (act.File x (purpose.Download a.0 f.0)) f.1 tt)))
+form_brings Editor words = any_of (one_word words) _ (λ w. any_of (editor_word w) _ (λ x. tt))
+form_brings End words = alone_brings (act.History history.End) words tt
+form_brings Erase words = any_of (one_word words) _ (λ w. any_of (keys_word w) _ (λ x. tt))
+form_brings Fetch [] = tt
+form_brings Fetch (number ∷ words) = any_of (back_word number) _ (λ x. any_of (optional 66 area_text words) _ (λ a. any_of (optional 70 wanted_text a.1) _ (λ f. alone_brings (act.Meet (meet.Fetch x a.0 f.0)) f.1 tt)))
+form_brings Find words = any_of (query_of_words words) _ (λ query. tt)
+form_brings Fuse words = any_of (one_word words) _ (λ w. any_of (keys_word w) _ (λ ks. test_brings _ (act.Job (job.Fuse ks)) tt))
+form_brings Generate words = any_of (one_word words) _ (λ w. any_of (streets_word w) _ (λ x. tt))
+form_brings Import words = any_of (file_word words) _ (λ name. tt)
+form_brings Lost words = alone_brings (act.Meet meet.Lost) words tt
+form_brings Members words = any_of (two_words words) _ (λ w. any_of (key_text w.0) _ (λ k. bind_if AreRoles ActBringsTexts (members_word w.1) _ (members_word_texts w.1) (λ members i. i)))
+form_brings Move words = any_of (three_words words) _ (λ w. any_of (keys_word w.0) _ (λ k. any_of (coord_text w.1) _ (λ dx. any_of (coord_text w.2) _ (λ dy. tt))))
+form_brings Node words = any_of (three_words words) _ (λ w. any_of (place_words w.0 w.1) _ (λ at. bind_if AreTexts ActBringsTexts (tags_word w.2) _ (tags_word_texts w.2) (λ tags i. i)))
+form_brings Nodes words = any_of (two_words words) _ (λ w. any_of (key_text w.0) _ (λ x. any_of (refs_word w.1) _ (λ y. tt)))
+form_brings Place words = any_of (three_words words) _ (λ w. any_of (key_text w.0) _ (λ k. any_of (place_words w.1 w.2) _ (λ at. tt)))
+form_brings Print words = alone_brings (act.Look look.Print) words tt
+form_brings Purge words = any_of (one_word words) _ (λ w. any_of (keys_word w) _ (λ x. tt))
+form_brings Redo words = any_of (one_word words) _ (λ w. any_of (count_word w) _ (λ x. tt))
+form_brings Rehearse words = alone_brings (act.Look look.Rehearse) words tt
+form_brings Relation words = any_of (two_words words) _ (λ w. bind_if AreTexts ActBringsTexts (tags_word w.0) _ (tags_word_texts w.0) (λ tags i. bind_if AreRoles ActBringsTexts (members_word w.1) _ (members_word_texts w.1) (λ members j. (i, j))))
+form_brings Resolve [] = tt
+form_brings Resolve (named ∷ words) = any_of (key_text named) _ (λ k. any_of (choice_of words) _ (λ c. tt))
+form_brings Resume words = any_of (file_word words) _ (λ name. tt)
+form_brings Reverse words = any_of (one_word words) _ (λ w. any_of (key_text w) _ (λ x. tt))
+form_brings Save words = alone_brings (act.Look look.Save) words tt
+form_brings Send words = any_of (one_word words) _ (λ w. any_of (size_word w) _ (λ x. tt))
+form_brings Serve words = any_of (file_word words) _ (λ name. tt)
+form_brings Split words = any_of (two_words words) _ (λ w. any_of (key_text w.0) _ (λ x. any_of (keys_word w.1) _ (λ y. tt)))
+form_brings Squeeze words = any_of (one_word words) _ (λ w. any_of (keys_word w) _ (λ x. tt))
+form_brings Tag words = any_of (two_words words) _ (λ w. any_of (keys_word w.0) _ (λ keys. bind_if AreTexts ActBringsTexts (tags_word w.1) _ (tags_word_texts w.1) (λ tags i. i)))
+form_brings Undo words = any_of (one_word words) _ (λ w. any_of (count_word w) _ (λ x. tt))
+form_brings Upload words = any_of (one_word words) _ (λ w. any_of (size_word w) _ (λ x. tt))
+form_brings Way words = any_of (two_words words) _ (λ w. bind_if AreTexts ActBringsTexts (tags_word w.0) _ (tags_word_texts w.0) (λ tags i. any_of (refs_word w.1) _ (λ refs. i)))
 
 act_brings : (words : List (List ℕ)) → Brings (act_of words)
+unfolding act_of
 act_brings [] = tt
-act_brings (verb ∷ words) = form_brings verb words
+act_brings (word ∷ words) = any_of (form_of word) _ (λ f. form_brings f words)
 
 -- The steps.
 

@@ -10,6 +10,7 @@ use Rattle.placeholder.specs.declared.answer.Answer.{Answer}
 use Rattle.server_world.specs.Unsound.{first_unsound}
 use Rattle.edit_script.specs.declared.step.Act.{Act}
 use Rattle.edit_script.specs.declared.step.Act.TheVariants as act
+use Rattle.edit_script.specs.declared.step.MeetStep.TheVariants as meet
 use Rattle.edit_script.specs.declared.step.Step.{Step}
 use Rattle.edit_history.specs.Machine.{State}
 use Rattle.many_editors.specs.Meeting.{Editor, answered, first_editor, lost, states}
@@ -23,12 +24,11 @@ use Rattle.many_editors.proofs.MeetingTexts.{answered_texts, at_texts, fetch_tex
 use Rattle.edit_session.specs.declared.limits.Limits.{Limits}
 use Rattle.edit_session.specs.declared.loading.Found.{Found}
 use Rattle.edit_session.specs.declared.loading.Found.TheVariants as found
-use Rattle.edit_session.specs.declared.response.Response.{Response}
 use Rattle.edit_session.specs.Given.{Given, first_given}
 use Rattle.edit_session.specs.Groups.{is_given_up}
 use Rattle.edit_session.specs.Load.{act_found, found_in}
-use Rattle.edit_session.specs.Meet.{MeetTurn, Seat, found_by, meet_step, meet_turn, own, own_machine, own_turn, seats_before, serve_turn, served_turn, wait_look, wait_turn, work_turn}
-use Rattle.edit_session.specs.Turn.{Turn, look_answer, turn}
+use Rattle.edit_session.specs.Meet.{MeetTurn, Seat, found_by, meet_step, meet_turn, own, own_machine, own_turn, seats_before, serve_turn, served_turn, wait_turn, work_turn}
+use Rattle.edit_session.specs.Turn.{Turn, turn}
 use Rattle.edit_session.proofs.Texts.{AreTextTables, FoundBrings, HaveTexts, first_texts, found_brings, if_given, turn_texts}
 
 -- the editor with this number, or one that has done nothing
@@ -51,29 +51,25 @@ serve_texts (found.Objects objects) seat i h = served_turn_texts (first_unsound 
 serve_texts f seat i h = h
 
 -- An editor waits.
-look_texts : (o : Option Response) (seat : Seat) → IsTextMeeting seat.meeting → IsTextMeeting (wait_look o seat).seat.meeting
-look_texts (Some answer) seat h = h
-look_texts None seat h = h
-
 any_answered : (o : Option (List Answer)) (e : Editor) → IsTextEditor e → IsTextEditor (answered o e)
 any_answered None e h = h
 any_answered (Some answers) e h = answered_texts answers e h
 
 wait_texts : (a : Act) (seat : Seat) → IsTextMeeting seat.meeting → IsTextMeeting (wait_turn a seat).seat.meeting
-wait_texts act.Answer seat h = at_texts seat.editor (answered (own seat).waits) seat.meeting (λ e t. any_answered (own seat).waits e t) h
-wait_texts act.Lost seat h = at_texts seat.editor lost seat.meeting (λ e t. t) h
-wait_texts a seat h = look_texts (look_answer a (own seat).state.now) seat h
+wait_texts (act.Meet meet.Answer) seat h = at_texts seat.editor (answered (own seat).waits) seat.meeting (λ e t. any_answered (own seat).waits e t) h
+wait_texts (act.Meet meet.Lost) seat h = at_texts seat.editor lost seat.meeting (λ e t. t) h
+wait_texts a seat h = h
 
 -- or it doesn't.
 own_turn_texts : (t : Turn) (seat : Seat) → HaveTexts t.state → IsTextMeeting seat.meeting → IsTextMeeting (own_turn t seat).seat.meeting
 own_turn_texts t seat i h = at_texts seat.editor (λ e. record { state = t.state; waits = e.waits }) seat.meeting (λ e x. i) h
 
 work_texts : (limits : Limits) (f : Found) (a : Act) (seat : Seat) → FoundBrings f → ActBringsTexts a → IsTextMeeting seat.meeting → IsTextMeeting (work_turn limits f a seat).seat.meeting
-work_texts limits f (act.Fetch back area wanted) seat i j h =
+work_texts limits f (act.Meet (meet.Fetch back area wanted)) seat i j h =
     either_seat (is_given_up (own seat).state.group) _ _ h (fetch_texts limits.objects seat.editor area wanted (own seat).state back (slice_get (states seat.meeting) back) seat.meeting refl h)
-work_texts limits f (act.Send count) seat i j h = send_texts seat.editor count (own seat).state (upload_refusal (own seat).state.now) seat.meeting (own_texts seat.meeting.editors seat.editor h.editors).now h
-work_texts limits f act.Answer seat i j h = h
-work_texts limits f act.Lost seat i j h = h
+work_texts limits f (act.Meet (meet.Send count)) seat i j h = send_texts seat.editor count (own seat).state (upload_refusal (own seat).state.now) seat.meeting (own_texts seat.meeting.editors seat.editor h.editors).now h
+work_texts limits f (act.Meet meet.Answer) seat i j h = h
+work_texts limits f (act.Meet meet.Lost) seat i j h = h
 work_texts limits f a seat i j h = own_turn_texts (turn limits f a (own seat).state) seat (turn_texts limits f a (own seat).state i j (own_texts seat.meeting.editors seat.editor h.editors)) h
 
 -- A step keeps it so,

@@ -27,6 +27,10 @@ use Rattle.tool_api.specs.Plain.{plain}
 use Rattle.edit_history.specs.Machine.{State, first_state, fresh}
 use Rattle.edit_script.specs.declared.step.Act.{Act}
 use Rattle.edit_script.specs.declared.step.Act.TheVariants as act
+use Rattle.edit_script.specs.declared.step.HistoryStep.{HistoryStep}
+use Rattle.edit_script.specs.declared.step.HistoryStep.TheVariants as history
+use Rattle.edit_script.specs.declared.step.Purpose.{Purpose}
+use Rattle.edit_script.specs.declared.step.Purpose.TheVariants as purpose
 use Rattle.edit_script.specs.declared.step.Step.{Step}
 use Rattle.edit_script.specs.declared.reply.StepRefusal.{StepRefusal}
 use Rattle.edit_history.specs.declared.edit_step.EditStep.TheVariants.{Begin, End, Redo, Undo}
@@ -46,13 +50,13 @@ use Rattle.edit_session.specs.declared.limits.Limits.{Limits}
 use Rattle.edit_session.specs.declared.loading.Found.{Found}
 use Rattle.edit_session.specs.declared.loading.Found.TheVariants as found
 use Rattle.edit_session.specs.Groups.{is_given_up}
-use Rattle.edit_session.specs.Load.{act_found, bytes_found, found_in, job_found, objects_found}
+use Rattle.edit_session.specs.Load.{act_found, bytes_found, file_found, found_in, job_found, objects_found}
 use Rattle.edit_session.specs.Fetch.{reading}
 use Rattle.edit_session.specs.Given.{Given, first_given}
 use Rattle.edit_session.specs.Session.{states_before}
 use Rattle.edit_session.specs.Settled.{confirmed, of_answers, of_saved, resumed}
 use Rattle.edit_session.proofs.NewTexts.{new_texts}
-use Rattle.edit_session.specs.Turn.{Turn, act_turn, confirm_turn, file_turn, job_turn, resume_turn, settled_turn, skipped_turn, step_turn, turn}
+use Rattle.edit_session.specs.Turn.{Turn, act_turn, confirm_turn, file_turn, history_turn, job_turn, purpose_turn, resume_turn, settled_turn, skipped_turn, step_turn, turn}
 
 -- What a step finds.
 
@@ -82,13 +86,16 @@ served_brings : (limit : ℕ) (o : Option (List ℕ)) → FoundBrings (objects_f
 served_brings limit None = tt
 served_brings limit (Some bytes) = served_read (objects_of mode.Download limit bytes) (read_texts mode.Download limit bytes)
 
-pub found_brings : (limits : Limits) (given : Given) (a : Act) → FoundBrings (act_found limits given a)
-found_brings limits given (act.Download name area wanted) =
+file_found_brings : (limits : Limits) (given : Given) (p : Purpose) → FoundBrings (file_found limits p given)
+file_found_brings limits given (purpose.Download area wanted) =
     file_brings (λ objects. Merge (filtered objects area wanted)) mode.Download limits.file given (λ bytes objects is. filtered_texts objects area wanted (read_texts mode.Download limits.file bytes objects is))
-found_brings limits given (act.ImportFile name) =
+file_found_brings limits given purpose.Import =
     file_brings (λ objects. Import (new_objects_of objects)) mode.Import limits.file given (λ bytes objects is. new_texts objects (read_texts mode.Import limits.file bytes objects is))
-found_brings limits given (act.Confirm name) = bytes_bring (reading limits.file given)
-found_brings limits given (act.Resume name) = bytes_bring (reading limits.file given)
+file_found_brings limits given purpose.Confirm = bytes_bring (reading limits.file given)
+file_found_brings limits given purpose.Resume = bytes_bring (reading limits.file given)
+
+pub found_brings : (limits : Limits) (given : Given) (a : Act) → FoundBrings (act_found limits given a)
+found_brings limits given (act.File name p) = file_found_brings limits given p
 found_brings limits given (act.Serve name) = served_brings limits.file given
 found_brings limits given a = tt
 
@@ -146,21 +153,27 @@ either_texts : (b : Bool) (x y : Turn) → HaveTexts x.state → HaveTexts y.sta
 either_texts true x y h i = h
 either_texts false x y h i = i
 
+purpose_texts : (limits : Limits) (f : Found) (p : Purpose) (s : State) → FoundBrings f → HaveTexts s → HaveTexts (purpose_turn limits f p s).state
+purpose_texts limits f (purpose.Download area wanted) s i h = file_texts limits.objects f s i h
+purpose_texts limits f purpose.Import s i h = file_texts limits.objects f s i h
+purpose_texts limits f purpose.Confirm s i h = confirm_texts_of f s h
+purpose_texts limits f purpose.Resume s i h = resume_texts limits.objects f s h
+
+history_texts : (limit : ℕ) (step : HistoryStep) (s : State) → HaveTexts s → HaveTexts (history_turn step s).state
+history_texts limit history.Begin s h = steps_keep limit Begin s tt h
+history_texts limit history.End s h = steps_keep limit End s tt h
+history_texts limit (history.Undo n) s h = steps_keep limit (Undo n) s tt h
+history_texts limit (history.Redo n) s h = steps_keep limit (Redo n) s tt h
+
 act_texts : (limits : Limits) (f : Found) (a : Act) (s : State) → FoundBrings f → ActBringsTexts a → HaveTexts s → HaveTexts (act_turn limits f a s).state
 act_texts limits f (act.Job job) s i j h = job_texts limits.objects job s j h
-act_texts limits f (act.Download name area wanted) s i j h = file_texts limits.objects f s i h
 act_texts limits f (act.Generate streets) s i j h = job_texts limits.objects (Merge (city streets)) s (city_texts streets) h
-act_texts limits f (act.ImportFile name) s i j h = file_texts limits.objects f s i h
-act_texts limits f act.Begin s i j h = steps_keep limits.objects Begin s tt h
-act_texts limits f act.End s i j h = steps_keep limits.objects End s tt h
-act_texts limits f (act.Undo n) s i j h = steps_keep limits.objects (Undo n) s tt h
-act_texts limits f (act.Redo n) s i j h = steps_keep limits.objects (Redo n) s tt h
-act_texts limits f (act.Confirm name) s i j h = confirm_texts_of f s h
-act_texts limits f (act.Resume name) s i j h = resume_texts limits.objects f s h
+act_texts limits f (act.History step) s i j h = history_texts limits.objects step s h
+act_texts limits f (act.File name p) s i j h = purpose_texts limits f p s i h
 act_texts limits f a s i j h = h
 
 skipped_texts : (limit : ℕ) (a : Act) (s : State) → HaveTexts s → HaveTexts (skipped_turn a s).state
-skipped_texts limit act.End s h = steps_keep limit End s tt h
+skipped_texts limit (act.History history.End) s h = steps_keep limit End s tt h
 skipped_texts limit a s h = h
 
 pub turn_texts : (limits : Limits) (f : Found) (a : Act) (s : State) → FoundBrings f → ActBringsTexts a → HaveTexts s → HaveTexts (turn limits f a s).state

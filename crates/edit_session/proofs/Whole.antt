@@ -12,6 +12,7 @@ use Rattle.edit_script.specs.declared.reply.StepReply.{StepReply}
 use Rattle.edit_script.specs.declared.reply.StepReply.TheVariants as reply_of
 use Rattle.edit_script.specs.declared.step.Act.{Act}
 use Rattle.edit_script.specs.declared.step.Act.TheVariants as act
+use Rattle.edit_script.specs.declared.step.MeetStep.TheVariants as meet
 use Rattle.placeholder.specs.declared.answer.Answer.{Answer}
 use Rattle.upload_order.specs.declared.refusal.PlanRefusal.{PlanRefusal}
 use Rattle.upload_order.specs.declared.refusal.PlanRefusal.TheVariants as plan
@@ -79,11 +80,11 @@ module _ (limits : Limits) (found : Found) (seat : Seat) (here : Here seat) (s :
   calm_work wanted false idle h = calm_fetch wanted idle (by_met (fetch_met limits.objects seat.editor area wanted (own seat).state (slice_get (states seat.meeting) back) seat.meeting).reply h)
 
   calm_turn : (wanted : Option (List Pair)) (waits : Option (List Answer)) → (own seat).waits ≡ waits
-      → IsClash (if is_some waits then wait_turn (act.Fetch back area wanted) seat else work_turn limits found (act.Fetch back area wanted) seat).answer.reply → ⊥
+      → IsClash (if is_some waits then wait_turn (act.Meet (meet.Fetch back area wanted)) seat else work_turn limits found (act.Meet (meet.Fetch back area wanted)) seat).answer.reply → ⊥
   calm_turn wanted (Some answers) is h = let e = h.2 in cc
   calm_turn wanted None is h = calm_work wanted (is_given_up (own seat).state.group) is h
 
   -- No fetch is refused since versions clash.
-  pub calm : (wanted : Option (List Pair)) (a : Act) → a ≡ act.Fetch back area wanted → (k : Key) (version : ℕ) → (meet_turn limits found a seat).answer.reply ≡ reply_of.Refused (refusal.Tool (VersionClash k version)) → ⊥
+  pub calm : (wanted : Option (List Pair)) (a : Act) → a ≡ act.Meet (meet.Fetch back area wanted) → (k : Key) (version : ℕ) → (meet_turn limits found a seat).answer.reply ≡ reply_of.Refused (refusal.Tool (VersionClash k version)) → ⊥
   calm wanted a is k version e =
       calm_turn wanted (own seat).waits refl (k, version, ap (λ x. (meet_turn limits found x seat).answer.reply) (sym is) ∙ e)

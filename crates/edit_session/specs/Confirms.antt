@@ -9,7 +9,8 @@ use Rattle.command_line.specs.Words.{CommandLineValue}
 use Rattle.upload_order.specs.declared.change.Change.{Change}
 use Rattle.upload_order.specs.World.{World}
 use Rattle.answer_file.specs.Resumed.{GoesOn, TellsAnswers}
-use Rattle.edit_script.specs.declared.step.Act.TheVariants.{Confirm}
+use Rattle.edit_script.specs.declared.step.Act.TheVariants.{File}
+use Rattle.edit_script.specs.declared.step.Purpose.TheVariants.{Confirm}
 use Rattle.edit_script.specs.declared.step.Step.{Step}
 use Rattle.edit_script.specs.declared.reply.StepReply.TheVariants.{Done}
 use Rattle.edit_history.specs.Machine.{State}
@@ -31,7 +32,7 @@ pub record IsConfirmed (limits : Limits) (given : Given) (step : Step) (s : Stat
 
 -- Each confirmation of a run is so.
 abbrev pub AreConfirmed : Limits → List (Step × Given × State) → Type 0
-AreConfirmed limits steps = All (λ (at : Step × Given × State). (name : List ℕ) → at.0.act ≡ Confirm name → IsConfirmed limits at.1 at.0 at.2) steps
+AreConfirmed limits steps = All (λ (at : Step × Given × State). (name : List ℕ) → at.0.act ≡ File name Confirm → IsConfirmed limits at.1 at.0 at.2) steps
 
 -- Each confirmation of the run that a command line asks for is so where its reads gave this, if the words are one.
 abbrev pub AreConfirmedBy : Option CommandLineValue → List Given → Type 0

@@ -12,7 +12,9 @@ use Rattle.osm_table.specs.Table.{entry_of}
 use Rattle.sample_city.specs.City.{city}
 use Rattle.tool_api.specs.declared.job.Job.TheVariants.{Merge}
 use Rattle.edit_script.specs.declared.step.Act.{Act}
-use Rattle.edit_script.specs.declared.step.Act.TheVariants as act
+use Rattle.edit_script.specs.declared.step.Act.TheVariants.{Job, Generate, History, File}
+use Rattle.edit_script.specs.declared.step.HistoryStep.TheVariants.{Undo, Redo}
+use Rattle.edit_script.specs.declared.step.Purpose.TheVariants.{Download, Import, Confirm, Resume}
 use Rattle.edit_script.specs.declared.step.Step.{Step}
 use Rattle.edit_script.specs.Place.{is_meeting}
 use Rattle.edit_history.specs.declared.counts.Group.{Group}
@@ -42,14 +44,14 @@ file_says limit other s k = is_running s.group
 
 -- Whether a step says that it changes or forgets the object. What answers make of an object has a law of its own.
 abbrev pub act_says : Limits → Found → Act → State → Key → Bool
-act_says limits found (act.Job job) s k = job_says limits.objects job s k
-act_says limits found (act.Download name area wanted) s k = file_says limits.objects found s k
-act_says limits found (act.Generate streets) s k = job_says limits.objects (Merge (city streets)) s k
-act_says limits found (act.ImportFile name) s k = file_says limits.objects found s k
-act_says limits found (act.Undo n) s k = true
-act_says limits found (act.Redo n) s k = true
-act_says limits found (act.Confirm name) s k = true
-act_says limits found (act.Resume name) s k = true
+act_says limits found (Job job) s k = job_says limits.objects job s k
+act_says limits found (Generate streets) s k = job_says limits.objects (Merge (city streets)) s k
+act_says limits found (History (Undo n)) s k = true
+act_says limits found (History (Redo n)) s k = true
+act_says limits found (File name (Download area wanted)) s k = file_says limits.objects found s k
+act_says limits found (File name Import) s k = file_says limits.objects found s k
+act_says limits found (File name Confirm) s k = true
+act_says limits found (File name Resume) s k = true
 act_says limits found other s k = false
 
 -- Each edited object of which the step doesn't say so is kept.

@@ -10,7 +10,8 @@ use Rattle.command_line.specs.Words.{CommandLineValue}
 use Rattle.saved_session.specs.Resumed.{saved_table}
 use Rattle.saved_session.specs.Savable.{is_before}
 use Rattle.saved_session.specs.Saved.{ended, saved}
-use Rattle.edit_script.specs.declared.step.Act.TheVariants.{Save}
+use Rattle.edit_script.specs.declared.step.Act.TheVariants.{Look}
+use Rattle.edit_script.specs.declared.step.Look.TheVariants.{Save}
 use Rattle.edit_script.specs.declared.step.Step.{Step}
 use Rattle.edit_script.specs.declared.reply.StepReply.TheVariants.{Done}
 use Rattle.edit_script.specs.Reply.{reply_line}
@@ -34,7 +35,7 @@ pub record IsSaved (limits : Limits) (given : Given) (step : Step) (s : State) :
 
 -- Each save of a run that isn't skipped is so.
 abbrev pub AreSaves : Limits → List (Step × Given × State) → Type 0
-AreSaves limits steps = All (λ (at : Step × Given × State). at.0.act ≡ Save → (step_turn limits at.1 at.0 at.2).answer.reply ≡ Done [] → IsSaved limits at.1 at.0 at.2) steps
+AreSaves limits steps = All (λ (at : Step × Given × State). at.0.act ≡ Look Save → (step_turn limits at.1 at.0 at.2).answer.reply ≡ Done [] → IsSaved limits at.1 at.0 at.2) steps
 
 -- Each save of the run that a command line asks for is so where its reads gave this, if the words are one.
 abbrev pub AreSavesBy : Option CommandLineValue → List Given → Type 0

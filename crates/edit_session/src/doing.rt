@@ -1,14 +1,14 @@
 //! What a step of a script comes to: the one interpreter of steps, for an editor alone and for one of a meeting.
 //!
 //! It looks at the table and moves nothing. Who has the table takes the step that it says, and answers what comes of it.
-ghost use Rattle.std.specs.Prelude.{◌≡◌, false, IfOk, IfSome};
-ghost use Rattle.std.specs.Option.{unwrap_or};
+ghost use Rattle.std.specs.Prelude.{◌≡◌, false, IfOk};
 ghost use Rattle.edit_script.specs.Order.{IsMeant};
-ghost use Rattle.edit_session.specs.Doing.{refused_by, settled_by, skipped_by, Comes};
+ghost use Rattle.edit_script.specs.declared.step.Act.TheVariants as acts;
+ghost use Rattle.edit_session.specs.Doing.{edit_step, refused_by, settled_by, skipped_by, Comes};
 ghost use Rattle.edit_session.specs.Groups.{is_given_up};
 ghost use Rattle.edit_session.specs.Load.{MayFind};
 ghost use Rattle.edit_session.specs.Planned.{IsSized};
-ghost use Rattle.edit_session.specs.Turn.{turn, act_turn, look_answer, missing, reply_alone};
+ghost use Rattle.edit_session.specs.Turn.{turn, act_turn, look_answer, missing};
 
 use crate::limits::Limits;
 use crate::loading::Found;
@@ -18,7 +18,7 @@ use crate::settling::{confirmed, resumed};
 use crate::uploading::{answer_rehearsal, answer_upload};
 use dataset::{DataSet, Patch};
 use edit_history::{EditStep, Group};
-use edit_script::{Act, StepRefusal, StepReply};
+use edit_script::{Act, HistoryStep, Look, Purpose, StepRefusal, StepReply};
 use osm_table::Shared;
 use sample_city::sample_city;
 use std::alloc::{AllocError, Global};
@@ -77,7 +77,7 @@ fn skip<'a>(act: &'a Act) -> Doing<'a>
     ensures { result ≡ skipped_by act.now }
 {
     match act {
-        Act::End => Doing::Says(EditStep::End, StepReply::Skipped),
+        Act::History(HistoryStep::End) => Doing::Says(EditStep::End, StepReply::Skipped),
         _ => Doing::Stays(Response::alone(StepReply::Skipped)),
     }
 }
@@ -98,40 +98,54 @@ fn interpret_act<'a>(
 {
     match act {
         Act::Job(job) => Ok(Doing::Takes(EditStep::Run(job))),
-        Act::Download { .. } => match found {
-            Found::Job(job) => Ok(Doing::Takes(EditStep::Run(job))),
-            _ => Ok(refuse(group, missing(found))),
-        },
-        Act::ImportFile { .. } => match found {
-            Found::Job(job) => Ok(Doing::Takes(EditStep::Run(job))),
-            _ => Ok(refuse(group, missing(found))),
-        },
         Act::Generate { streets } => {
             let told = Shared::new(alloc, sample_city(alloc, *streets)?)?;
             Ok(Doing::Runs(Job::Merge { told }))
         }
-        Act::Begin => Ok(Doing::Takes(EditStep::Begin)),
-        Act::End => Ok(Doing::Takes(EditStep::End)),
-        Act::Undo { n } => Ok(Doing::Takes(EditStep::Undo { n: *n })),
-        Act::Redo { n } => Ok(Doing::Takes(EditStep::Redo { n: *n })),
-        Act::Confirm { .. } => match found {
-            Found::Bytes(bytes) => {
-                let answer = confirmed(ds, bytes.as_slice())?;
-                Ok(settle(answer))
-            }
-            _ => Ok(refuse(group, missing(found))),
-        },
-        Act::Resume { .. } => match found {
-            Found::Bytes(bytes) => {
-                let answer = resumed(ds, bytes.as_slice(), limits.objects)?;
-                Ok(settle(answer))
-            }
-            _ => Ok(refuse(group, missing(found))),
-        },
-        _ => {
-            let response = look_or(alloc, ds, act, StepReply::Skipped)?;
+        Act::History(step) => Ok(Doing::Takes(edit_step(step))),
+        Act::Look(look) => {
+            let response = look_at(alloc, ds, look)?;
             Ok(Doing::Stays(response))
         }
+        Act::File { purpose, .. } => match purpose {
+            Purpose::Download { .. } => match found {
+                Found::Job(job) => Ok(Doing::Takes(EditStep::Run(job))),
+                _ => Ok(refuse(group, missing(found))),
+            },
+            Purpose::Import => match found {
+                Found::Job(job) => Ok(Doing::Takes(EditStep::Run(job))),
+                _ => Ok(refuse(group, missing(found))),
+            },
+            Purpose::Confirm => match found {
+                Found::Bytes(bytes) => {
+                    let answer = confirmed(ds, bytes.as_slice())?;
+                    Ok(settle(answer))
+                }
+                _ => Ok(refuse(group, missing(found))),
+            },
+            Purpose::Resume => match found {
+                Found::Bytes(bytes) => {
+                    let answer = resumed(ds, bytes.as_slice(), limits.objects)?;
+                    Ok(settle(answer))
+                }
+                _ => Ok(refuse(group, missing(found))),
+            },
+        },
+        Act::Serve { .. } => Ok(Doing::Stays(Response::alone(StepReply::Skipped))),
+        Act::Editor { .. } => Ok(Doing::Stays(Response::alone(StepReply::Skipped))),
+        Act::Meet(_) => Ok(Doing::Stays(Response::alone(StepReply::Skipped))),
+    }
+}
+
+// The step on the table that a step on the history is.
+fn edit_step<'a>(step: &HistoryStep) -> EditStep<'a>
+    ensures { result ≡ edit_step step.now }
+{
+    match step {
+        HistoryStep::Begin => EditStep::Begin,
+        HistoryStep::End => EditStep::End,
+        HistoryStep::Undo { n } => EditStep::Undo { n: *n },
+        HistoryStep::Redo { n } => EditStep::Redo { n: *n },
     }
 }
 
@@ -166,41 +180,23 @@ fn settle<'a>(answer: Result<Patch, StepRefusal>) -> Doing<'a>
     }
 }
 
-/// What a step answers that looks at the table, and this reply for any other.
+/// What a look at the table answers. It costs what it looks at.
 ///
 /// # Errors
 /// No memory was left.
-pub fn look_or(
-    alloc: Global,
-    ds: &DataSet,
-    act: &Act,
-    reply: StepReply,
-) -> Result<Response, AllocError>
-    requires { IsMeant act.now }
-    ensures answer { IfOk result (λ response. response ≡ unwrap_or (look_answer act.now ds.now) (reply_alone reply)) }
-    ensures sized { IfOk result (λ response. IsSized response.behind) }
+pub fn look_at(alloc: Global, ds: &DataSet, look: &Look) -> Result<Response, AllocError>
+    requires { IsMeant (acts.Look look.now) }
+    ensures answer { IfOk result (λ answer. answer ≡ look_answer look.now ds.now) }
+    ensures sized { IfOk result (λ answer. IsSized answer.behind) }
 {
-    match look(alloc, ds, act)? {
-        Some(response) => Ok(response),
-        None => Ok(Response::alone(reply)),
-    }
-}
-
-// What a step answers that looks at the table, if it is one.
-fn look(alloc: Global, ds: &DataSet, act: &Act) -> Result<Option<Response>, AllocError>
-    requires { IsMeant act.now }
-    ensures answer { IfOk result (λ answer. answer ≡ look_answer act.now ds.now) }
-    ensures sized { IfOk result (λ answer. IfSome answer (λ response. IsSized response.behind)) }
-{
-    match act {
-        Act::Print => Ok(Some(Response::look(alloc, Behind::Table))),
-        Act::Count => Ok(Some(Response::look(alloc, Behind::Counts))),
-        Act::Conflicts => Ok(Some(Response::look(alloc, Behind::Conflicts))),
-        Act::Save => Ok(Some(Response::look(alloc, Behind::Saved))),
-        Act::Rehearse => Ok(Some(answer_rehearsal(ds)?)),
-        Act::Upload { size } => Ok(Some(answer_upload(ds, *size)?)),
-        Act::Find(query) => Ok(Some(answer_find(ds, query)?)),
-        Act::Check => Ok(Some(answer_check(ds)?)),
-        _ => Ok(None),
+    match look {
+        Look::Print => Ok(Response::look(alloc, Behind::Table)),
+        Look::Count => Ok(Response::look(alloc, Behind::Counts)),
+        Look::Conflicts => Ok(Response::look(alloc, Behind::Conflicts)),
+        Look::Save => Ok(Response::look(alloc, Behind::Saved)),
+        Look::Find(query) => answer_find(ds, query),
+        Look::Check => answer_check(ds),
+        Look::Rehearse => answer_rehearsal(ds),
+        Look::Upload { size } => answer_upload(ds, *size),
     }
 }
