@@ -1,7 +1,8 @@
 -- A run up to a step: what its steps were given, and what holds whatever the others are given.
 use Rattle.std.proofs.Common.{◌≡◌, ℕ, ◌+◌, ◌<◌, ◌≤◌, Bool, false, List, [], ◌∷◌, ◌++◌, Option, IfSome, Ok, Err, sym, ap, ◌∙◌, subst, append_assoc, drop, take, get_or, length, refl, suc, arith, if◌then◌else◌}
 use Rattle.std.proofs.lemmas.List.{drop_all}
-use Rattle.std.proofs.lemmas.List.Elements.{All-nil, All-cons}
+use Rattle.std.specs.List.{All}
+use Rattle.std.proofs.lemmas.List.Elements.{All-nil, All-cons, All-take}
 use Rattle.std.specs.Io.KnownBytes.{Appends}
 use Rattle.osm_outside.specs.Outside.{AppendsFront, Shelved}
 use Rattle.osm_outside.proofs.Along.{Along, along-more, along-end, along-front}
@@ -19,8 +20,9 @@ use Rattle.edit_session.specs.declared.stop.Stop.{Stop}
 use Rattle.edit_session.specs.Given.{Given, Finds, given_by, all_given}
 use Rattle.edit_session.specs.Load.{found_in}
 use Rattle.edit_session.specs.Meet.{Seat}
-use Rattle.edit_session.specs.Met.{AreMet, IsMet}
+use Rattle.edit_session.specs.Met.{AreBegun, AreMet, IsBegun, IsMet}
 use Rattle.edit_session.specs.Runs.{AreSound, Promised, Ran, Reached}
+use Rattle.edit_session.specs.SaidMet.{AreKeptMet, IsKeptMet}
 use Rattle.edit_session.specs.Session.{states_before, texts, output, first_output, run, met}
 use Rattle.edit_session.specs.Turn.{turn, step_turn, turn_text, step_text}
 use Rattle.edit_session.specs.Uploads.{IsUpload}
@@ -92,6 +94,9 @@ goes_on limits o old mid new i steps step found s next h e here finds text after
           (goes.first_sound (got ∷ more) (suc n) m (omega (arith, e)) (subst (λ l. AreSound (take (suc n) (states_before limits (got ∷ more) l s))) (sym there) whole));
     }
 
+none_of : {X : Type 0} (P : X → Type 0) (n : ℕ) → All P (take n [])
+none_of P n = All-take P n [] (All-nil P)
+
 -- The first steps of one editor have run, over sound tables.
 reached_alone : (limits : Limits) (old new : Option (List ℕ)) (given : List Given) (steps : List Step) (n : ℕ) → IsOrderly false steps → is_meeting steps ≡ false → AppendsFront old new (first_output limits given steps n) → AreSound (take n (run limits given steps)) → Reached limits old new given steps
 reached_alone limits old new given steps n orderly alone text sound = record {
@@ -99,6 +104,8 @@ reached_alone limits old new given steps n orderly alone text sound = record {
   text = text;
   tables = sound;
   uploads = reached_sent limits n given steps orderly alone sound;
+  keeps = subst (λ (test : Bool). AreKeptMet limits (take n (if test then met limits given steps else []))) (sym alone) (none_of (λ (at : Step × Given × Seat). IsKeptMet limits at.1 at.0 at.2) n);
+  meetings = subst (λ (test : Bool). AreBegun limits (take n (if test then met limits given steps else []))) (sym alone) (none_of (λ (at : Step × Given × Seat). IsBegun limits at.1 at.0 at.2) n);
 }
 
 -- All steps of one editor have run, over sound tables.
@@ -106,6 +113,7 @@ promised_alone : (limits : Limits) (given : List Given) (steps : List Step) → 
 promised_alone limits given steps orderly alone sound = record {
   tables = sound;
   uploads = ends_sent limits given steps orderly alone sound;
+  keeps = subst (λ (test : Bool). AreKeptMet limits (if test then met limits given steps else [])) (sym alone) (All-nil (λ (at : Step × Given × Seat). IsKeptMet limits at.1 at.0 at.2));
   meetings = subst (λ (test : Bool). AreMet limits (if test then met limits given steps else [])) (sym alone) (All-nil (λ (at : Step × Given × Seat). IsMet limits at.1 at.0 at.2));
 }
 
@@ -170,6 +178,8 @@ reached_none limits old given steps front = record {
   text = front (first_output limits given steps 0);
   tables = All-nil (λ (at : Step × Given × State). IsSound at.2.now);
   uploads = All-nil (λ (at : Step × Given × State). (size : ℕ) → at.0.act ≡ Look (Upload size) → IsUpload limits at.1 at.0 size at.2);
+  keeps = All-nil (λ (at : Step × Given × Seat). IsKeptMet limits at.1 at.0 at.2);
+  meetings = All-nil (λ (at : Step × Given × Seat). IsBegun limits at.1 at.0 at.2);
 }
 
 -- Nothing was read or written.

@@ -1,13 +1,18 @@
 -- The steps of a script keep what was edited.
-use Rattle.std.proofs.Common.{◌≡◌, ℕ, Bool, true, false, cond, List, [], ◌∷◌, map, Some}
+use Rattle.std.proofs.Common.{◌≡◌, ℕ, Bool, true, false, cond, List, [], ◌∷◌, map, take, Option, None, Some, Result, Ok, Err, refl, sym, ap, ◌∙◌, subst}
 use Rattle.std.proofs.lemmas.Bool.{true≢false}
-use Rattle.std.proofs.lemmas.List.Elements.{All-nil, All-cons, All-head, All-tail}
+use Rattle.std.proofs.lemmas.List.Elements.{All-nil, All-take, All-weaker}
 use Rattle.osm_base.specs.declared.key.Key.{Key}
 use Rattle.osm_table.specs.declared.entry.Entry.{Entry}
 use Rattle.osm_table.specs.Table.{entry_of}
+use Rattle.dataset.specs.Patch.{PatchValue}
 use Rattle.dataset.specs.Sound.{IsSound}
+use Rattle.placeholder.specs.declared.fault.ConfirmFault.{ConfirmFault}
+use Rattle.placeholder.specs.Confirm.{confirm}
+use Rattle.answer_file.specs.Answers.{FileAnswers, answers_of, at_line, by_lines, unless_wrong}
 use Rattle.sample_city.specs.City.{city}
 use Rattle.tool_api.specs.declared.job.Job.TheVariants.{Merge}
+use Rattle.edit_script.specs.declared.reply.StepRefusal.{StepRefusal}
 use Rattle.edit_script.specs.declared.step.Act.{Act}
 use Rattle.edit_script.specs.declared.step.Act.TheVariants as act
 use Rattle.edit_script.specs.declared.step.HistoryStep.TheVariants as history
@@ -17,75 +22,120 @@ use Rattle.edit_script.specs.Place.{is_meeting}
 use Rattle.edit_history.specs.declared.counts.Group.{Group}
 use Rattle.edit_history.specs.declared.counts.Group.TheVariants.{Outside, Running, Refused}
 use Rattle.edit_history.specs.Machine.{State, first_state, refused_in}
+use Rattle.editor_laws.specs.Answered.{KeepsAllBut}
+use Rattle.editor_laws.specs.Kept.{is_edited, Keeps}
+use Rattle.editor_laws.proofs.KeptAnswers.{confirm_keeps}
+use Rattle.editor_laws.proofs.KeptMerges.{same_kept}
+use Rattle.editor_laws.proofs.KeptRuns.{job_step_keeps}
 use Rattle.edit_session.specs.declared.limits.Limits.{Limits}
 use Rattle.edit_session.specs.declared.loading.Found.{Found}
 use Rattle.edit_session.specs.declared.loading.Found.TheVariants as found
 use Rattle.edit_session.specs.Given.{Given}
 use Rattle.edit_session.specs.Groups.{is_given_up}
-use Rattle.edit_session.specs.Load.{found_in}
+use Rattle.edit_session.specs.Load.{act_found}
 use Rattle.edit_session.specs.Meet.{own_machine}
 use Rattle.edit_session.specs.Runs.{AreSound}
-use Rattle.edit_session.specs.Said.{is_running, file_says, act_says, IsKept, AreKept, alone}
+use Rattle.edit_session.specs.Said.{act_says, alone, answers_if, answers_taken, confirm_says, file_answers, file_says, is_running, AreKept, IsKept}
 use Rattle.edit_session.specs.Session.{met, run, states_before}
-use Rattle.edit_session.specs.Turn.{Turn, file_turn, act_turn, skipped_turn}
-use Rattle.editor_laws.specs.Kept.{is_edited, Keeps}
-use Rattle.editor_laws.proofs.KeptMerges.{same_kept}
-use Rattle.editor_laws.proofs.KeptRuns.{job_step_keeps}
+use Rattle.edit_session.specs.Settled.{confirmed, of_answers}
+use Rattle.edit_session.specs.Turn.{act_turn, confirm_turn, file_turn, settled_turn, skipped_turn, turn}
 
-module _ (s : State) (sound : IsSound s.now) (k : Key) (e : Entry) (is : entry_of s.now k ≡ Some e) (edits : is_edited e ≡ true) where
-  still : Keeps e (entry_of s.now k)
-  still = same_kept e (entry_of s.now k) is
+-- A file's answers are taken where its answers are.
+by_wrong : (wrong : Option ℕ) (p patch : PatchValue) → of_answers (unless_wrong wrong p) ≡ Ok patch → p ≡ patch
+by_wrong None p patch h = cc
+by_wrong (Some line) p patch h = absurd cc
 
-  refused : (g : Group) → is_running g ≡ false → Keeps e (entry_of (refused_in g s).now k)
-  refused Outside free = still
-  refused Running free = absurd (true≢false free)
-  refused Refused free = still
+by_file : (file : FileAnswers) (r : Result PatchValue ConfirmFault) (patch : PatchValue) → of_answers (by_lines file r) ≡ Ok patch → r ≡ Ok patch
+by_file file (Ok p) patch h = ap (λ (x : PatchValue). Ok x) (by_wrong file.wrong p patch h)
+by_file file (Err fault) patch h = absurd cc
 
-  file_keeps : (limit : ℕ) (f : Found) → file_says limit f s k ≡ false → Keeps e (entry_of (file_turn limit f s).state.now k)
-  file_keeps limit (found.Job job) free = job_step_keeps limit job s sound k e is edits free
-  file_keeps limit found.Nothing free = refused s.group free
-  file_keeps limit (found.Bad fault) free = refused s.group free
-  file_keeps limit (found.Bytes bytes) free = refused s.group free
-  file_keeps limit (found.Objects objects) free = refused s.group free
+module _ (s : State) where
+  -- Where the table stays all is kept.
+  pub still_kept : (is_said : Key → Bool) → KeepsAllBut None is_said s.now s.now
+  still_kept is_said k e is edits free = same_kept e (entry_of s.now k) is
 
-  act_keeps : (limits : Limits) (f : Found) (a : Act) → act_says limits f a s k ≡ false → Keeps e (entry_of (act_turn limits f a s).state.now k)
-  act_keeps limits f (act.Job job) free = job_step_keeps limits.objects job s sound k e is edits free
-  act_keeps limits f (act.Generate streets) free = job_step_keeps limits.objects (Merge (city streets)) s sound k e is edits free
-  act_keeps limits f (act.History history.Begin) free = still
-  act_keeps limits f (act.History history.End) free = still
-  act_keeps limits f (act.History (history.Undo n)) free = absurd (true≢false free)
-  act_keeps limits f (act.History (history.Redo n)) free = absurd (true≢false free)
-  act_keeps limits f (act.File name (purpose.Download area wanted)) free = file_keeps limits.objects f free
-  act_keeps limits f (act.File name purpose.Import) free = file_keeps limits.objects f free
-  act_keeps limits f (act.File name purpose.Confirm) free = absurd (true≢false free)
-  act_keeps limits f (act.File name purpose.Resume) free = absurd (true≢false free)
-  act_keeps limits f a free = still
+  -- and where a group is given up all of which that isn't said
+  pub refused_kept : (g : Group) → KeepsAllBut None (λ k. is_running g) s.now (refused_in g s).now
+  refused_kept Outside k e is edits free = same_kept e (entry_of s.now k) is
+  refused_kept Running k e is edits free = absurd (true≢false free)
+  refused_kept Refused k e is edits free = same_kept e (entry_of s.now k) is
 
-  skipped_keeps : (a : Act) → Keeps e (entry_of (skipped_turn a s).state.now k)
-  skipped_keeps (act.History history.End) = still
-  skipped_keeps a = still
+  pub skipped_kept : (a : Act) (is_said : Key → Bool) → KeepsAllBut None is_said s.now (skipped_turn a s).state.now
+  skipped_kept (act.History history.End) is_said = still_kept is_said
+  skipped_kept a is_said = still_kept is_said
 
-  either_keeps : (b : Bool) (t u : Turn) → Keeps e (entry_of t.state.now k) → Keeps e (entry_of u.state.now k) → Keeps e (entry_of (cond b t u).state.now k)
-  either_keeps true t u h i = h
-  either_keeps false t u h i = i
+  module _ (sound : IsSound s.now) where
+    file_kept : (limit : ℕ) (f : Found) → KeepsAllBut None (file_says limit f s) s.now (file_turn limit f s).state.now
+    file_kept limit (found.Job job) k e is edits free = job_step_keeps limit job s sound k e is edits free
+    file_kept limit found.Nothing k e is edits free = refused_kept s.group k e is edits free
+    file_kept limit (found.Bad fault) k e is edits free = refused_kept s.group k e is edits free
+    file_kept limit (found.Bytes bytes) k e is edits free = refused_kept s.group k e is edits free
+    file_kept limit (found.Objects objects) k e is edits free = refused_kept s.group k e is edits free
+
+    confirmed_kept : (bytes : List ℕ) (is_said : Key → Bool) (r : Result PatchValue StepRefusal) → confirmed s.now bytes ≡ r → KeepsAllBut (answers_if r (answers_of bytes).answers) is_said s.now (settled_turn r s).state.now
+    confirmed_kept bytes is_said (Ok patch) is =
+        confirm_keeps s.now (answers_of bytes).answers patch sound (by_file (answers_of bytes) (confirm s.now (answers_of bytes).answers) patch is)
+    confirmed_kept bytes is_said (Err why) is = still_kept is_said
+
+    confirm_kept : (f : Found) → KeepsAllBut (file_answers f s) (confirm_says f s) s.now (confirm_turn f s).state.now
+    confirm_kept (found.Bytes bytes) = confirmed_kept bytes (confirm_says (found.Bytes bytes) s) (confirmed s.now bytes) refl
+    confirm_kept (found.Job job) = refused_kept s.group
+    confirm_kept found.Nothing = refused_kept s.group
+    confirm_kept (found.Bad fault) = refused_kept s.group
+    confirm_kept (found.Objects objects) = refused_kept s.group
+
+    pub act_kept : (limits : Limits) (f : Found) (a : Act) → KeepsAllBut (answers_taken a f s) (act_says limits f a s) s.now (act_turn limits f a s).state.now
+    act_kept limits f (act.Job job) = λ k e is edits free. job_step_keeps limits.objects job s sound k e is edits free
+    act_kept limits f (act.Generate streets) = λ k e is edits free. job_step_keeps limits.objects (Merge (city streets)) s sound k e is edits free
+    act_kept limits f (act.History history.Begin) = λ k e is edits free. same_kept e (entry_of s.now k) is
+    act_kept limits f (act.History history.End) = λ k e is edits free. same_kept e (entry_of s.now k) is
+    act_kept limits f (act.History (history.Undo n)) = λ k e is edits free. absurd (true≢false free)
+    act_kept limits f (act.History (history.Redo n)) = λ k e is edits free. absurd (true≢false free)
+    act_kept limits f (act.File name (purpose.Download area wanted)) = file_kept limits.objects f
+    act_kept limits f (act.File name purpose.Import) = file_kept limits.objects f
+    act_kept limits f (act.File name purpose.Confirm) = confirm_kept f
+    act_kept limits f (act.File name purpose.Resume) = λ k e is edits free. absurd (true≢false free)
+    act_kept limits f a = λ k e is edits free. same_kept e (entry_of s.now k) is
+
+    -- One that takes no answers, in any group.
+    pub turn_kept : (limits : Limits) (f : Found) (a : Act) → answers_taken a f s ≡ None → KeepsAllBut None (act_says limits f a s) s.now (turn limits f a s).state.now
+    turn_kept limits f a none = by_group (is_given_up s.group)
+      where
+        by_group : (b : Bool) → KeepsAllBut None (act_says limits f a s) s.now (cond b (skipped_turn a s) (act_turn limits f a s)).state.now
+        by_group true = skipped_kept a (act_says limits f a s)
+        by_group false = subst (λ answers. KeepsAllBut answers (act_says limits f a s) s.now (act_turn limits f a s).state.now) none (act_kept limits f a)
+
+    -- one that is skipped takes none
+    nothing_kept : (limits : Limits) (a : Act) → KeepsAllBut (answers_taken a found.Nothing s) (act_says limits found.Nothing a s) s.now (skipped_turn a s).state.now
+    nothing_kept limits (act.File name purpose.Confirm) = skipped_kept (act.File name purpose.Confirm) (act_says limits found.Nothing (act.File name purpose.Confirm) s)
+    nothing_kept limits a = skipped_kept a (act_says limits found.Nothing a s)
+
+    pub given_kept : (limits : Limits) (given : Given) (a : Act) (b : Bool)
+        → KeepsAllBut (answers_taken a (cond b found.Nothing (act_found limits given a)) s) (act_says limits (cond b found.Nothing (act_found limits given a)) a s) s.now
+        (cond b (skipped_turn a s) (act_turn limits (cond b found.Nothing (act_found limits given a)) a s)).state.now
+    given_kept limits given a true = nothing_kept limits a
+    given_kept limits given a false = act_kept limits (act_found limits given a) a
 
 step_kept : (limits : Limits) (given : Given) (step : Step) (s : State) → IsSound s.now → IsKept limits given step s
-step_kept limits given step s sound k e is edits free =
-    let f = found_in limits given s.group step.act in
-    either_keeps s sound k e is edits (is_given_up s.group) (skipped_turn step.act s) (act_turn limits f step.act s) (skipped_keeps s sound k e is edits step.act) (act_keeps s sound k e is edits limits f step.act free)
+step_kept limits given step s sound = given_kept s sound limits given step.act (is_given_up s.group)
 
 all_kept : (limits : Limits) (steps : List (Step × Given × State)) → AreSound steps → AreKept limits steps
-all_kept limits [] sound = All-nil (λ (at : Step × Given × State). IsKept limits at.1 at.0 at.2)
-all_kept limits (at ∷ steps) sound =
-    All-cons (λ (at : Step × Given × State). IsKept limits at.1 at.0 at.2) at steps
-    (step_kept limits at.1 at.0 at.2 (All-head (λ (at : Step × Given × State). IsSound at.2.now) at steps sound))
-    (all_kept limits steps (All-tail (λ (at : Step × Given × State). IsSound at.2.now) at steps sound))
+all_kept limits steps sound = All-weaker (λ (at : Step × Given × State). IsSound at.2.now) (λ at. IsKept limits at.1 at.0 at.2) (λ at. step_kept limits at.1 at.0 at.2) steps sound
+
+first_by_meeting : (limits : Limits) (n : ℕ) (given : List Given) (steps : List Step) (meets : Bool) → AreSound (take n (cond meets (map own_machine (met limits given steps)) (states_before limits given steps first_state)))
+    → AreKept limits (take n (cond meets [] (states_before limits given steps first_state)))
+first_by_meeting limits n given steps true sound = All-take (λ (at : Step × Given × State). IsKept limits at.1 at.0 at.2) n [] (All-nil (λ (at : Step × Given × State). IsKept limits at.1 at.0 at.2))
+first_by_meeting limits n given steps false sound = all_kept limits (take n (states_before limits given steps first_state)) sound
 
 by_meeting : (limits : Limits) (given : List Given) (steps : List Step) (meets : Bool) → AreSound (cond meets (map own_machine (met limits given steps)) (states_before limits given steps first_state))
     → AreKept limits (cond meets [] (states_before limits given steps first_state))
 by_meeting limits given steps true sound = All-nil (λ (at : Step × Given × State). IsKept limits at.1 at.0 at.2)
 by_meeting limits given steps false sound = all_kept limits (states_before limits given steps first_state) sound
 
--- Where the tables of the run are sound, no edit is lost.
+-- Where the tables of the run are sound, no edit is lost,
 pub keeps_in : (limits : Limits) (given : List Given) (steps : List Step) → AreSound (run limits given steps) → AreKept limits (alone limits given steps)
 keeps_in limits given steps sound = by_meeting limits given steps (is_meeting steps) sound
+
+-- and so it is of the first of them.
+pub first_keeps : (limits : Limits) (n : ℕ) (given : List Given) (steps : List Step) → AreSound (take n (run limits given steps)) → AreKept limits (take n (alone limits given steps))
+first_keeps limits n given steps sound = first_by_meeting limits n given steps (is_meeting steps) sound

@@ -1,7 +1,7 @@
 -- Each save of a run writes a text that is read back as the very table.
-use Rattle.std.proofs.Common.{◌≡◌, ◌≤◌, ℕ, Bool, true, false, if◌then◌else◌, List, [], ◌∷◌, map, Result, Ok, Err, refl, sym, ap, ◌∙◌}
+use Rattle.std.proofs.Common.{◌≡◌, ◌≤◌, ℕ, Bool, true, false, if◌then◌else◌, List, [], ◌∷◌, map, take, Result, Ok, Err, refl, sym, ap, ◌∙◌}
 use Rattle.std.specs.FinMap as fin
-use Rattle.std.proofs.lemmas.List.Elements.{All-nil, All-cons, All-head, All-tail}
+use Rattle.std.proofs.lemmas.List.Elements.{All-nil, All-cons, All-head, All-tail, All-take}
 use Rattle.dataset.specs.Diff.{diff}
 use Rattle.dataset.specs.Sound.{IsSound}
 use Rattle.dataset.proofs.Differs.{diff_is}
@@ -76,11 +76,17 @@ in_brings Missing = tt
 in_brings TooLong = tt
 in_brings (Whole bytes) = read_brings (steps_of bytes) (script_brings bytes)
 
-by_meeting : (limits : Limits) (given : List Given) (steps : List Step) (meets : Bool) → StepsBringTexts steps → AreSound (if meets then map own_machine (met limits given steps) else states_before limits given steps first_state)
-    → AreSaves limits (if meets then map own_machine (met limits given steps) else states_before limits given steps first_state)
-by_meeting limits given steps true brings sound = all_saved limits (map own_machine (met limits given steps)) sound (seats_texts limits given steps first_seat brings (meetings.first_texts 4))
-by_meeting limits given steps false brings sound = all_saved limits (states_before limits given steps first_state) sound (run_texts limits given steps first_state brings first_texts)
+-- the texts of a run may be written
+run_readable : (limits : Limits) (given : List Given) (steps : List Step) (meets : Bool) → StepsBringTexts steps → AreTextTables (if meets then map own_machine (met limits given steps) else states_before limits given steps first_state)
+run_readable limits given steps true brings = seats_texts limits given steps first_seat brings (meetings.first_texts 4)
+run_readable limits given steps false brings = run_texts limits given steps first_state brings first_texts
 
--- Where the tables of the run are sound, each save is read back.
+-- Where the tables of the run are sound, each save is read back,
 pub saves_in : (limits : Limits) (given : List Given) (f : Fetched) → AreSound (run limits given (steps_in f)) → AreSaves limits (run limits given (steps_in f))
-saves_in limits given f sound = by_meeting limits given (steps_in f) (is_meeting (steps_in f)) (in_brings f) sound
+saves_in limits given f sound = all_saved limits (run limits given (steps_in f)) sound (run_readable limits given (steps_in f) (is_meeting (steps_in f)) (in_brings f))
+
+-- and so it is of the first of them.
+pub first_saves : (limits : Limits) (n : ℕ) (given : List Given) (f : Fetched) → AreSound (take n (run limits given (steps_in f))) → AreSaves limits (take n (run limits given (steps_in f)))
+first_saves limits n given f sound =
+    all_saved limits (take n (run limits given (steps_in f))) sound
+    (All-take (λ (at : Step × Given × State). IsTextTable at.2.now) n (run limits given (steps_in f)) (run_readable limits given (steps_in f) (is_meeting (steps_in f)) (in_brings f)))

@@ -9,10 +9,10 @@ use Rattle.tool_api.specs.declared.verb.Verb.{Verb}
 use Rattle.edit_session.specs.declared.status.Status.{Status}
 use Rattle.edit_session.specs.declared.status.Status.TheVariants as status
 use Rattle.edit_session.specs.Confirms.{AreConfirmedOf}
+use Rattle.edit_session.specs.Keeps.{AreKeptOf}
 use Rattle.edit_session.specs.Met.{AreMetOf}
 use Rattle.edit_session.specs.Needs.{Misses}
 use Rattle.edit_session.specs.Runs.{Runs}
-use Rattle.edit_session.specs.Said.{AreKeptOf}
 use Rattle.edit_session.specs.Saves.{AreSavesOf}
 use Rattle.edit_session.specs.Session.{outcome as outcome_of, Agrees, IsAsked, IsEarly}
 use Rattle.edit_session.specs.Uploads.{AreUploadsOf}
@@ -83,10 +83,11 @@ pub record IsRight {S K : Type 0} (verbs : List Verb) (asked_for : List (List �
   pub confirms : IfSome before.files (AreConfirmedOf (command_of asked_for))
   -- In a meeting nothing is overwritten unseen: the server is sound before and after each step, each base in each table of each
   -- editor is what the server had in one of its states, each positive key of it stands at the server, each change of a send
-  -- that the server accepts finds there what the editor's table has as base, and no fetch is refused as a version clash.
+  -- that the server accepts finds there what the editor's table has as base, and no fetch is refused as a version clash. What is
+  -- written there by an upload, a save or another look at a table is what `uploads` and `saves` speak of.
   pub meetings : answer ≡ status.Done → IfSome before.files (AreMetOf (command_of asked_for))
-  -- No edit is lost: each step of the run, outside of meetings, keeps what is wanted of each edited object of which it doesn't say
-  -- that it changes or forgets it.
+  -- No edit is lost: each step of the run keeps what is wanted of each edited object of which it doesn't say that it changes or
+  -- forgets it, under the id that it got where answers are taken. In a meeting no step touches another editor's table.
   pub keeps : answer ≡ status.Done → IfSome before.files (AreKeptOf (command_of asked_for))
 
 -- It is right of some shelf and some sink. A function that makes its own and shows them to nobody can say no more: that they are

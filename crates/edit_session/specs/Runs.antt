@@ -15,9 +15,11 @@ use Rattle.edit_session.specs.Confirms.{AreConfirmedBy}
 use Rattle.edit_session.specs.Fetch.{reading}
 use Rattle.edit_session.specs.Given.{Given, first_given, all_given}
 use Rattle.edit_session.specs.Limits.{limits_of}
-use Rattle.edit_session.specs.Met.{AreMet, AreMetBy}
-use Rattle.edit_session.specs.Said.{AreKeptBy}
-use Rattle.edit_session.specs.Saves.{AreSavesBy}
+use Rattle.edit_session.specs.Keeps.{AreKeptBy}
+use Rattle.edit_session.specs.Met.{AreBegun, AreMet, AreMetBy}
+use Rattle.edit_session.specs.Said.{AreKept, alone}
+use Rattle.edit_session.specs.SaidMet.{AreKeptMet}
+use Rattle.edit_session.specs.Saves.{AreSaves, AreSavesBy}
 use Rattle.edit_session.specs.Session.{output, first_output, run, meetings, steps_in, IsStop, outcome_by, line_given, Agrees}
 use Rattle.edit_session.specs.Uploads.{AreUploads, AreUploadsBy}
 
@@ -29,15 +31,24 @@ AreSound steps = All (λ (at : Step × Given × State). IsSound at.2.now) steps
 pub record Promised (limits : Limits) (given : List Given) (steps : List Step) : Type 0 where
   pub tables : AreSound (run limits given steps)
   pub uploads : AreUploads limits (run limits given steps)
+  pub keeps : AreKeptMet limits (meetings limits given steps)
   pub meetings : AreMet limits (meetings limits given steps)
 
 -- What holds where they stopped: what was written is a front of the text of the first of them, and the tables of these are
--- sound, and their uploads sent.
+-- sound, their uploads sent, and what they do in a meeting is promised up to the last of them, which may have stopped midway.
 pub record Reached (limits : Limits) (old new : Option (List ℕ)) (given : List Given) (steps : List Step) : Type 0 where
   pub count : ℕ
   pub text : AppendsFront old new (first_output limits given steps count)
   pub tables : AreSound (take count (run limits given steps))
   pub uploads : AreUploads limits (take count (run limits given steps))
+  pub keeps : AreKeptMet limits (take count (meetings limits given steps))
+  pub meetings : AreBegun limits (take count (meetings limits given steps))
+
+-- And of the first steps of a script the saves are read back, and no edit is lost.
+pub record Stopped (limits : Limits) (old new : Option (List ℕ)) (given : List Given) (steps : List Step) : Type 0 where
+  pub reached : Reached limits old new given steps
+  pub saves : AreSaves limits (take reached.count (run limits given steps))
+  pub keeps : AreKept limits (take reached.count (alone limits given steps))
 
 -- and of those of the script that was given first,
 abbrev pub NamePromised : Limits → List Given → Type 0
@@ -55,6 +66,10 @@ abbrev pub LineReached : Option CommandLineValue → Option (List ℕ) → Optio
 LineReached None old new given = Unit {0}
 LineReached (Some line) old new given = NameReached (limits_of line) old new given
 
+abbrev pub LineStopped : Option CommandLineValue → Option (List ℕ) → Option (List ℕ) → List Given → Type 0
+LineStopped None old new given = Unit {0}
+LineStopped (Some line) old new given = Stopped (limits_of line) old new (drop 1 given) (steps_in (reading (limits_of line).script (first_given given)))
+
 -- The run of a script where each step ran.
 pub record Ran {T E : Type 0} (limits : Limits) (told : Option Shelved) (old new : Option (List ℕ)) (result : Result T E) (steps : List Step) : Type 0 where
   pub given : List Given
@@ -66,13 +81,13 @@ pub record Ran {T E : Type 0} (limits : Limits) (told : Option Shelved) (old new
 
 -- What the reads of a session gave: the script's name first, and then the file of each step, which may have changed meanwhile.
 -- The status is that of the outcome of just this, and the sink took its text, or after a fault or want of memory a front of
--- it: of the text of the steps that were reached, of which the uploads were sent. Where the shelf tells its files, it is what they
+-- it: of the text of the steps that were reached, for which the promises hold. Where the shelf tells its files, it is what they
 -- hold.
 pub record Runs (told : Option Shelved) (verbs : List Verb) (words : List (List ℕ)) (old new : Option (List ℕ)) (result : Status) : Type 0 where
   pub given : List Given
   pub by_files : IfSome told (λ files. given ≡ line_given (command_of words) files)
   pub agrees : Agrees old new result (outcome_by verbs words given)
-  pub stopped : IsStop result → LineReached (command_of words) old new given
+  pub stopped : IsStop result → LineStopped (command_of words) old new given
   pub uploads : result ≡ status.Done → AreUploadsBy (command_of words) given
   pub saves : result ≡ status.Done → AreSavesBy (command_of words) given
   pub confirms : AreConfirmedBy (command_of words) given

@@ -1,0 +1,61 @@
+-- What a step of a meeting keeps of what its editors have edited.
+--
+-- For example the first editor moved n1. A `fetch` of it says of no object that it changes it, so n1 is kept there, perhaps in a
+-- conflict. The other editors' tables stay as they are, and when the answer to a `send` comes, n1 is there as it was sent.
+use Rattle.std.specs.Prelude.{◌≡◌, ◌≢◌, ℕ, Bool, false, is_some, if◌then◌else◌, List, get_or, slice_get, Option, None, Some}
+use Rattle.std.specs.List.{All}
+use Rattle.osm_base.specs.Tags.{Pair}
+use Rattle.osm_base.specs.declared.area.Area.{Area}
+use Rattle.osm_base.specs.declared.key.Key.{Key}
+use Rattle.osm_table.specs.Table.{TableValue}
+use Rattle.tool_api.specs.declared.job.Job.TheVariants.{Merge}
+use Rattle.placeholder.specs.declared.answer.Answer.{Answer}
+use Rattle.server_world.specs.Codes.{Objects}
+use Rattle.edit_script.specs.declared.step.Act.{Act}
+use Rattle.edit_script.specs.declared.step.Act.TheVariants.{Meet}
+use Rattle.edit_script.specs.declared.step.MeetStep.TheVariants as meet
+use Rattle.edit_script.specs.declared.step.Step.{Step}
+use Rattle.edit_history.specs.Machine.{State}
+use Rattle.editor_laws.specs.Answered.{KeepsAllBut}
+use Rattle.editor_laws.specs.Steps.{job_says}
+use Rattle.many_editors.specs.Meeting.{Meeting, first_editor, states}
+use Rattle.many_editors.specs.Serving.{told_of_state}
+use Rattle.edit_session.specs.declared.limits.Limits.{Limits}
+use Rattle.edit_session.specs.declared.loading.Found.{Found}
+use Rattle.edit_session.specs.Given.{Given}
+use Rattle.edit_session.specs.Meet.{Seat, found_by, meet_step, own}
+use Rattle.edit_session.specs.Said.{act_says, is_running}
+
+-- the table of the editor with this number
+abbrev pub table_at : ℕ → Meeting → TableValue
+table_at n m = (get_or m.editors n first_editor).state.now
+
+-- whether a fetch of a state of the server says of an object that it changes or forgets it; where there is no such state, a group
+-- is given up
+abbrev pub fetch_says : ℕ → Option Area → Option (List Pair) → Option Objects → State → Key → Bool
+fetch_says limit area wanted (Some objects) s k = job_says limit (Merge (told_of_state objects area wanted)) s k
+fetch_says limit area wanted None s k = is_running s.group
+
+-- whether a step says so of an object in the table of the editor that makes it
+abbrev pub work_says : Limits → Found → Act → Seat → Key → Bool
+work_says limits found (Meet (meet.Fetch back area wanted)) seat k = fetch_says limits.objects area wanted (slice_get (states seat.meeting) back) (own seat).state k
+work_says limits found act seat k = act_says limits found act (own seat).state k
+
+-- one of an editor that waits says it of none
+abbrev pub seat_says : Limits → Found → Act → Seat → Key → Bool
+seat_says limits found act seat k = if is_some (own seat).waits then false else work_says limits found act seat k
+
+-- the answers for which the editor waits, where they come
+abbrev pub answers_come : Act → Seat → Option (List Answer)
+answers_come (Meet meet.Answer) seat = (own seat).waits
+answers_come act seat = None
+
+-- Each edited object of the editor's table of which the step doesn't say so is kept, under the id that it got where answers come.
+-- Every other editor stays as it is.
+pub record IsKeptMet (limits : Limits) (given : Given) (step : Step) (seat : Seat) : Type 0 where
+  pub own : KeepsAllBut (answers_come step.act seat) (seat_says limits (found_by limits given (own seat) step.act) step.act seat) (table_at seat.editor seat.meeting) (table_at seat.editor (meet_step limits given step seat).seat.meeting)
+  pub others : (n : ℕ) → n ≢ seat.editor → slice_get (meet_step limits given step seat).seat.meeting.editors n ≡ slice_get seat.meeting.editors n
+
+-- So does each step of a meeting.
+abbrev pub AreKeptMet : Limits → List (Step × Given × Seat) → Type 0
+AreKeptMet limits steps = All (λ (at : Step × Given × Seat). IsKeptMet limits at.1 at.0 at.2) steps
