@@ -49,9 +49,9 @@ def file_faults():
 
 
 def verbs():
-    """The words with which a line of a script begins."""
-    source = ''.join(path.read_text() for path in sorted((CRATES / 'edit_script' / 'src').glob('*.rt')))
-    return sorted(set(re.findall(r'verb == b"([a-z]+)"', source)))
+    """The words with which a line of a script begins: those of the table of forms."""
+    table = (CRATES / 'edit_script' / 'src' / 'forms.rt').read_text().partition('const FORMS')[2].partition('];')[0]
+    return sorted(re.findall(r'\(b"([a-z]+)", Form::', table))
 
 
 # ---- numbers ----
