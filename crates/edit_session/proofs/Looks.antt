@@ -14,8 +14,8 @@ use Rattle.edit_session.specs.declared.response.Response.{Response}
 use Rattle.edit_session.specs.Given.{Given}
 use Rattle.edit_session.specs.Groups.{is_given_up}
 use Rattle.edit_session.specs.Load.{found_in}
-use Rattle.edit_session.specs.Meet.{MeetTurn, Seat, found_by, meet_step_text, meet_text, meet_turn, own, own_turn, wait_look}
-use Rattle.edit_session.specs.Turn.{look_answer, reply_alone, skipped_turn, step_text, still_turn, turn, turn_text, Turn}
+use Rattle.edit_session.specs.Meet.{Seat, found_by, meet_step_text, meet_text, meet_turn, own, own_turn, wait_look}
+use Rattle.edit_session.specs.Turn.{look_answer, reply_alone, step_text, still_turn, turn, turn_text, Turn}
 use Rattle.edit_session.proofs.Seated.{waits_outside}
 use Rattle.edit_session.proofs.Seats.{own_still}
 
