@@ -1,15 +1,14 @@
 -- The steps of a script keep what was edited.
-use Rattle.std.proofs.Common.{◌≡◌, ℕ, Bool, true, false, cond, List, [], ◌∷◌, map, take, Option, None, Some, Result, Ok, Err, refl, sym, ap, ◌∙◌, subst}
+use Rattle.std.proofs.Common.{◌≡◌, ℕ, Bool, true, false, cond, List, [], map, take, Option, None, Some, Result, Ok, Err, refl, ap, subst}
 use Rattle.std.proofs.lemmas.Bool.{true≢false}
 use Rattle.std.proofs.lemmas.List.Elements.{All-nil, All-take, All-weaker}
 use Rattle.osm_base.specs.declared.key.Key.{Key}
-use Rattle.osm_table.specs.declared.entry.Entry.{Entry}
 use Rattle.osm_table.specs.Table.{entry_of}
 use Rattle.dataset.specs.Patch.{PatchValue}
 use Rattle.dataset.specs.Sound.{IsSound}
 use Rattle.placeholder.specs.declared.fault.ConfirmFault.{ConfirmFault}
 use Rattle.placeholder.specs.Confirm.{confirm}
-use Rattle.answer_file.specs.Answers.{FileAnswers, answers_of, at_line, by_lines, unless_wrong}
+use Rattle.answer_file.specs.Answers.{FileAnswers, answers_of, by_lines, unless_wrong}
 use Rattle.sample_city.specs.City.{city}
 use Rattle.tool_api.specs.declared.job.Job.TheVariants.{Merge}
 use Rattle.edit_script.specs.declared.reply.StepRefusal.{StepRefusal}
@@ -23,7 +22,6 @@ use Rattle.edit_history.specs.declared.counts.Group.{Group}
 use Rattle.edit_history.specs.declared.counts.Group.TheVariants.{Outside, Running, Refused}
 use Rattle.edit_history.specs.Machine.{State, first_state, refused_in}
 use Rattle.editor_laws.specs.Answered.{KeepsAllBut}
-use Rattle.editor_laws.specs.Kept.{is_edited, Keeps}
 use Rattle.editor_laws.proofs.KeptAnswers.{confirm_keeps}
 use Rattle.editor_laws.proofs.KeptMerges.{same_kept}
 use Rattle.editor_laws.proofs.KeptRuns.{job_step_keeps}

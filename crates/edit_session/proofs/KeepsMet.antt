@@ -38,7 +38,7 @@ use Rattle.edit_session.specs.declared.loading.Found.{Found}
 use Rattle.edit_session.specs.declared.loading.Found.TheVariants as found
 use Rattle.edit_session.specs.Given.{Given}
 use Rattle.edit_session.specs.Groups.{is_given_up}
-use Rattle.edit_session.specs.Meet.{Seat, found_by, meet_step, meet_turn, met_turn, own, own_turn, serve_turn, served_turn, still, wait_turn, work_turn}
+use Rattle.edit_session.specs.Meet.{Seat, found_by, meet_turn, met_turn, own, own_turn, serve_turn, served_turn, still, wait_turn, work_turn}
 use Rattle.edit_session.specs.MeetAsked.{MayBelong}
 use Rattle.edit_session.specs.SaidMet.{answers_come, fetch_says, seat_says, work_says, IsKeptMet}
 use Rattle.edit_session.specs.Turn.{reply_alone, turn}

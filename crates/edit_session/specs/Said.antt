@@ -2,7 +2,7 @@
 --
 -- For example `undo 1` says it of all objects, `purge n1` of n1 alone, and `download` of none, unless the group that is open is
 -- given up with it. A `confirm` says it of none: where its answers are taken, each edited object is there under the id that it got.
-use Rattle.std.specs.Prelude.{◌≡◌, ℕ, Bool, true, false, List, [], if◌then◌else◌, Option, None, Some, Result, Ok, Err}
+use Rattle.std.specs.Prelude.{ℕ, Bool, true, false, List, [], if◌then◌else◌, Option, None, Some, Result, Ok, Err}
 use Rattle.std.specs.List.{All}
 use Rattle.osm_base.specs.declared.key.Key.{Key}
 use Rattle.dataset.specs.Patch.{PatchValue}
