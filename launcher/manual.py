@@ -203,13 +203,17 @@ MANUALS = {
         RUN, Part(SCRIPTS, 'The command line', 'Options', ('table', 'item')), Part(COMMANDS, '', 'Lines of a script', ('table',)),
         Part(SCRIPTS, 'The exit status', 'Exit status', ('text',)), Part(REFUSALS, 'Statuses', '', ('table',)), Part(SCRIPTS, 'Limits', kinds=('table',)),
         EXAMPLE]),
-    ('yokeorange-script', 5): ('the lines of a script of yokeorange, and the replies', [
-        Part(SCRIPTS, 'Lines'), Part(SCRIPTS, 'Words'), Part(SCRIPTS, 'Replies'), Part(SCRIPTS, 'Steps and groups'),
-        Part(SCRIPTS, 'Ids of new objects'), Part(COMMANDS, '', 'Commands'), *(Part(COMMANDS, it) for it in FAMILIES), Part(QUERIES, 'Queries')]),
+    ('yokeorange-script', 5): ('scripts of yokeorange: lines, words, replies, groups, the ids of new objects', [
+        Part(SCRIPTS, it) for it in ('Lines', 'Words', 'Replies', 'Steps and groups', 'Ids of new objects')]),
+    ('yokeorange-commands', 5): ('each line of a script of yokeorange', [Part(COMMANDS, '', 'Description'), *(Part(COMMANDS, it) for it in FAMILIES)]),
+    ('yokeorange-queries', 7): ('what the line find of yokeorange finds', [
+        Part(QUERIES, '', 'Description'), *(Part(QUERIES, it) for it in ('Queries', 'Useful ones', 'Costs', 'Why so'))]),
     ('yokeorange-refusals', 7): ('refusals and statuses of yokeorange, with ways out', [
-        Part(REFUSALS, '', 'Description'), Part(REFUSALS, 'Refusals of a step'), Part(REFUSALS, 'Statuses'),
-        *(Part(FILES, it) for it in ('Refusal 20, fault by fault', 'Refusals 26 and 27: answer files', 'Refusals 30 and 31: saved sessions',
-                                     'Status 4: a bad line', 'Status 5: a script that is too long'))]),
+        Part(REFUSALS, '', 'Description'), Part(REFUSALS, 'Refusals of a step'), Part(REFUSALS, 'Statuses')]),
+    ('yokeorange-bad-files', 7): ('files and lines that yokeorange refuses: what is wrong with them, and what mends it', [
+        Part(FILES, '', 'Description'), *(Part(FILES, it) for it in ('Refusal 17', 'Refusal 20, fault by fault', 'Refusals 26 and 27: answer files',
+                                                                     'Refusals 30 and 31: saved sessions', 'Status 4: a bad line',
+                                                                     'Status 5: a script that is too long'))]),
 }
 
 

@@ -74,24 +74,28 @@ class File:
         for token in operators(name) + parts:
             self.own.setdefault(token, made)
 
+    def define_all(self, head_of, name_of):
+        """Notes each definition of the file: from a head, which `head_of` finds in a line, to the next one, or to what ends it."""
+        block, name = [], None
+        for number, line in enumerate(self.text.split('\n'), 1):
+            line = without_comment(line, '--')
+            head = head_of(line)
+            if head or line.startswith(ENDS):
+                if name:
+                    self.define(name, block)
+                block, name = [], name_of(head) if head else None
+            if name and line.strip():
+                block.append((number, line))
+        if name:
+            self.define(name, block)
+
 
 class Specs(File):
     """A file of definitions of this repository."""
 
     def __init__(self, path):
         super().__init__(path, TOP, path.relative_to(CRATES).parts[0])
-        block, name = [], None
-        for number, line in enumerate(self.text.split('\n'), 1):
-            line = without_comment(line, '--')
-            head = HEAD.match(line)
-            if head or line.startswith(ENDS):
-                if name:
-                    self.define(name, block)
-                block, name = [], head[1] if head else None
-            if name and line.strip():
-                block.append((number, line))
-        if name:
-            self.define(name, block)
+        self.define_all(HEAD.match, lambda head: head[1])
 
 
 class KitSpecs(File):
@@ -99,23 +103,16 @@ class KitSpecs(File):
 
     def __init__(self, path, home, crate):
         super().__init__(path, home, crate)
-        block, name, within = [], None, None
-        for number, line in enumerate(self.text.split('\n'), 1):
-            line = without_comment(line, '--')
-            # the fields of a record, the variants of data, and all that is further in
-            if not line.strip() or within is not None and len(line) - len(line.lstrip()) > within:
-                head = None
-            else:
-                head, within = KIT_HEAD.match(line), None
-            if head or line.startswith(ENDS):
-                if name:
-                    self.define(name, block)
-                block, name = [], (head[3] or head[4]) if head else None
-                within = len(head[1]) if head and head[2] else None
-            if name and line.strip():
-                block.append((number, line))
-        if name:
-            self.define(name, block)
+        self.within = None      # how far in the head of the record or data stands whose fields or variants these are
+        self.define_all(self.head, lambda head: head[3] or head[4])
+
+    def head(self, line):
+        """The head of a definition that a line is, or None; what is further in than a record or data belongs to it."""
+        if not line.strip() or self.within is not None and len(line) - len(line.lstrip()) > self.within:
+            return None
+        found = KIT_HEAD.match(line)
+        self.within = len(found[1]) if found and found[2] else None
+        return found
 
 
 class Source(File):

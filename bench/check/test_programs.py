@@ -89,6 +89,14 @@ class Files(unittest.TestCase):
         self.assertEqual('std.specs.FinMap', file.aliases['fin'])
         self.assertIn('≡', file.names)
 
+    def test_a_definition_ends_at_the_next_head_or_at_what_ends_it(self):
+        text = SPECS + 'pub mod Inner\nloose = 1\nunfoldable last : ℕ\n-- of it\n\nlast = 2\n'
+        file = self.file_of(text, lambda path, home: definitions.File(path, home, 'some'))
+        file.define_all(definitions.HEAD.match, lambda head: head[1])
+        self.assertEqual([('first', 4, ['abbrev pub first : Row → ℕ', 'first [] = 0']), ('Pair', 7, ['pub record Pair : Type 0 where', '  pub left : ℕ']),
+                          ('last', 12, ['unfoldable last : ℕ', 'last = 2'])],
+                         [(made.name, made.line, made.text.split('\n')) for made in file.own.values()])
+
     def test_definitions_of_the_toolkit(self):
         file = self.file_of(KIT_SPECS, lambda path, home: definitions.KitSpecs(path, home, 'core'))
         self.assertEqual({'get': 2, 'Bag': 2, 'plain': 2}, {name: made.lines for name, made in file.own.items()})

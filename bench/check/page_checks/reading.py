@@ -156,11 +156,43 @@ def programs_named(_):
                 if not re.search(r'{}\b|`{}(?: [^`]*)?`'.format(re.escape(str(path.relative_to(TOP))), path.name), text)])
 
 
+def says_for_whom(lines):
+    """The first line under the title of a page says for whom it is."""
+    first = next((line for line in lines[1:] if line.strip()), '')
+    if not re.match(r'For (?:who|mappers|everybody|import teams|authors)\b', first):
+        raise Wrong('{} doesn\'t say for whom it is: {}'.format(lines[0], first))
+
+
+@case('each how-to says for whom it is in the first line under its title, and the check sees where one does not')
+def for_whom(_):
+    for page in PAGES:
+        if page.startswith('docs/HOWTO/'):
+            says_for_whom(lines_of(page))
+    for lines in (['# Send', '', 'To send edits.'], ['# Send', '', '## For mappers'], ['# Send', 'Before you send', 'For mappers.'], ['# Send', '', 'Forwho.'], ['# Send']):
+        finds_fault(lambda: says_for_whom(lines))
+
+
 # ---- length ----
 
 @case('no page has more than {:,} words'.format(MOST_WORDS))
 def sittings(_):
     expect([], ['{}: {:,}'.format(page, words(page)) for page in PAGES if words(page) > MOST_WORDS])
+
+
+def words_of_manual(text):
+    """How many words a manual page shows, within a hundredth: those of its source but the names of requests, and comments."""
+    return len(re.sub(r'^\.(\\".*|\w+)', '', text, flags=re.M).split())
+
+
+@case('no manual page has more than {:,} words either, and the check counts what man shows'.format(MOST_WORDS))
+def manual_sittings(_):
+    pages = {path: path.read_text(encoding='utf-8') for path in sorted((TOP / manual.FOLDER).iterdir())}
+    expect([], ['{}: {:,}'.format(path.name, words_of_manual(text)) for path, text in pages.items() if words_of_manual(text) > MOST_WORDS])
+    expect(4, words_of_manual('.\\" a comment\n.TH X 1\n.PP\n\\fBtwo\\fR words\n'))
+    for path, text in pages.items() if shutil.which('man') else ():
+        shown = subprocess.run(['man', '-l', str(path)], stdout=subprocess.PIPE, stderr=subprocess.DEVNULL, text=True).stdout
+        if abs(len(shown.split()) - words_of_manual(text)) > words_of_manual(text) // 50 + 20:
+            raise Wrong('{}: man shows {:,} words, and {:,} are counted'.format(path.name, len(shown.split()), words_of_manual(text)))
 
 
 @case('README.md has at most 120 lines')
