@@ -35,7 +35,7 @@ use Rattle.edit_script.specs.declared.step.Look.TheVariants as look
 use Rattle.edit_script.specs.declared.step.MeetStep.TheVariants as meet
 use Rattle.edit_script.specs.declared.step.Purpose.TheVariants as purpose
 use Rattle.edit_script.specs.declared.forms.Form.{Form}
-use Rattle.edit_script.specs.declared.forms.Form.TheVariants.{Answer, Begin, Check, Combine, Confirm, Conflicts, Count, Delete, Download, Editor, End, Erase, Fetch, Find, Fuse, Generate, Import, Lost, Members, Move, Node, Nodes, Place, Print, Purge, Redo, Rehearse, Relation, Resolve, Resume, Reverse, Save, Send, Serve, Split, Squeeze, Tag, Undo, Upload, Way}
+use Rattle.edit_script.specs.declared.forms.Form.TheVariants.{Answer, Begin, Check, Combine, Confirm, Conflicts, Count, Delete, Download, Editor, End, Erase, Fetch, Find, Fuse, Generate, Import, Lost, Members, Move, Node, Nodes, Place as PlaceForm, Print, Purge, Redo, Rehearse, Relation, Resolve, Resume, Reverse, Save, Send, Serve, Split, Squeeze, Tag, Undo, Upload, Way}
 use Rattle.edit_script.specs.declared.step.Step.{Step}
 use Rattle.edit_script.specs.Forms.{act_of, add_node, add_relation, add_way, choice_of, combine, download, fetch, form_of, fuse, place, read_form, resolve, set_members, set_nodes, set_tags, shift}
 use Rattle.edit_script.specs.Forms as form
@@ -172,7 +172,7 @@ form_brings Members words = any_of (two_words words) _ (λ w. any_of (key_text w
 form_brings Move words = any_of (three_words words) _ (λ w. any_of (keys_word w.0) _ (λ k. any_of (coord_text w.1) _ (λ dx. any_of (coord_text w.2) _ (λ dy. tt))))
 form_brings Node words = any_of (three_words words) _ (λ w. any_of (place_words w.0 w.1) _ (λ at. bind_if AreTexts ActBringsTexts (tags_word w.2) _ (tags_word_texts w.2) (λ tags i. i)))
 form_brings Nodes words = any_of (two_words words) _ (λ w. any_of (key_text w.0) _ (λ x. any_of (refs_word w.1) _ (λ y. tt)))
-form_brings Place words = any_of (three_words words) _ (λ w. any_of (key_text w.0) _ (λ k. any_of (place_words w.1 w.2) _ (λ at. tt)))
+form_brings PlaceForm words = any_of (three_words words) _ (λ w. any_of (key_text w.0) _ (λ k. any_of (place_words w.1 w.2) _ (λ at. tt)))
 form_brings Print words = alone_brings (act.Look look.Print) words tt
 form_brings Purge words = any_of (one_word words) _ (λ w. any_of (keys_word w) _ (λ x. tt))
 form_brings Redo words = any_of (one_word words) _ (λ w. any_of (count_word w) _ (λ x. tt))
