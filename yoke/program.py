@@ -33,13 +33,19 @@ class BadLine(Trouble):
 
 @dataclass
 class Reply:
-    """The reply to a step: the number of its line, `ok`, `refused` or `skipped`, what follows, and the lines of text after it."""
+    """The reply to a step: the number of its line, `ok`, `refused` or `skipped`, what follows, and the lines of text after it.
+
+    Of a script that was written out `row` is the row of a table from which the step comes, and `problem` why it couldn't be
+    written out: then another step was refused in its place.
+    """
 
     line: int
     word: str
     rest: str
     step: str
     text: List[str] = field(default_factory=list)
+    row: str = ''
+    problem: str = ''
 
     @property
     def number(self):

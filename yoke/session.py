@@ -26,9 +26,9 @@ class Session:
         """That of the words of a command line."""
         return cls(Day(arguments.day), Program.of(arguments))
 
-    def ask(self, lines):
-        """The Answer to lines that only look, over the last session. Refused at the first refused one."""
-        return self._run(self.day.last(), list(lines), allow_refused=False)
+    def ask(self, lines, allow_refused=False):
+        """The Answer to lines over the last session, of which nothing is kept. Refused at the first refused one, unless they are allowed."""
+        return self._run(self.day.last(), list(lines), allow_refused)
 
     def edit(self, verb, lines, allow_refused=False, keep_refused=False):
         """Does lines over the last session, and keeps what comes as the work of a verb; answers with the Answer.

@@ -71,11 +71,16 @@ def is_skipped(line: str) -> bool:
     return not line.strip(BLANKS) or line[0] == '#'
 
 
-def check_line(line: str) -> str:
-    """The verb of a line that isn't skipped; Bad where it is none of a script's."""
+def taken_apart(line: str) -> List[str]:
+    """The words of a line that isn't skipped; Bad where a blank stands at an end of it."""
     if line[0] in BLANKS or line[-1] in BLANKS:
         bad('a blank stands {}', 'before the first word' if line[0] in BLANKS else 'after the last word')
-    verb, *words = words_of(line)
+    return words_of(line)
+
+
+def check_line(line: str) -> str:
+    """The verb of a line that isn't skipped; Bad where it is none of a script's."""
+    verb, *words = taken_apart(line)
     if verb not in FORMS:
         bad('there is no line {}', verb)
     if verb in ALONE:

@@ -1,8 +1,9 @@
 """Every bad line of a script, with its cause and the right form; the program names the first alone, and no cause."""
 from dataclasses import dataclass
-from typing import List
+from typing import Dict, List
 
-from yoke.scripts import grammar, mends
+from yoke import words
+from yoke.scripts import grammar, mends, shorthand
 
 LARGEST = 16777216      # bytes of a script
 
@@ -21,23 +22,30 @@ class Finding:
     is_mend: bool = False
 
 
-def findings(lines: List[str]) -> List[Finding]:
-    """What is wrong with the lines of a script, as `grammar.lines_of` has them."""
-    found, place = [], grammar.Place()
+def findings(lines: List[str], short: bool = False) -> List[Finding]:
+    """What is wrong with the lines of a script, as `grammar.lines_of` has them; with `short` lines that are written out are lines too.
+
+    How many steps such a line makes isn't known before, so after one nothing is undone.
+    """
+    found, place, is_after = [], grammar.Place(), False
     for number, line in enumerate(lines, 1):
-        if not grammar.is_skipped(line):
-            found += _line(number, line, place)
+        if grammar.is_skipped(line):
+            continue
+        ones = _line(number, line, place, short)
+        if is_after and not ones and grammar.words_of(line)[0] in ('undo', 'redo'):
+            ones = [Finding(number, line, 'how many steps the lines before it make isn\'t known: one is written out by yoke', 'in a script of its own')]
+        is_after = is_after or short and shorthand.is_short(line)
+        found += ones
     return found
 
 
-def _line(number: int, line: str, place: grammar.Place) -> List[Finding]:
+def _line(number: int, line: str, place: grammar.Place, short: bool) -> List[Finding]:
     """What is wrong with a line that stands there; the place goes after it."""
-    right = None
     try:
-        verb = grammar.check_line(line)
+        verb = (shorthand if short else grammar).check_line(line)
     except grammar.Bad as fault:
-        right = mends.mended(line)
-        found = [Finding(number, line, str(fault), right or form(line), right is not None)]
+        right = (shorthand if short else mends).mended(line)
+        found = [Finding(number, line, str(fault), right or form(line, short), right is not None)]
         verb = (right or line.strip(grammar.BLANKS) or line).split(' ')[0].split('\t')[0]
     else:
         try:
@@ -45,7 +53,7 @@ def _line(number: int, line: str, place: grammar.Place) -> List[Finding]:
             found = []
         except grammar.Bad as fault:
             found = [Finding(number, line, str(fault), WHERE.get(verb, 'a script that doesn\'t begin with serve' if place.in_meeting else 'outside the group'))]
-    if verb in grammar.FORMS:
+    if verb in forms(short):
         place.go_on(verb)
     return found
 
@@ -58,11 +66,22 @@ WHERE = {
 }
 
 
-def form(line: str) -> str:
+def forms(short: bool) -> Dict[str, str]:
+    """Each verb with its form."""
+    return {**grammar.FORMS, **shorthand.FORMS} if short else grammar.FORMS
+
+
+def form(line: str, short: bool) -> str:
     """The form of the line that this one was likely meant to be."""
-    words = grammar.words_of(line)
-    verb = mends.likely_verb(words[0]) if words else ''
-    return grammar.FORMS.get(verb, 'one of ' + ', '.join(sorted(grammar.FORMS)))
+    first = grammar.words_of(line)[:1]
+    verb = (shorthand if short else mends).likely_verb(*first) if first else ''
+    found = forms(short).get(verb, 'one of ' + ', '.join(sorted(forms(short))))
+    return found.replace('KEYS', '( QUERY )') if short and verb in shorthand.BY_QUERY and shorthand.is_short(line) else found
+
+
+def told(one: Finding) -> str:
+    """A finding as one line of a message."""
+    return 'no line of a script: {}: {}; right: {} (yoke lint names all)'.format(words.cut(one.text), one.cause, words.cut(one.right))
 
 
 def report(name: str, found: List[Finding]) -> str:

@@ -1,6 +1,6 @@
-"""One node put into a way, one member into a relation: the lists of `nodes` and `members` lines, made anew with one more."""
+"""One node put into a way, members into a relation: the lists of `nodes` and `members` lines, made anew with more."""
 import math
-from typing import List, Optional, Tuple
+from typing import List, Optional, Sequence, Tuple
 
 from yoke import opl
 from yoke.table import Table
@@ -20,7 +20,7 @@ def insert_line(table: Table, node: str, way: str, after: Optional[str] = None) 
         raise Refused('there is no {} in the session'.format(node))
     at = _place(after, nodes, way) if after is not None else nearest(table, _mine(table, node), nodes, way)
     if node in nodes and after is None:
-        raise Refused('{} is a node of {} already: --after puts it in once more'.format(node, way))
+        raise Refused('{} is a node of {} already: once more it is put in at a place that is named'.format(node, way))
     if node in (nodes[max(at - 1, 0):at] + nodes[at:at + 1]):
         raise Refused('{} would stand twice side by side in {}'.format(node, way))
     return 'nodes {} N{}'.format(way, ','.join(nodes[:at] + [node] + nodes[at:]))
@@ -48,7 +48,7 @@ def nearest(table: Table, node: opl.Object, nodes: List[str], way: str) -> int:
     places = [table.mine(key) for key in nodes]
     segments = [(distance(node, one, other), at) for at, (one, other) in enumerate(zip(places, places[1:]), 1) if one and other]
     if not segments:
-        raise Refused('no segment of {} is known: --after names the place'.format(way))
+        raise Refused('no segment of {} is known: name the place'.format(way))
     return min(segments)[1]
 
 
@@ -66,22 +66,27 @@ def _flat(node: opl.Object, thing: opl.Object, shrink: float) -> Tuple[float, fl
     return float(thing.lon - node.lon) * shrink, float(thing.lat - node.lat)
 
 
-def add_member_line(table: Table, key: str, relation: str, role: str = '', at: Optional[int] = None, again: bool = False) -> str:
-    """The `members` line that makes an object a member of a relation, the last one, or the `at`-th, where 1 is the first.
+def add_members_line(table: Table, pairs: Sequence[Tuple[str, str]], relation: str, at: Optional[int] = None, again: bool = False) -> str:
+    """The `members` line that makes objects, by key and role, members of a relation: the last ones, or from the `at`-th on, where 1 is the first.
 
-    `again` tells that it may be a member with the same role already.
+    `again` tells that they may be members with the same role already.
     """
     if relation[0] != 'r':
         raise Usage('a relation is wanted: yoke add-member w7 r9 outer')
     members = list(_mine(table, relation).members)
-    if not table.refers(key):
-        raise Refused('there is no {} in the session'.format(key))
-    if (key, role) in members and not again:
-        raise Refused('{} is a member of {} already{}: --again makes it one once more'.format(key, relation, ' as ' + role if role else ''))
     place = len(members) if at is None else at - 1
     if not 0 <= place <= len(members):
-        raise Refused('{} has {} members, so --at is from 1 to {}'.format(relation, len(members), len(members) + 1))
+        raise Refused('{} has {} members, so a place is from 1 to {}'.format(relation, len(members), len(members) + 1))
+    for pair in pairs:
+        key, role = pair
+        if not table.refers(key):
+            raise Refused('there is no {} in the session'.format(key))
+        if pair in members and not again:
+            raise Refused('{} is a member of {} already{}: yoke add-member --again makes it one once more'.format(
+                key, relation, ' as ' + role if role else ''))
+        members.insert(place, pair)
+        place += 1
     try:
-        return 'members {} M{}'.format(relation, opl.members(members[:place] + [(key, role)] + members[place:]))
+        return 'members {} M{}'.format(relation, opl.members(members))
     except ValueError as error:
         raise Refused(str(error)) from None

@@ -18,7 +18,8 @@ NAME = re.compile('[A-Za-z_][A-Za-z0-9_-]*', re.ASCII)
 MAKES = {'node': 'n', 'way': 'w', 'relation': 'r'}
 WORDS = {'node': 3, 'way': 2, 'relation': 2}        # after the verb, without a name
 KEYS = {'tag': (0,), 'move': (0,), 'place': (0,), 'nodes': (0,), 'members': (0,), 'delete': (0,), 'erase': (0,), 'purge': (0,), 'split': (0, 1),
-        'combine': (0,), 'reverse': (0,), 'squeeze': (0,), 'fuse': (0,), 'resolve': (0,)}       # which words after a verb are keys
+        'combine': (0,), 'reverse': (0,), 'squeeze': (0,), 'fuse': (0,), 'resolve': (0,), 'insert': (0, 1, 2), 'add-member': (1,),
+        'mend-turns': (0,)}      # which words after a verb are keys
 
 
 class BadName(Exception):
@@ -31,11 +32,19 @@ class BadName(Exception):
 
 @dataclass
 class Expanded:
-    """A script without names: its lines, the number of the line of the script that each comes from, and the keys by name."""
+    """A script as the program takes it: its lines, the number of the line of the script that each comes from, and the keys by name.
+
+    `rows` has, by the place among `lines`, the row of a table that a line comes from, as `a.csv:4`. `problems` has, so too,
+    lines that are refused whatever there is, since they stand for one that can't be written out: that line, and why not.
+    `notes` are what is to be told of lines, with their numbers.
+    """
 
     lines: List[str]
     numbers: List[int]
     names: Dict[str, str] = field(default_factory=dict)
+    rows: Dict[int, str] = field(default_factory=dict)
+    problems: Dict[int, Tuple[str, str]] = field(default_factory=dict)
+    notes: List[Tuple[int, str]] = field(default_factory=list)
 
 
 def expand(lines: List[str], next_new: int, count: Callable[[str], int]) -> Expanded:
@@ -90,7 +99,9 @@ class _Expander:
         if verb in ('way', 'nodes') and words[-1].startswith('N'):
             words[-1] = 'N' + self._keys(number, words[-1][1:], 'n')
         if verb in ('relation', 'members') and words[-1].startswith('M'):
-            words[-1] = 'M' + ','.join(self._member(number, member) for member in words[-1][1:].split(','))
+            words[-1] = 'M' + self._members(number, words[-1][1:])
+        if verb == 'add-member' and len(words) > 1:
+            words[1] = self._members(number, words[1])
         self._number(number, verb, words)
         if name:
             self._give(number, name, MAKES[verb])
@@ -130,9 +141,9 @@ class _Expander:
             raise BadName(number, '{} is a {}, and the nodes of a way are nodes'.format(text, grammar.KINDS[self.names[text][0]]))
         return self.names[text]
 
-    def _member(self, number: int, member: str) -> str:
-        key, at, role = member.partition('@')
-        return self._key(number, key) + at + role
+    def _members(self, number: int, text: str) -> str:
+        members = (member.partition('@') for member in text.split(','))
+        return ','.join(self._key(number, key) + at + role for key, at, role in members)
 
     def _with_groups(self, first: int, last: int) -> Tuple[int, int]:
         """The lines that become one group, with all of the groups that begin or end among them."""

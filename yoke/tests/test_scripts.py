@@ -108,14 +108,18 @@ class Lists(unittest.TestCase):
 
     def test_a_member(self):
         found = table.read(town())
-        self.assertEqual(lists.add_member_line(found, 'w20', 'r30', 'a role'), 'members r30 Mn2@stop,w10@,w77@,w20@a%20%role')
-        self.assertEqual(lists.add_member_line(found, 'n2', 'r30', at=1), 'members r30 Mn2@,n2@stop,w10@,w77@')
-        self.assertEqual(lists.add_member_line(found, 'w77', 'r30', at=4, again=True), 'members r30 Mn2@stop,w10@,w77@,w77@')
-        for words, text in [(('n2', 'r30', 'stop'), 'n2 is a member of r30 already as stop'), (('n99', 'r30'), 'there is no n99'), (('w20', 'r30', '', 5), '--at is from 1 to 4'),
-                            (('w20', 'r30', '', 0), '--at is from 1'), (('w20', 'r31'), "r31 isn't in the session"), (('w20', 'r30', 'x' * 256), '256 characters')]:
+        for pairs, at, again, members in [
+                ([('w20', 'a role')], None, False, 'n2@stop,w10@,w77@,w20@a%20%role'), ([('n2', '')], 1, False, 'n2@,n2@stop,w10@,w77@'),
+                ([('w77', '')], 4, True, 'n2@stop,w10@,w77@,w77@'), ([('w20', ''), ('n1', 'b')], 2, False, 'n2@stop,w20@,n1@b,w10@,w77@'),
+                ([('n1', ''), ('n1', 'b')], None, False, 'n2@stop,w10@,w77@,n1@,n1@b')]:
+            self.assertEqual(lists.add_members_line(found, pairs, 'r30', at, again), 'members r30 M' + members)
+        for pairs, relation, at, text in [
+                ([('n2', 'stop')], 'r30', None, 'n2 is a member of r30 already as stop'), ([('n1', ''), ('n1', '')], 'r30', None, 'n1 is a member of r30 already: '),
+                ([('n1', ''), ('n99', '')], 'r30', None, 'there is no n99'), ([('w20', '')], 'r30', 5, 'r30 has 3 members, so a place is from 1 to 4'),
+                ([('w20', '')], 'r30', 0, 'a place is from 1'), ([('w20', '')], 'r31', None, "r31 isn't in the session"), ([('w20', 'x' * 256)], 'r30', None, '256 characters')]:
             with self.assertRaisesRegex(Refused, text):
-                lists.add_member_line(found, *words)
-        self.assertRaises(Usage, lists.add_member_line, found, 'w20', 'w10')
+                lists.add_members_line(found, pairs, relation, at)
+        self.assertRaises(Usage, lists.add_members_line, found, [('w20', '')], 'w10')
 
 
 class Show(unittest.TestCase):

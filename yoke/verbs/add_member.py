@@ -18,7 +18,7 @@ def run(arguments):
     session = Session.of(arguments)
     with session.day.locked():
         found = table.read(session.day.last().text())
-        line = lists.add_member_line(found, arguments.key, arguments.relation, arguments.role, arguments.at, arguments.again)
+        line = lists.add_members_line(found, [(arguments.key, arguments.role)], arguments.relation, arguments.at, arguments.again)
         session.edit('add-member', [line])
         print(line)
         print('kept as {}'.format(session.day.last().path))

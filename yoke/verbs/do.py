@@ -3,7 +3,7 @@ import pathlib
 import re
 import sys
 
-from yoke import opl, table, words
+from yoke import opl, words
 from yoke.program import BadLine
 from yoke.scripts import lint
 from yoke.session import Session
@@ -12,7 +12,8 @@ from yoke.verbs import expand
 
 SUMMARY = 'run a script over the session, and keep what it did if no step was refused'
 DETAILS = """The script has the lines of docs/COMMANDS.md. Files that it names are seen from the folder where yoke runs.
-What yoke does itself stands in no script: save, resume, confirm, serve. New objects may have names in it: yoke expand --help."""
+What yoke does itself stands in no script: save, resume, confirm, serve. New objects may have names in it, and there are lines
+over what a query finds, a table of tags, one node more, one member more: yoke expand --help."""
 
 OURS = {
     'save': 'the session is kept by itself', 'resume': 'the session is taken up by itself',
@@ -31,7 +32,10 @@ def run(arguments):
     session = Session.of(arguments)
     check(name, lines, session.day.folder)
     with session.day.locked():
-        expanded = expand.expand(name, lines, table.next_new(session.day.last().text()))
+        session.check_settled()
+        expanded = expand.over_session(name, lines, session)
+        for number, text in expanded.notes:
+            print('{}:{}: {}'.format(name, number, text))
         began = session.known()
         answer = perform(session, 'do', name, expanded, arguments.keep, arguments.strict)
         kept = arguments.keep or not answer.refused()
@@ -60,24 +64,24 @@ def perform(session, verb, name, expanded, keep, strict=False):
     try:
         answer = session.edit(verb, expanded.lines, allow_refused=True, keep_refused=keep and not strict)
     except BadLine as bad:
-        number = expanded.numbers[bad.line - 1]
-        raise BadLine('{}:{}: {}'.format(name, number, cause(expanded.lines, bad)), number) from None
+        raise expand.bad_line(name, expanded, bad.line, cause(expanded.lines, bad)) from None
     refused = answer.refused()
     if refused and strict:
         answer.replies = [reply for reply in answer.replies if reply.line <= refused[0].line]
         if keep:
             session.edit(verb, before(expanded.lines, refused[0].line))
     for reply in answer.replies:
-        reply.line = expanded.numbers[reply.line - 1] if reply.line <= len(expanded.numbers) else reply.line
+        if reply.line <= len(expanded.lines):
+            at = reply.line - 1
+            reply.line, reply.row = expanded.numbers[at], expanded.rows.get(at, '')
+            reply.step, reply.problem = expanded.problems.get(at, (reply.step, ''))
     return answer
 
 
 def cause(lines, bad):
     """What is wrong with a bad line, and what is right."""
     found = next((one for one in lint.findings(lines) if one.line == bad.line), None)
-    if found is None:
-        return str(bad)
-    return 'no line of a script: {}: {}; right: {} (yoke lint names all)'.format(words.cut(lines[bad.line - 1]), found.cause, words.cut(found.right))
+    return str(bad) if found is None else lint.told(found)
 
 
 def before(lines, number):
@@ -120,7 +124,8 @@ def show(name, answer, kept):
     gone = given_up(answer)
     for reply in answer.replies:
         if reply.word == 'refused':
-            print('{}:{}: refused: {}: {}'.format(name, reply.line, words.cut(reply.step), words.refusal(reply.rest)))
+            what = [reply.row, 'refused', words.cut(reply.step), reply.problem or words.refusal(reply.rest)]
+            print('{}:{}: {}'.format(name, reply.line, ': '.join(filter(None, what))))
         elif kept and reply.made() and reply.line not in gone:
             print('{}:{}: made {}'.format(name, reply.line, ','.join(reply.made())))
         if reply.verb != 'save':

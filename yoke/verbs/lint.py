@@ -1,10 +1,11 @@
 """`yoke lint`: every bad line of a script, with its cause."""
 from yoke.files import data_of
 from yoke.scripts import grammar, lint, names
+from yoke.trouble import Trouble
 
 SUMMARY = 'name every bad line of a script, with the cause and the right form'
-DETAILS = """A script may give names to new objects (yoke expand --help); then it is looked at as `yoke do` would run it.
-Nothing is run. A line that is none ends with 1."""
+DETAILS = """A script may give names to new objects, and have lines that yoke writes out (yoke expand --help): it is looked at as `yoke
+do` would run it. Nothing is run. A line that is none ends with 1."""
 
 
 def add_arguments(parser):
@@ -31,9 +32,12 @@ def findings(data):
     except names.BadName as fault:
         return [lint.Finding(fault.line, lines[fault.line - 1], str(fault), 'names are explained by yoke expand --help')]
     return [lint.Finding(expanded.numbers[found.line - 1], lines[expanded.numbers[found.line - 1] - 1], found.cause, found.right, found.is_mend)
-            for found in lint.findings(expanded.lines)]
+            for found in lint.findings(expanded.lines, short=True)]
 
 
 def count(word):
-    """How many new objects the file of an `import` line has."""
-    return names.new_objects(data_of(grammar.check_text(word, 'the file')).decode('utf-8', 'replace'))
+    """How many new objects the file of an `import` line has; ValueError where that can't be known."""
+    try:
+        return names.new_objects(data_of(grammar.check_text(word, 'the file')).decode('utf-8', 'replace'))
+    except (Trouble, grammar.Bad) as why:
+        raise ValueError(str(why)) from None
