@@ -174,6 +174,17 @@ class Server:
         half = len(ids) // 2
         return self._things(kind, ids[:half], missing) + self._things(kind, ids[half:], missing)
 
+    def users(self, key):
+        """The ways and relations that refer to an object as they are now; none where it isn't there."""
+        found = []
+        for kind in ('ways', 'relations') if key[0] == 'n' else ('relations',):
+            try:
+                found += self._read(osc.things, self.look('/{}/{}/{}'.format(opl.KINDS[key[0]], key[1:], kind)))
+            except ServerRefused as refused:
+                if refused.status not in (404, 410):
+                    raise
+        return found
+
     def _read(self, reader, text, *names):
         """What a reader makes of an answer; NoAnswer where it is another document, as the page of a proxy."""
         try:

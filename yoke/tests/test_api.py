@@ -141,6 +141,19 @@ class Calls(ApiTest):
         with self.assertRaises(ServerRefused):
             server.close_changeset('7')
 
+    def test_who_uses_an_object(self):
+        way, relation = b'<osm><way id="5" version="2"><nd ref="1"/></way></osm>', b'<osm><relation id="9" version="1"/></osm>'
+        for key, answers, paths, users in [
+                ('n1', [(200, {}, way), (200, {}, relation)], ['node/1/ways', 'node/1/relations'], ['w5', 'r9']),
+                ('w5', [(200, {}, relation)], ['way/5/relations'], ['r9']), ('r9', [(200, {}, b'<osm/>')], ['relation/9/relations'], []),
+                ('n2', [(404, {}, b''), (410, {}, b'')], ['node/2/ways', 'node/2/relations'], []),
+                ('n1', [(503, {}, b''), (200, {}, way), (200, {}, b'<osm/>')], ['node/1/ways', 'node/1/ways', 'node/1/relations'], ['w5'])]:
+            server = self.serve(*answers)
+            self.assertEqual(users, [thing.key for thing in server.users(key)])
+            self.assertEqual(['/api/0.6/' + path for path in paths], [path for _, path, _, _ in self.script.requests])
+        with self.assertRaises(ServerRefused):
+            self.serve((403, {}, b'')).users('w5')
+
     def test_no_server_at_all(self):
         server = self.serve()
         self.script.shutdown()

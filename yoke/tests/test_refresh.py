@@ -19,7 +19,7 @@ class Refresh(ServerTest):
     def test_it_asks_for_what_is_edited_and_what_that_uses(self):
         self.begin('tag w5 Tsurface=asphalt', 'node x13 y52 T', 'way T Nn3,n-1', 'delete n8')
         self.assertEqual(0, self.ask('refresh'), self.err)
-        self.assertEqual(['/nodes?nodes=1,2,3,8', '/ways?ways=5'], self.asked)
+        self.assertEqual(['/nodes?nodes=1,2,3,8', '/ways?ways=5', '/node/8/ways', '/node/8/relations'], self.asked)
         self.assertEqual('5 objects asked for, 0 newer ones merged\n', self.out)
         self.assertEqual('do', self.day.last().verb)
 
@@ -65,8 +65,41 @@ class Refresh(ServerTest):
         self.server.edit('create', 'w-1', nodes=[1, 3])
         self.assertEqual(Clash.code, self.send())
         self.assertIn('yoke refresh w1000', self.err)
-        self.assertEqual(Clash.code, self.ask('refresh', 'w1000'))
-        self.assertIn('n3: deleted here, and the server uses it now', self.out)
+        for keys in ((), ('w1000',)):
+            self.assertEqual(Clash.code, self.ask('refresh', *keys))
+            self.assertIn('n3: deleted here, and the server uses it now', self.out)
+            self.done('undo')
+
+    def test_who_uses_what_is_deleted_here_is_asked_at_once(self):
+        self.begin('delete n3,n8', 'delete r9', 'delete w5')
+        self.server.edit('create', 'w-1', nodes=[1, 3], tags={'highway': 'path'})
+        self.server.edit('create', 'r-1', members=[('node', 8, 'seat'), ('way', 5, '')])
+        self.server.edit('modify', 'n1', tags={'ref': '1'})
+        self.assertEqual(Clash.code, self.ask('refresh'))
+        self.assertIn('6 objects asked for, 2 newer ones merged', self.out)
+        self.assertEqual({'n3': 'withdrawn', 'n8': 'withdrawn', 'w5': 'withdrawn'},
+                         {key: known.conflict for key, known in self.session.known().items() if known.conflict != 'none'})
+        self.assertEqual({'highway': 'path'}, self.session.known()['w1000'].mine.tags)
+
+    def test_who_uses_what_is_deleted_here_is_asked_of_what_the_server_has_alone(self):
+        self.begin('delete n8,n3')
+        self.server.edit('delete', 'n8')
+        self.assertEqual(0, self.ask('refresh'), self.err)
+        self.assertEqual(['/nodes?nodes=3,8', '/node/3/ways', '/node/3/relations'], self.asked)
+
+    def test_who_uses_them_is_not_asked_of_too_many(self):
+        for count, calls in ((50, 101), (51, 1)):
+            town = ''.join('n{} v1 x1 y{}\n'.format(number, number / 1000) for number in range(1, count + 1))
+            self.town, self.server = town, None
+            self.server = self.serve()
+            self.write('town.opl', town)
+            self.done('start', 'town.opl', '--day', str(count))
+            self.write('steps.script', 'delete {}\n'.format(','.join('n{}'.format(number) for number in range(1, count + 1))))
+            self.done('do', 'steps.script', '--day', str(count))
+            del self.asked[:]
+            self.assertEqual(0, self.ask('refresh', '--day', str(count)), self.err)
+            self.assertEqual(calls, len(self.asked))
+            self.assertEqual(count > 50, 'too many to ask who uses each' in self.err)
 
     def test_an_object_by_its_key(self):
         self.begin()

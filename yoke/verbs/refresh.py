@@ -10,12 +10,14 @@ from yoke.trouble import Clash, Trouble, Usage
 from yoke.verbs import conflicts
 
 SUMMARY = 'ask the server for the objects that are edited, and merge what others did'
-DETAILS = """It asks for what is edited and in conflict, for what that refers to, and for each KEY, such as a way that the server
-names in a refusal; not for the rest of the extract. What was deleted there comes as deleted. Ends with 4 where something is
-in conflict after that."""
+DETAILS = """It asks for what is edited and in conflict, for what that refers to, for what uses the objects that are deleted here,
+and for each KEY, such as a way that the server names in a refusal; not for the rest of the extract. What was deleted there
+comes as deleted. Ends with 4 where something is in conflict after that."""
 
 NEEDED = '( changed or conflict or child ( changed or conflict ) ) and not new and not incomplete'
+GONE = 'changed and deleted'
 NEVER = 20      # objects that the server never had, before it is taken for another server than that of the extract
+MOST_GONE = 50  # objects deleted here of which it is asked who uses them: a call or two for each
 
 
 def add_arguments(parser):
@@ -50,8 +52,9 @@ def bring(session, server, keys=()):
     """Asks the server for what the edits rest on, and for the objects with these keys, and merges it; the folder has to be locked."""
     session.check_settled()
     check_server(session.day, server)
-    found = session.ask(['find ' + NEEDED]).found()
+    found, gone = (reply.text[1:] for reply in session.ask(['find ' + NEEDED, 'find ' + GONE]).replies)
     things, never = fetch(server, sorted({*found, *keys}, key=opl.rank))
+    things = with_users(server, things, gone)
     newer = merge(session, server, things)
     known = session.known()
     joined = [known[key] for key in newer if key in known and known[key].edit == 'changed' and known[key].conflict == 'none']
@@ -81,6 +84,18 @@ def fetch(server, keys):
         if len(never) > NEVER:
             raise Trouble('{} and {} more never existed at {}: is it the server that the extract is of?'.format(never[0], NEVER, server.address))
     return server.things(keys, missing), never
+
+
+def with_users(server, things, gone):
+    """Objects of the server, with those that use what is deleted here: the session may not know them, and each would be a 412 of its own."""
+    there = {thing.key: thing for thing in things}
+    gone = [key for key in gone if key in there and not there[key].deleted]
+    if len(gone) > MOST_GONE:
+        note('{} objects are deleted here, too many to ask who uses each'.format(len(gone)))
+        gone = []
+    for key in gone:
+        there.update((user.key, user) for user in server.users(key))
+    return sorted(there.values(), key=lambda thing: opl.rank(thing.key))
 
 
 def merge(session, server, things):
