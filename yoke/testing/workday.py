@@ -3,7 +3,7 @@
     with Runner(folder_with_yoke) as runner, StrictServer(elements) as server:
         work = WorkDay(folder, server, program, runner)
         work.begin('area.opl')
-        work.edit('tag', 'created_by=', '--find', 'Tcreated_by=*')
+        work.do('old.script', 'tag ( Tcreated_by=* ) Tcreated_by=')
         work.send('-m', 'no created_by')
         work.end()
 
@@ -82,14 +82,14 @@ class WorkDay:
         self.ledger.kept(after)
         return written
 
-    def resolve(self, key: str, how: str) -> str:
-        """`yoke resolve` of one object."""
+    def resolve(self, keys: List[str], how: str) -> str:
+        """`yoke resolve` of objects, all in one way."""
         before = self.session()
-        written = self.run('resolve', key, how)
+        written = self.run('resolve', ','.join(keys), how)
         after = self.session()
-        self.ledger.resolved([key], how, before, after)
+        self.ledger.resolved(keys, how, before, after)
         self.ledger.kept(after)
-        self.resolved += 1
+        self.resolved += len(keys)
         return written
 
     # ---- what is there ----
