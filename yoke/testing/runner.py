@@ -110,7 +110,7 @@ def run(asked: dict, folder: str) -> int:
 
 
 def stand_by(folder: str) -> None:
-    """Forks for each line of standard input, and writes the process and then how it ended."""
+    """Forks for each line of standard input, and writes the process and then how it ended; ends where nobody reads that any more."""
     sys.path[0] = folder
     time.sleep = lambda seconds: None
     from yoke import command
@@ -123,9 +123,12 @@ def stand_by(folder: str) -> None:
                 code = run(json.loads(line), folder)
             finally:
                 os._exit(code)
-        print('started', process, flush=True)
-        status = os.waitpid(process, 0)[1]
-        print('ended', process, -os.WTERMSIG(status) if os.WIFSIGNALED(status) else os.WEXITSTATUS(status), flush=True)
+        try:
+            print('started', process, flush=True)
+            status = os.waitpid(process, 0)[1]
+            print('ended', process, -os.WTERMSIG(status) if os.WIFSIGNALED(status) else os.WEXITSTATUS(status), flush=True)
+        except BrokenPipeError:
+            os._exit(0)         # without another try to write it
 
 
 if __name__ == '__main__':

@@ -4,12 +4,15 @@
 """
 import pathlib
 import signal
+import subprocess
+import sys
 import tempfile
 import time
 import unittest
 
 from yoke.testing.runner import Runner
 
+TOP = pathlib.Path(__file__).resolve().parents[2]
 COMMAND = """\
 import os
 import sys
@@ -31,6 +34,11 @@ def main(words):
     if words[0] == 'hangs':
         while True:
             pass
+    if words[0] == 'takes':
+        end = time.monotonic() + float(words[1])
+        while time.monotonic() < end:
+            pass
+        return 0
     if words[0] == 'fails':
         raise ValueError('a fault')
     if words[0] == 'usage':
@@ -94,6 +102,11 @@ class Runs(unittest.TestCase):
     def test_a_run_that_nobody_waited_for(self):
         self.runner.start(['ends', '3'], str(self.folder), {}, str(self.folder / 'output'))
         self.assertEqual(self.run_it('ends', '5')[0], 5)
+
+    def test_who_asks_may_be_gone_before_a_run_ends(self):
+        code = 'import os\nfrom yoke.testing.runner import Runner\nrunner = Runner({0!r}).__enter__()\nrunner.start(["takes", "0.5"], {0!r}, {{}}, {1!r})\nos._exit(0)\n'
+        done = subprocess.run([sys.executable, '-B', '-c', code.format(str(self.folder), str(self.folder / 'output'))], cwd=TOP, stdout=subprocess.PIPE, stderr=subprocess.PIPE)
+        self.assertEqual((done.returncode, done.stdout, done.stderr), (0, b'', b''))
 
 
 if __name__ == '__main__':
