@@ -9,7 +9,7 @@ import unittest
 from yoke.testing.elements import lines_of_opl
 from yoke.testing.ledger import Failed, Wish
 from yoke.testing.server import StrictServer
-from yoke.testing.workday import WorkDay
+from yoke.testing.workday import WorkDay, check_tenth
 
 TOWN = ['n1 v1 dV Tname=a x1.0000000 y2.0000000']
 
@@ -64,6 +64,13 @@ class Days(unittest.TestCase):
             self.work.send('-m', 'x')
         with self.assertRaisesRegex(Failed, "this isn't on the server"):
             self.work.end()
+
+    def test_a_tenth(self):
+        check_tenth(['send'] * 9, 90)
+        check_tenth([], 0)
+        for count, by_hand in [(9, 89), (1, 0), (22, 219)]:
+            with self.assertRaisesRegex(Failed, '{} commands are more than a tenth of {}'.format(count, by_hand)):
+                check_tenth(['send'] * count, by_hand)
 
     def test_by_hand(self):
         self.server.answers.update({'upload 200': 3, 'upload 409': 2, 'upload 412': 1, 'create 200': 2, 'many 200': 9})

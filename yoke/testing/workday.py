@@ -28,6 +28,12 @@ NEWER = 4           # fetch what is newer, make OPL of it, a line into the scrip
 CONFLICT = 2        # a line into the script and run it, look
 
 
+def check_tenth(commands: List[str], by_hand: int) -> None:
+    """Failed where there are more commands than a tenth of those by hand."""
+    if len(commands) * 10 > by_hand:
+        raise Failed('{} commands are more than a tenth of {}'.format(len(commands), by_hand))
+
+
 class WorkDay:
     """A day in a folder: `commands` has the verbs that were run, `refreshes` and `resolved` how often what is newer came in, and
     a conflict was settled."""
