@@ -1,8 +1,8 @@
 """What `run` needs of the toolkit, by the `rt` that there is.
 
-`rattle-kit-13f` keeps beside itself what `rt ci` proved: `Keeping` takes the libraries from there. `rattle-kit-13b` keeps nothing:
-`Building` takes those that `./editor --prove --keep` left in the launcher's folder, which are of the same text by the same toolkit
-or aren't taken, and builds each other one as `rt ci` does.
+`rattle-kit-13f` keeps beside itself what `rt ci` proved: `Keeping` takes the libraries from there. With `rattle-kit-13b`, which keeps
+nothing (`Building`), and where `rt ci` kept none, those are taken that `./editor --prove --keep` left in the launcher's folder
+(`Launched`), which are of the same text by the same toolkit or aren't taken. Each other one is built as `rt ci` does.
 """
 import hashlib
 import os
@@ -43,6 +43,7 @@ class Kit:
         rt.rtlib.guarded()                  # ends what this starts, however this ends; only the first thread may call it
         rt.Crate.allowed, rt.Crate.cuts_libraries = rt.handles_of(root), True
         self.crates = {crate.name: crate for crate in self.read()}
+        self.launched = Launched(top, self.crates)
 
     def lay(self, names, jobs):
         """Puts the libraries below these crates in their places: those that are kept, and else as they are proved now."""
@@ -68,7 +69,7 @@ class Kit:
 class Keeping(Kit):
     """A kit whose `rt ci` keeps beside the toolkit what it proved."""
 
-    LACKS = 'rt ci kept no proof of it on this machine'
+    LACKS = 'neither rt ci nor ./editor --prove --keep left a proof of it on this machine'
 
     def __init__(self, rt, top, root, room):
         super().__init__(rt, top, root, room)
@@ -87,7 +88,7 @@ class Keeping(Kit):
 
     def give(self, crate):
         """Whether the library was kept, and stands in its place now."""
-        return self.kept.give(crate, False, self.kept.key(crate))
+        return self.kept.give(crate, False, self.kept.key(crate)) or self.launched.give(crate)
 
     def laid(self, crate):
         self.kept.is_built(crate)
@@ -106,8 +107,6 @@ class Building(Kit):
 
     def __init__(self, rt, top, root, room):
         super().__init__(rt, top, root, room)
-        self.store, self.given = Store(default_folder()), set()
-        self.keys, self.logic = self.keys_of_launcher()
 
     def copy(self):
         os.mkdir(self.root)
@@ -138,13 +137,35 @@ class Building(Kit):
         """A sum of all that a verdict on a crate stands on."""
         return hashlib.sha256(repr((self.crates[name].stamp(), 'built')).encode()).hexdigest()
 
-    def keys_of_launcher(self):
+    def give(self, crate):
+        """Whether the launcher kept the library, and it stands in its place now."""
+        return self.launched.give(crate)
+
+    def must_fail(self, name, edit):
+        """What comes of an edit that is tried alone, and rt's line on it."""
+        well, text = self.rt.must_fail(self.crates[name], edit, ['--jobs', '1'])
+        if well:
+            return REFUSED, text
+        if 'NOT REFUSED' in text:
+            return MISSED, text
+        # where it ended before the prover, a front end that refuses the text says so; else it was killed
+        return (BAD if 'did not reach the prover' not in text or re.search(r'\berror\b', text) else UNSURE), text
+
+
+class Launched:
+    """The libraries that the launcher proved and kept of this text, by this toolkit."""
+
+    def __init__(self, top, crates):
+        self.store, self.given = Store(default_folder()), set()
+        self.keys, self.logic = self.keys_of(str(top), list(crates))
+
+    def keys_of(self, top, names):
         """The key under which the launcher keeps each library, and the sum of the logic that it was proved over."""
         kit = toolkit.find(self.store)
         if not kit or not os.path.isdir(self.store.path('rlib')):
             return {}, ''
-        listed = crates_txt.read(self.top, list(self.crates))
-        return keys.of_crates(listed, keys.of_texts(self.top, listed), kit.identity), kit.logic
+        listed = crates_txt.read(top, names)
+        return keys.of_crates(listed, keys.of_texts(top, listed), kit.identity), kit.logic
 
     def give(self, crate):
         """Whether the launcher kept this library of the same text by the same toolkit, over libraries that are taken too: then it
@@ -156,16 +177,6 @@ class Building(Kit):
         shutil.copytree(self.store.rlib(crate.name), crate.rlib, copy_function=link_or_copy)
         self.given.add(crate.name)
         return True
-
-    def must_fail(self, name, edit):
-        """What comes of an edit that is tried alone, and rt's line on it."""
-        well, text = self.rt.must_fail(self.crates[name], edit, ['--jobs', '1'])
-        if well:
-            return REFUSED, text
-        if 'NOT REFUSED' in text:
-            return MISSED, text
-        # where it ended before the prover, a front end that refuses the text says so; else it was killed
-        return (BAD if 'did not reach the prover' not in text or re.search(r'\berror\b', text) else UNSURE), text
 
 
 def link_or_copy(source, target):

@@ -279,8 +279,8 @@ def stand_in(**more):
                                  read_edit=None, rtlib=rtlib, **more)
 
 
-class KitsThatKeepNothing(unittest.TestCase):
-    """Libraries of a kit as `rattle-kit-13b`, over a small checkout, with a launcher's folder of its own."""
+class OverACheckout(unittest.TestCase):
+    """A small checkout, with a launcher's folder of its own."""
 
     def setUp(self):
         holder = tempfile.TemporaryDirectory(prefix='kits-')
@@ -308,6 +308,10 @@ class KitsThatKeepNothing(unittest.TestCase):
             pathlib.Path(self.store.part(name)).mkdir()
             pathlib.Path(self.store.part(name), 'format').write_text('kept')
             self.store.keep(name, all_keys[name], verdict)
+
+
+class KitsThatKeepNothing(OverACheckout):
+    """Libraries of a kit as `rattle-kit-13b`."""
 
     def laid(self, *names):
         """What the libraries below these crates come from, and which were built."""
@@ -393,19 +397,17 @@ class StandInKept:
         StandInKept.told.append((crate.name, 'is built'))
 
 
-class AKitThatKeeps(unittest.TestCase):
+class AKitThatKeeps(OverACheckout):
     """Libraries of a kit as `rattle-kit-13f`."""
 
     def kit(self):
-        """The kit over the chain of crates, in a folder that is removed."""
-        holder = tempfile.TemporaryDirectory(prefix='kits-')
-        self.addCleanup(holder.cleanup)
-        self.addCleanup(os.chdir, os.getcwd())
-        StandInCrate.built, StandInKept.told = [], []
+        """The kit over the chain of crates."""
+        StandInKept.told = []
         rt = stand_in(Kept=StandInKept, copy_crates=lambda top, root: os.mkdir(root), stamp_of=lambda crate, stamps: 'sum of ' + crate.name,
                       REFUSED='refused', AT_LIMIT='at its limit', BAD='bad', MISSED='missed')
         rt.crates_of = lambda root, of_all=rt.crates_of: of_all(root, None)
-        return rt, kits.kit_of(rt, '/top', holder.name + '/repo', holder.name)
+        (self.room / 'try').mkdir()
+        return rt, kits.kit_of(rt, self.top, str(self.room / 'try' / 'repo'), str(self.room / 'try'))
 
     def test_what_is_kept_is_given_and_the_rest_built(self):
         StandInKept.names = ('low',)
@@ -414,8 +416,25 @@ class AKitThatKeeps(unittest.TestCase):
             kit.lay(['high'], 1)
         self.assertEqual(['middle'], StandInCrate.built)
         self.assertEqual([('low', 'key of low'), ('low', 'is built'), ('middle', 'key of middle'), ('middle', 'is built')], StandInKept.told)
-        self.assertIn('middle: rt ci kept no proof of it', said.getvalue())
+        self.assertIn('middle: neither rt ci nor ./editor --prove --keep left a proof of it', said.getvalue())
         self.assertEqual('sum of low', kit.stamp('low'))
+
+    def test_what_the_launcher_kept_is_taken_where_the_gate_kept_none(self):
+        StandInKept.names = ()
+        self.keep('low', 'middle')
+        _, kit = self.kit()
+        kit.lay(['high'], 1)
+        self.assertEqual([], StandInCrate.built)
+        self.assertEqual('kept', pathlib.Path(kit.crates['middle'].rlib, 'format').read_text())
+        self.assertEqual([('low', 'key of low'), ('low', 'is built'), ('middle', 'key of middle'), ('middle', 'is built')], StandInKept.told)
+
+    def test_what_the_launcher_kept_is_not_taken_over_what_the_gate_kept(self):
+        StandInKept.names = ('low',)
+        self.keep('low', 'middle')
+        _, kit = self.kit()
+        with contextlib.redirect_stdout(io.StringIO()):
+            kit.lay(['high'], 1)
+        self.assertEqual(['middle'], StandInCrate.built)
 
     def test_what_rt_says_of_an_edit_that_is_tried_alone(self):
         rt, kit = self.kit()
