@@ -76,11 +76,11 @@ def end_of(path):
         return said.read()
 
 
-def session(folder, name, steps, program=EDITOR, out=None, ends=b''):
-    """A session of these steps, whose script is the file of this name."""
+def session(folder, name, steps, program=EDITOR, out=None, ends=b'', options=()):
+    """A session of these steps, whose script is the file of this name; the program has these options."""
     with open(folder / name, 'w', encoding='utf-8') as script:
         script.writelines(step + '\n' for step in steps)
-    return Command([program, name], out or name + '.out', ends, is_session=True)
+    return Command([program, *options, name], out or name + '.out', ends, is_session=True)
 
 
 def in_turn(commands, folder, said):
