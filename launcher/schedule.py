@@ -22,7 +22,7 @@ CLOSE = 30.0
 # The end hangs on the longest chain where that is so many times what each processor has to do; its crates then have so many
 # jobs at least. Played through with the measured seconds of this repository's crates, and with jobs that help much or little,
 # these two end first or nearly so on three, four and eight processors.
-HANGS, FAVOURED = 1.3, 2
+HANGS, FAVOURED = 1.1, 2
 
 
 @dataclass(frozen=True)
