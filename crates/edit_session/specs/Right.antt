@@ -11,7 +11,7 @@ use Rattle.edit_session.specs.declared.status.Status.TheVariants as status
 use Rattle.edit_session.specs.Confirms.{AreConfirmedOf}
 use Rattle.edit_session.specs.Keeps.{AreKeptOf}
 use Rattle.edit_session.specs.Met.{AreMetOf}
-use Rattle.edit_session.specs.Needs.{Misses}
+use Rattle.edit_steps.specs.Needs.{Misses}
 use Rattle.edit_session.specs.Runs.{Runs}
 use Rattle.edit_session.specs.Saves.{AreSavesOf}
 use Rattle.edit_session.specs.Session.{outcome as outcome_of, Agrees, IsAsked, IsEarly}

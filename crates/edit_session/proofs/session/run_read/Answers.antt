@@ -1,5 +1,5 @@
 use Rattle.std.proofs.Common.{◌∙◌, ap, sym}
-use Rattle.edit_session.specs.Given.{all_given}
+use Rattle.edit_steps.specs.Given.{all_given}
 use Rattle.edit_session.specs.Session.{steps_outcome}
 use Rattle.edit_session.proofs.Script.{comes_early}
 use Rattle.edit_session.proofs.session.run_read.Goals as goal
