@@ -8,7 +8,8 @@ use Rattle.edit_session.specs.declared.status.Status.TheVariants as status
 use Rattle.edit_steps.specs.declared.stop.Stop.{Stop}
 use Rattle.edit_steps.specs.declared.stop.Stop.TheVariants as stops
 use Rattle.edit_steps.specs.Needs.{Misses}
-use Rattle.edit_session.specs.Right.{IsRight, IsRightOfSome, Outside}
+use Rattle.edit_session.specs.Moment.{Outside}
+use Rattle.edit_session.specs.Right.{IsRight, IsRightOfSome}
 use Rattle.edit_session.specs.Session.{outcome, IsAsked, IsEarly, IsEnd, IsStop}
 use Rattle.edit_steps.specs.Stop.{StopCause}
 use Rattle.edit_session.specs.StopStatus.{status_of}
