@@ -16,7 +16,7 @@ use Rattle.edit_steps.specs.declared.stop.Stop.{Stop}
 use Rattle.edit_steps.specs.Given.{Given}
 use Rattle.edit_steps.specs.States.{states_before, texts, AreSound, StepsRan, StepsReached}
 use Rattle.edit_steps.proofs.Gives.{none_yet, rest_given}
-use Rattle.edit_session.specs.Meet.{Seat, meet_texts, own_machine}
+use Rattle.edit_session.specs.Meet.{Seat, meet_texts}
 use Rattle.edit_session.specs.Met.{AreBegun, AreMet, IsBegun, IsMet}
 use Rattle.edit_session.specs.Runs.{Promised, Ran, Reached}
 use Rattle.edit_session.specs.SaidMet.{AreKeptMet, IsKeptMet}

@@ -2,7 +2,7 @@
 --
 -- For example with the words `editor s`, where no file is called s, the status is `NoScript`: the shelf answered that s isn't
 -- there, no call failed, and nothing was written.
-use Rattle.std.specs.Prelude.{◌≡◌, ◌≢◌, ◌≤◌, ◌⊎◌, ℕ, Bool, List, Option, None, IfSome}
+use Rattle.std.specs.Prelude.{◌≡◌, ◌≢◌, ◌≤◌, ◌⊎◌, ℕ, List, None, IfSome}
 use Rattle.osm_outside.specs.Outside.{Rose}
 use Rattle.command_line.specs.Words.{command_of}
 use Rattle.tool_api.specs.declared.verb.Verb.{Verb}
