@@ -1,5 +1,5 @@
 -- The steps of one editor ran, each over a sound table.
-use Rattle.std.proofs.Common.{◌≡◌, ℕ, ◌+◌, ◌<◌, ◌≤◌, List, ◌∷◌, Option, Result, Ok, Err, sym, ap, ◌∙◌, subst, drop, get_or, length, refl}
+use Rattle.std.proofs.Common.{◌≡◌, ℕ, ◌+◌, ◌<◌, ◌≤◌, List, ◌∷◌, Option, Ok, Err, sym, ap, ◌∙◌, subst, drop, get_or, length, refl}
 use Rattle.std.specs.Io.KnownBytes.{Appends}
 use Rattle.osm_outside.specs.Outside.{AppendsFront, Shelved}
 use Rattle.dataset.specs.Sound.{IsSound}

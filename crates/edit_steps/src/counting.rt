@@ -10,7 +10,7 @@ use osm_table::{EntryParts, SharedEntry};
 use std::alloc::AllocError;
 
 /// How many entries of a table are so.
-#[derive(Clone, Copy, Debug, PartialEq, Eq)]
+#[derive(Clone, Copy)]
 pub struct Counts {
     /// Living nodes.
     pub nodes: u64,

@@ -9,7 +9,7 @@ use osm_outside::{Failed, Shelf};
 use std::alloc::{AllocError, Global};
 use std::marker::Model;
 
-#[derive(Clone, Copy, Debug, PartialEq, Eq)]
+#[derive(Clone, Copy)]
 pub enum ReadError {
     Fault,
     Memory,

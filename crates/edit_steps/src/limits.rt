@@ -6,7 +6,7 @@ ghost use Rattle.edit_steps.specs.Limits.{limits_of};
 use command_line::CommandLine;
 
 /// How much a session reads and holds.
-#[derive(Clone, Copy, Debug, PartialEq, Eq)]
+#[derive(Clone, Copy)]
 pub struct Limits {
     /// Bytes of a script.
     pub script: usize,

@@ -33,7 +33,7 @@ use std::alloc::{AllocError, AllocFailed, Global};
 use upload_order::Changes;
 
 /// Why a text wasn't written to its end.
-#[derive(Clone, Copy, Debug, PartialEq, Eq)]
+#[derive(Clone, Copy)]
 pub enum WriteError {
     /// The sink failed.
     Fault,
@@ -185,7 +185,7 @@ fn send_saved_end<K: Sink>(alloc: Global, out: &mut K) -> Result<(), WriteError>
 }
 
 /// What is written of an object.
-#[derive(Clone, Copy, Debug, PartialEq, Eq)]
+#[derive(Clone, Copy)]
 enum Lines {
     /// Its line, as `print` has it.
     Object,

@@ -7,7 +7,7 @@ use crate::files::ReadError;
 use crate::sending::WriteError;
 use std::alloc::{AllocError, AllocFailed};
 
-#[derive(Clone, Copy, Debug, PartialEq, Eq)]
+#[derive(Clone, Copy)]
 pub enum Stop {
     ReadFault,
     WriteFault,
