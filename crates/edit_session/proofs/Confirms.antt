@@ -16,17 +16,17 @@ use Rattle.edit_script.specs.declared.step.Purpose.TheVariants.{Confirm}
 use Rattle.edit_script.specs.declared.step.Step.{Step}
 use Rattle.edit_script.specs.declared.reply.StepReply.TheVariants.{Done}
 use Rattle.edit_history.specs.Machine.{State, fresh}
-use Rattle.edit_session.specs.declared.files.Fetched.TheVariants.{TooLong, Whole}
-use Rattle.edit_session.specs.declared.limits.Limits.{Limits}
-use Rattle.edit_session.specs.declared.loading.Found.TheVariants as found
+use Rattle.edit_steps.specs.declared.files.Fetched.TheVariants.{TooLong, Whole}
+use Rattle.edit_steps.specs.declared.limits.Limits.{Limits}
+use Rattle.edit_steps.specs.declared.loading.Found.TheVariants as found
 use Rattle.edit_session.specs.Confirms.{AreConfirmed, AreConfirmedBy, IsConfirmed}
-use Rattle.edit_session.specs.Fetch.{reading}
-use Rattle.edit_session.specs.Given.{Given}
-use Rattle.edit_session.specs.Groups.{is_given_up}
-use Rattle.edit_session.specs.Limits.{limits_of}
-use Rattle.edit_session.specs.Load.{bytes_found, found_in}
-use Rattle.edit_session.specs.Settled.{of_answers}
-use Rattle.edit_session.specs.Turn.{Turn, act_turn, done_turn, settled_turn, skipped_turn, step_turn, turn}
+use Rattle.edit_steps.specs.Fetch.{reading}
+use Rattle.edit_steps.specs.Given.{Given}
+use Rattle.edit_steps.specs.Groups.{is_given_up}
+use Rattle.edit_steps.specs.Limits.{limits_of}
+use Rattle.edit_steps.specs.Load.{bytes_found, found_in}
+use Rattle.edit_steps.specs.Settled.{of_answers}
+use Rattle.edit_steps.specs.Turn.{Turn, act_turn, done_turn, settled_turn, skipped_turn, step_turn, turn}
 use Rattle.edit_session.specs.Uploads.{run_of}
 
 module _ (limits : Limits) (given : Given) (step : Step) (name : List ℕ) (s : State) (is : step.act ≡ File name Confirm) (bytes : List ℕ) (there : given ≡ Some bytes) where

@@ -2,7 +2,7 @@
 use Rattle.std.proofs.Common.{◌≡◌, ◌≤◌, List, [], ◌++◌, ap, ◌∙◌, arith}
 use Rattle.tool_api.specs.declared.verb.Verb.{Verb}
 use Rattle.tool_api.specs.declared.verb.Verb.TheVariants.{Add, Tag, Move, Change, Delete, Erase, Purge, Split, Combine, Reverse, Merge, Import, Resolve, Squeeze, Fuse}
-use Rattle.edit_session.specs.Needs.{Misses, count_verb}
+use Rattle.edit_steps.specs.Needs.{Misses, count_verb}
 use Rattle.edit_session.proofs.Missing.{never_missed}
 use Rattle.edit_session.specs.Verbs.{four_of, four_of_each}
 

@@ -25,18 +25,19 @@ use Rattle.editor_laws.specs.Answered.{KeepsAllBut}
 use Rattle.editor_laws.proofs.KeptAnswers.{confirm_keeps}
 use Rattle.editor_laws.proofs.KeptMerges.{same_kept}
 use Rattle.editor_laws.proofs.KeptRuns.{job_step_keeps}
-use Rattle.edit_session.specs.declared.limits.Limits.{Limits}
-use Rattle.edit_session.specs.declared.loading.Found.{Found}
-use Rattle.edit_session.specs.declared.loading.Found.TheVariants as found
-use Rattle.edit_session.specs.Given.{Given}
-use Rattle.edit_session.specs.Groups.{is_given_up}
-use Rattle.edit_session.specs.Load.{act_found}
+use Rattle.edit_steps.specs.declared.limits.Limits.{Limits}
+use Rattle.edit_steps.specs.declared.loading.Found.{Found}
+use Rattle.edit_steps.specs.declared.loading.Found.TheVariants as found
+use Rattle.edit_steps.specs.Given.{Given}
+use Rattle.edit_steps.specs.Groups.{is_given_up}
+use Rattle.edit_steps.specs.Load.{act_found}
 use Rattle.edit_session.specs.Meet.{own_machine}
-use Rattle.edit_session.specs.Runs.{AreSound}
+use Rattle.edit_steps.specs.States.{AreSound}
 use Rattle.edit_session.specs.Said.{act_says, alone, answers_if, answers_taken, confirm_says, file_answers, file_says, is_running, AreKept, IsKept}
-use Rattle.edit_session.specs.Session.{met, run, states_before}
-use Rattle.edit_session.specs.Settled.{confirmed, of_answers}
-use Rattle.edit_session.specs.Turn.{act_turn, confirm_turn, file_turn, settled_turn, skipped_turn, turn}
+use Rattle.edit_session.specs.Session.{met, run}
+use Rattle.edit_steps.specs.States.{states_before}
+use Rattle.edit_steps.specs.Settled.{confirmed, of_answers}
+use Rattle.edit_steps.specs.Turn.{act_turn, confirm_turn, file_turn, settled_turn, skipped_turn, turn}
 
 -- A file's answers are taken where its answers are.
 by_wrong : (wrong : Option ℕ) (p patch : PatchValue) → of_answers (unless_wrong wrong p) ≡ Ok patch → p ≡ patch

@@ -33,15 +33,15 @@ use Rattle.many_editors.specs.Sound as sound
 use Rattle.many_editors.specs.Sound.{IsFrom, IsSoundMeeting}
 use Rattle.many_editors.specs.States.{world_of}
 use Rattle.many_editors.proofs.Lifting.{all_at}
-use Rattle.edit_session.specs.declared.limits.Limits.{Limits}
-use Rattle.edit_session.specs.declared.loading.Found.{Found}
-use Rattle.edit_session.specs.declared.loading.Found.TheVariants as found
-use Rattle.edit_session.specs.Given.{Given}
-use Rattle.edit_session.specs.Groups.{is_given_up}
+use Rattle.edit_steps.specs.declared.limits.Limits.{Limits}
+use Rattle.edit_steps.specs.declared.loading.Found.{Found}
+use Rattle.edit_steps.specs.declared.loading.Found.TheVariants as found
+use Rattle.edit_steps.specs.Given.{Given}
+use Rattle.edit_steps.specs.Groups.{is_given_up}
 use Rattle.edit_session.specs.Meet.{Seat, found_by, meet_turn, met_turn, own, own_turn, serve_turn, served_turn, still, wait_turn, work_turn}
 use Rattle.edit_session.specs.MeetAsked.{MayBelong}
 use Rattle.edit_session.specs.SaidMet.{answers_come, fetch_says, seat_says, work_says, IsKeptMet}
-use Rattle.edit_session.specs.Turn.{reply_alone, turn}
+use Rattle.edit_steps.specs.Turn.{reply_alone, turn}
 use Rattle.edit_session.proofs.Keeps.{refused_kept, still_kept, turn_kept}
 use Rattle.edit_session.proofs.Seats.{Here, at_with, beside_with, own_at, with_kept}
 

@@ -8,14 +8,14 @@ use Rattle.edit_script.specs.declared.step.Look.{Look}
 use Rattle.edit_script.specs.declared.step.Step.{Step}
 use Rattle.edit_history.specs.Machine.{State}
 use Rattle.many_editors.specs.Sound.{IsSoundMeeting}
-use Rattle.edit_session.specs.declared.limits.Limits.{Limits}
-use Rattle.edit_session.specs.declared.loading.Found.{Found}
-use Rattle.edit_session.specs.declared.response.Response.{Response}
-use Rattle.edit_session.specs.Given.{Given}
-use Rattle.edit_session.specs.Groups.{is_given_up}
-use Rattle.edit_session.specs.Load.{found_in}
+use Rattle.edit_steps.specs.declared.limits.Limits.{Limits}
+use Rattle.edit_steps.specs.declared.loading.Found.{Found}
+use Rattle.edit_steps.specs.declared.response.Response.{Response}
+use Rattle.edit_steps.specs.Given.{Given}
+use Rattle.edit_steps.specs.Groups.{is_given_up}
+use Rattle.edit_steps.specs.Load.{found_in}
 use Rattle.edit_session.specs.Meet.{Seat, found_by, meet_step_text, meet_text, meet_turn, own, own_turn, still}
-use Rattle.edit_session.specs.Turn.{look_answer, reply_alone, step_text, still_turn, turn, turn_text, Turn}
+use Rattle.edit_steps.specs.Turn.{look_answer, reply_alone, step_text, still_turn, turn, turn_text, Turn}
 use Rattle.edit_session.proofs.Seated.{waits_outside}
 use Rattle.edit_session.proofs.Seats.{own_still}
 

@@ -5,11 +5,13 @@ use Rattle.command_line.specs.Words.{command_of}
 use Rattle.tool_api.specs.declared.verb.Verb.{Verb}
 use Rattle.edit_session.specs.declared.status.Status.{Status}
 use Rattle.edit_session.specs.declared.status.Status.TheVariants as status
-use Rattle.edit_session.specs.declared.stop.Stop.{Stop}
-use Rattle.edit_session.specs.declared.stop.Stop.TheVariants as stops
-use Rattle.edit_session.specs.Needs.{Misses}
-use Rattle.edit_session.specs.Right.{IsRight, IsRightOfSome, Outside}
-use Rattle.edit_session.specs.Session.{outcome, IsAsked, IsEarly, IsEnd, IsStop, StopCause}
+use Rattle.edit_steps.specs.declared.stop.Stop.{Stop}
+use Rattle.edit_steps.specs.declared.stop.Stop.TheVariants as stops
+use Rattle.edit_steps.specs.Needs.{Misses}
+use Rattle.edit_session.specs.Moment.{Outside}
+use Rattle.edit_session.specs.Right.{IsRight, IsRightOfSome}
+use Rattle.edit_session.specs.Session.{outcome, IsAsked, IsEarly, IsEnd, IsStop}
+use Rattle.edit_steps.specs.Stop.{StopCause}
 use Rattle.edit_session.specs.StopStatus.{status_of}
 use Rattle.edit_session.proofs.Words.{ComesTo, agrees_over, confirms_over, done_over, keeps_over, meetings_over, runs_ended, runs_stopped, saves_over, uploads_over}
 

@@ -67,16 +67,17 @@ use Rattle.edit_history.specs.Machine.{State, done_in, first_state, fresh, ran}
 use Rattle.edit_history.specs.declared.counts.Group.TheVariants as group
 use Rattle.many_editors.specs.Meeting.{at_work}
 use Rattle.many_editors.specs.States.{object_told}
-use Rattle.edit_session.specs.declared.limits.Limits.{Limits}
-use Rattle.edit_session.specs.declared.response.Behind.TheVariants as behind
-use Rattle.edit_session.specs.Given.{Given, all_given}
-use Rattle.edit_session.specs.Limits.{limits_of}
-use Rattle.edit_session.specs.Load.{job_found}
+use Rattle.edit_steps.specs.declared.limits.Limits.{Limits}
+use Rattle.edit_steps.specs.declared.response.Behind.TheVariants as behind
+use Rattle.edit_steps.specs.Given.{Given, all_given}
+use Rattle.edit_steps.specs.Limits.{limits_of}
+use Rattle.edit_steps.specs.Load.{job_found}
 use Rattle.edit_session.specs.Meet.{Seat}
 use Rattle.edit_session.specs.Met.{IsMet}
-use Rattle.edit_session.specs.Planned.{on_plan, planned, upload_answer}
-use Rattle.edit_session.specs.Session.{line_given, run, states_before, steps_read}
-use Rattle.edit_session.specs.Turn.{file_turn, job_turn, step_turn}
+use Rattle.edit_steps.specs.Planned.{on_plan, planned, upload_answer}
+use Rattle.edit_session.specs.Session.{line_given, run, steps_read}
+use Rattle.edit_steps.specs.States.{states_before}
+use Rattle.edit_steps.specs.Turn.{file_turn, job_turn, step_turn}
 use Rattle.edit_session.specs.Uploads.{AreUploads, AreUploadsOf, IsUpload, run_of}
 
 -- ---- words on the objects

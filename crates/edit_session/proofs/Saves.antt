@@ -19,20 +19,21 @@ use Rattle.edit_script.specs.Script.{steps_of}
 use Rattle.editor_laws.specs.Texts.{IsTextTable}
 use Rattle.editor_laws.proofs.TextReadable.{readable}
 use Rattle.edit_session.proofs.ScriptTexts.{IfSteps, StepsBringTexts, script_brings}
-use Rattle.edit_session.specs.declared.files.Fetched.{Fetched}
-use Rattle.edit_session.specs.declared.files.Fetched.TheVariants.{Missing, TooLong, Whole}
-use Rattle.edit_session.specs.declared.limits.Limits.{Limits}
-use Rattle.edit_session.specs.declared.loading.Found.TheVariants as found
-use Rattle.edit_session.specs.declared.response.Behind.TheVariants as behind
-use Rattle.edit_session.specs.Groups.{is_given_up}
-use Rattle.edit_session.specs.Load.{found_in}
-use Rattle.edit_session.specs.Given.{Given}
-use Rattle.edit_session.specs.Runs.{AreSound}
+use Rattle.edit_steps.specs.declared.files.Fetched.{Fetched}
+use Rattle.edit_steps.specs.declared.files.Fetched.TheVariants.{Missing, TooLong, Whole}
+use Rattle.edit_steps.specs.declared.limits.Limits.{Limits}
+use Rattle.edit_steps.specs.declared.loading.Found.TheVariants as found
+use Rattle.edit_steps.specs.declared.response.Behind.TheVariants as behind
+use Rattle.edit_steps.specs.Groups.{is_given_up}
+use Rattle.edit_steps.specs.Load.{found_in}
+use Rattle.edit_steps.specs.Given.{Given}
+use Rattle.edit_steps.specs.States.{AreSound}
 use Rattle.edit_session.specs.Saves.{AreSaves, IsSaved}
-use Rattle.edit_session.specs.Session.{met, run, states_before, steps_in, steps_read}
+use Rattle.edit_session.specs.Session.{met, run, steps_in, steps_read}
+use Rattle.edit_steps.specs.States.{states_before}
 use Rattle.edit_session.specs.Meet.{first_seat, own_machine}
-use Rattle.edit_session.specs.Settled.{of_saved}
-use Rattle.edit_session.specs.Turn.{Turn, done_turn, looked, resume_turn, settled_turn, skipped_turn, step_turn, still_turn, turn, turn_text}
+use Rattle.edit_steps.specs.Settled.{of_saved}
+use Rattle.edit_steps.specs.Turn.{Turn, done_turn, looked, resume_turn, settled_turn, skipped_turn, step_turn, still_turn, turn, turn_text}
 use Rattle.many_editors.proofs.MeetingTexts as meetings
 use Rattle.edit_session.proofs.SeatTexts.{seats_texts}
 use Rattle.edit_session.proofs.Texts.{AreTextTables, first_texts, run_texts}

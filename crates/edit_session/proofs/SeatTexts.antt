@@ -21,14 +21,14 @@ use Rattle.editor_laws.proofs.TextFiles.{IsTextObject}
 use Rattle.edit_session.proofs.ScriptTexts.{ActBringsTexts, StepsBringTexts}
 use Rattle.many_editors.specs.Texts.{IsTextEditor, IsTextMeeting}
 use Rattle.many_editors.proofs.MeetingTexts.{answered_texts, at_texts, fetch_texts, send_texts, served_texts}
-use Rattle.edit_session.specs.declared.limits.Limits.{Limits}
-use Rattle.edit_session.specs.declared.loading.Found.{Found}
-use Rattle.edit_session.specs.declared.loading.Found.TheVariants as found
-use Rattle.edit_session.specs.Given.{Given, first_given}
-use Rattle.edit_session.specs.Groups.{is_given_up}
-use Rattle.edit_session.specs.Load.{act_found, found_in}
+use Rattle.edit_steps.specs.declared.limits.Limits.{Limits}
+use Rattle.edit_steps.specs.declared.loading.Found.{Found}
+use Rattle.edit_steps.specs.declared.loading.Found.TheVariants as found
+use Rattle.edit_steps.specs.Given.{Given, first_given}
+use Rattle.edit_steps.specs.Groups.{is_given_up}
+use Rattle.edit_steps.specs.Load.{act_found, found_in}
 use Rattle.edit_session.specs.Meet.{MeetTurn, Seat, found_by, meet_step, meet_turn, own, own_machine, own_turn, seats_before, serve_turn, served_turn, wait_turn, work_turn}
-use Rattle.edit_session.specs.Turn.{Turn, turn}
+use Rattle.edit_steps.specs.Turn.{Turn, turn}
 use Rattle.edit_session.proofs.Texts.{AreTextTables, FoundBrings, HaveTexts, first_texts, found_brings, if_given, turn_texts}
 
 -- the editor with this number, or one that has done nothing

@@ -44,19 +44,19 @@ use Rattle.editor_laws.proofs.TextJobs.{job_keeps}
 use Rattle.editor_laws.proofs.TextResuming.{HasTable, saved_texts}
 use Rattle.edit_session.proofs.ScriptTexts.{ActBringsTexts, StepsBringTexts}
 use Rattle.editor_laws.proofs.TextSteps.{steps_keep}
-use Rattle.edit_session.specs.declared.files.Fetched.{Fetched}
-use Rattle.edit_session.specs.declared.files.Fetched.TheVariants.{Missing, TooLong, Whole}
-use Rattle.edit_session.specs.declared.limits.Limits.{Limits}
-use Rattle.edit_session.specs.declared.loading.Found.{Found}
-use Rattle.edit_session.specs.declared.loading.Found.TheVariants as found
-use Rattle.edit_session.specs.Groups.{is_given_up}
-use Rattle.edit_session.specs.Load.{act_found, bytes_found, file_found, found_in, job_found, objects_found}
-use Rattle.edit_session.specs.Fetch.{reading}
-use Rattle.edit_session.specs.Given.{Given, first_given}
-use Rattle.edit_session.specs.Session.{states_before}
-use Rattle.edit_session.specs.Settled.{confirmed, of_answers, of_saved, resumed}
+use Rattle.edit_steps.specs.declared.files.Fetched.{Fetched}
+use Rattle.edit_steps.specs.declared.files.Fetched.TheVariants.{Missing, TooLong, Whole}
+use Rattle.edit_steps.specs.declared.limits.Limits.{Limits}
+use Rattle.edit_steps.specs.declared.loading.Found.{Found}
+use Rattle.edit_steps.specs.declared.loading.Found.TheVariants as found
+use Rattle.edit_steps.specs.Groups.{is_given_up}
+use Rattle.edit_steps.specs.Load.{act_found, bytes_found, file_found, found_in, job_found, objects_found}
+use Rattle.edit_steps.specs.Fetch.{reading}
+use Rattle.edit_steps.specs.Given.{Given, first_given}
+use Rattle.edit_steps.specs.States.{states_before}
+use Rattle.edit_steps.specs.Settled.{confirmed, of_answers, of_saved, resumed}
 use Rattle.edit_session.proofs.NewTexts.{new_texts}
-use Rattle.edit_session.specs.Turn.{Turn, act_turn, confirm_turn, file_turn, history_turn, job_turn, purpose_turn, resume_turn, settled_turn, skipped_turn, step_turn, turn}
+use Rattle.edit_steps.specs.Turn.{Turn, act_turn, confirm_turn, file_turn, history_turn, job_turn, purpose_turn, resume_turn, settled_turn, skipped_turn, step_turn, turn}
 
 -- What a step finds.
 

@@ -26,12 +26,12 @@ use Rattle.many_editors.specs.Meeting.{Meeting, states}
 use Rattle.many_editors.specs.Sound.{IsSoundMeeting}
 use Rattle.many_editors.proofs.Acting.{keys_stand}
 use Rattle.many_editors.proofs.Replying.{met_calm}
-use Rattle.edit_session.specs.declared.limits.Limits.{Limits}
-use Rattle.edit_session.specs.declared.loading.Found.{Found}
-use Rattle.edit_session.specs.Groups.{is_given_up}
+use Rattle.edit_steps.specs.declared.limits.Limits.{Limits}
+use Rattle.edit_steps.specs.declared.loading.Found.{Found}
+use Rattle.edit_steps.specs.Groups.{is_given_up}
 use Rattle.edit_session.specs.Meet.{Seat, meet_turn, met_response, met_turn, own, still, wait_turn, work_turn}
 use Rattle.edit_session.specs.Met.{IsWhole}
-use Rattle.edit_session.specs.Turn.{reply_alone}
+use Rattle.edit_steps.specs.Turn.{reply_alone}
 use Rattle.edit_session.proofs.Seats.{Here, met_working}
 
 pub is_whole : (m : Meeting) → IsSoundMeeting m → IsWhole m

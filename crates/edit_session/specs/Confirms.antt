@@ -14,12 +14,12 @@ use Rattle.edit_script.specs.declared.step.Purpose.TheVariants.{Confirm}
 use Rattle.edit_script.specs.declared.step.Step.{Step}
 use Rattle.edit_script.specs.declared.reply.StepReply.TheVariants.{Done}
 use Rattle.edit_history.specs.Machine.{State}
-use Rattle.edit_session.specs.declared.limits.Limits.{Limits}
-use Rattle.edit_session.specs.Given.{Given}
-use Rattle.edit_session.specs.Groups.{is_given_up}
-use Rattle.edit_session.specs.Limits.{limits_of}
+use Rattle.edit_steps.specs.declared.limits.Limits.{Limits}
+use Rattle.edit_steps.specs.Given.{Given}
+use Rattle.edit_steps.specs.Groups.{is_given_up}
+use Rattle.edit_steps.specs.Limits.{limits_of}
 use Rattle.edit_session.specs.Session.{line_given}
-use Rattle.edit_session.specs.Turn.{step_turn}
+use Rattle.edit_steps.specs.Turn.{step_turn}
 use Rattle.edit_session.specs.Uploads.{run_of}
 
 -- Whatever sound server can take the table's plan, took the first of its changes, and told the answers that the file has:

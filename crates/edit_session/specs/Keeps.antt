@@ -3,10 +3,10 @@ use Rattle.std.specs.Prelude.{List, drop, Option, None, Some}
 use Rattle.osm_outside.specs.Outside.{Shelved}
 use Rattle.command_line.specs.Words.{CommandLineValue}
 use Rattle.edit_script.specs.declared.step.Step.{Step}
-use Rattle.edit_session.specs.declared.limits.Limits.{Limits}
-use Rattle.edit_session.specs.Fetch.{reading}
-use Rattle.edit_session.specs.Given.{Given, first_given}
-use Rattle.edit_session.specs.Limits.{limits_of}
+use Rattle.edit_steps.specs.declared.limits.Limits.{Limits}
+use Rattle.edit_steps.specs.Fetch.{reading}
+use Rattle.edit_steps.specs.Given.{Given, first_given}
+use Rattle.edit_steps.specs.Limits.{limits_of}
 use Rattle.edit_session.specs.Said.{AreKept, alone}
 use Rattle.edit_session.specs.SaidMet.{AreKeptMet}
 use Rattle.edit_session.specs.Session.{line_given, meetings, steps_in}

@@ -2,8 +2,8 @@
 --
 -- For example with the words `editor s`, where no file is called s, the status is `NoScript`: the shelf answered that s isn't
 -- there, no call failed, and nothing was written.
-use Rattle.std.specs.Prelude.{◌≡◌, ◌≢◌, ◌≤◌, ◌⊎◌, ℕ, Bool, List, Option, None, IfSome}
-use Rattle.osm_outside.specs.Outside.{Shelved, Rose}
+use Rattle.std.specs.Prelude.{◌≡◌, ◌≢◌, ◌≤◌, ◌⊎◌, ℕ, List, None, IfSome}
+use Rattle.osm_outside.specs.Outside.{Rose}
 use Rattle.command_line.specs.Words.{command_of}
 use Rattle.tool_api.specs.declared.verb.Verb.{Verb}
 use Rattle.edit_session.specs.declared.status.Status.{Status}
@@ -11,34 +11,12 @@ use Rattle.edit_session.specs.declared.status.Status.TheVariants as status
 use Rattle.edit_session.specs.Confirms.{AreConfirmedOf}
 use Rattle.edit_session.specs.Keeps.{AreKeptOf}
 use Rattle.edit_session.specs.Met.{AreMetOf}
-use Rattle.edit_session.specs.Needs.{Misses}
+use Rattle.edit_session.specs.Moment.{Outside}
+use Rattle.edit_steps.specs.Needs.{Misses}
 use Rattle.edit_session.specs.Runs.{Runs}
 use Rattle.edit_session.specs.Saves.{AreSavesOf}
 use Rattle.edit_session.specs.Session.{outcome as outcome_of, Agrees, IsAsked, IsEarly}
 use Rattle.edit_session.specs.Uploads.{AreUploadsOf}
-
--- The shelf and the sink at one moment, with what they tell: the files, whether one of them was begun, the text taken, and how
--- often a call of each failed.
-pub record Outside (S K : Type 0) : Type 0 where
-  pub shelf : S
-  pub sink : K
-  pub files : Option Shelved
-  pub begun : Bool
-  pub text : Option (List ℕ)
-  pub read_faults : ℕ
-  pub write_faults : ℕ
-
--- a shelf and a sink that tell it so
-abbrev pub outside : {S K : Type 0} → (told : S → Option Shelved) (begun : S → Bool) (read_faults : S → ℕ) (taken : K → Option (List ℕ)) (write_faults : K → ℕ) → S → K → Outside S K
-outside told begun read_faults taken write_faults shelf sink = record {
-  shelf = shelf;
-  sink = sink;
-  files = told shelf;
-  begun = begun shelf;
-  text = taken sink;
-  read_faults = read_faults shelf;
-  write_faults = write_faults sink;
-}
 
 -- What is right of a session with tools of these verbs, asked for by these words, that found the shelf and the sink so, left them
 -- so, and answered this status. Each field is a promise of its own.

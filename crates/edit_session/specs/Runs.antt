@@ -1,20 +1,18 @@
 -- What every session does, whatever its reads give.
 use Rattle.std.specs.Prelude.{◌≡◌, ℕ, List, drop, take, Option, None, Some, IfSome, Result, OnOk, OnErr}
-use Rattle.std.specs.List.{All}
 use Rattle.std.specs.Io.KnownBytes.{Appends}
 use Rattle.osm_outside.specs.Outside.{Shelved, AppendsFront}
 use Rattle.command_line.specs.Words.{CommandLineValue, command_of}
-use Rattle.dataset.specs.Sound.{IsSound}
 use Rattle.tool_api.specs.declared.verb.Verb.{Verb}
 use Rattle.edit_script.specs.declared.step.Step.{Step}
-use Rattle.edit_history.specs.Machine.{State}
-use Rattle.edit_session.specs.declared.limits.Limits.{Limits}
+use Rattle.edit_steps.specs.declared.limits.Limits.{Limits}
 use Rattle.edit_session.specs.declared.status.Status.{Status}
 use Rattle.edit_session.specs.declared.status.Status.TheVariants as status
 use Rattle.edit_session.specs.Confirms.{AreConfirmedBy}
-use Rattle.edit_session.specs.Fetch.{reading}
-use Rattle.edit_session.specs.Given.{Given, first_given, all_given}
-use Rattle.edit_session.specs.Limits.{limits_of}
+use Rattle.edit_steps.specs.Fetch.{reading}
+use Rattle.edit_steps.specs.Given.{Given, first_given, all_given}
+use Rattle.edit_steps.specs.Limits.{limits_of}
+use Rattle.edit_steps.specs.States.{AreSound}
 use Rattle.edit_session.specs.Keeps.{AreKeptBy}
 use Rattle.edit_session.specs.Met.{AreBegun, AreMet, AreMetBy}
 use Rattle.edit_session.specs.Said.{AreKept, alone}
@@ -22,10 +20,6 @@ use Rattle.edit_session.specs.SaidMet.{AreKeptMet}
 use Rattle.edit_session.specs.Saves.{AreSaves, AreSavesBy}
 use Rattle.edit_session.specs.Session.{output, first_output, run, meetings, steps_in, IsStop, outcome_by, line_given, Agrees}
 use Rattle.edit_session.specs.Uploads.{AreUploads, AreUploadsBy}
-
--- each table before a step of a run is sound
-abbrev pub AreSound : List (Step × Given × State) → Type 0
-AreSound steps = All (λ (at : Step × Given × State). IsSound at.2.now) steps
 
 -- What holds of these steps where each of them ran and was given this.
 pub record Promised (limits : Limits) (given : List Given) (steps : List Step) : Type 0 where

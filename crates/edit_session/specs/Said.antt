@@ -22,14 +22,14 @@ use Rattle.edit_history.specs.declared.counts.Group.TheVariants.{Running}
 use Rattle.edit_history.specs.Machine.{State, first_state}
 use Rattle.editor_laws.specs.Answered.{KeepsAllBut}
 use Rattle.editor_laws.specs.Steps.{job_says}
-use Rattle.edit_session.specs.declared.limits.Limits.{Limits}
-use Rattle.edit_session.specs.declared.loading.Found.{Found}
-use Rattle.edit_session.specs.declared.loading.Found.TheVariants as found
-use Rattle.edit_session.specs.Given.{Given}
-use Rattle.edit_session.specs.Load.{found_in}
-use Rattle.edit_session.specs.Session.{states_before}
-use Rattle.edit_session.specs.Settled.{confirmed}
-use Rattle.edit_session.specs.Turn.{step_turn}
+use Rattle.edit_steps.specs.declared.limits.Limits.{Limits}
+use Rattle.edit_steps.specs.declared.loading.Found.{Found}
+use Rattle.edit_steps.specs.declared.loading.Found.TheVariants as found
+use Rattle.edit_steps.specs.Given.{Given}
+use Rattle.edit_steps.specs.Load.{found_in}
+use Rattle.edit_steps.specs.States.{states_before}
+use Rattle.edit_steps.specs.Settled.{confirmed}
+use Rattle.edit_steps.specs.Turn.{step_turn}
 
 -- a group that is open takes jobs, and is given up where one is refused
 abbrev pub is_running : Group → Bool

@@ -20,9 +20,9 @@ use Rattle.editor_laws.specs.Answered.{KeepsAllBut}
 use Rattle.editor_laws.specs.Steps.{job_says}
 use Rattle.many_editors.specs.Meeting.{Meeting, first_editor, states}
 use Rattle.many_editors.specs.Serving.{told_of_state}
-use Rattle.edit_session.specs.declared.limits.Limits.{Limits}
-use Rattle.edit_session.specs.declared.loading.Found.{Found}
-use Rattle.edit_session.specs.Given.{Given}
+use Rattle.edit_steps.specs.declared.limits.Limits.{Limits}
+use Rattle.edit_steps.specs.declared.loading.Found.{Found}
+use Rattle.edit_steps.specs.Given.{Given}
 use Rattle.edit_session.specs.Meet.{Seat, found_by, meet_step, own}
 use Rattle.edit_session.specs.Said.{act_says, is_running}
 

@@ -16,12 +16,12 @@ use Rattle.edit_script.specs.declared.step.Step.{Step}
 use Rattle.edit_script.specs.declared.reply.StepReply.TheVariants.{Done}
 use Rattle.edit_script.specs.Reply.{reply_line}
 use Rattle.edit_history.specs.Machine.{State, fresh}
-use Rattle.edit_session.specs.declared.limits.Limits.{Limits}
-use Rattle.edit_session.specs.declared.loading.Found.TheVariants.{Bytes}
-use Rattle.edit_session.specs.Given.{Given}
-use Rattle.edit_session.specs.Limits.{limits_of}
+use Rattle.edit_steps.specs.declared.limits.Limits.{Limits}
+use Rattle.edit_steps.specs.declared.loading.Found.TheVariants.{Bytes}
+use Rattle.edit_steps.specs.Given.{Given}
+use Rattle.edit_steps.specs.Limits.{limits_of}
 use Rattle.edit_session.specs.Session.{line_given}
-use Rattle.edit_session.specs.Turn.{done_turn, resume_turn, step_text, step_turn}
+use Rattle.edit_steps.specs.Turn.{done_turn, resume_turn, step_text, step_turn}
 use Rattle.edit_session.specs.Uploads.{run_of}
 
 -- The text stands behind the step's reply. Where the table has no more entries than a limit, the text gives the table again: in

@@ -10,7 +10,8 @@
 ghost use Rattle.std.specs.Prelude.{◌≡◌, ◌++◌, IfOk, OnErr, map, string_bytes};
 ghost use Rattle.tool_api.specs.declared.verb.Verb.{Verb};
 ghost use Rattle.edit_history.specs.Trail.{KeepNothing};
-ghost use Rattle.edit_session.specs.Right.{outside, IsRight};
+ghost use Rattle.edit_session.specs.Moment.{outside};
+ghost use Rattle.edit_session.specs.Right.{IsRight};
 ghost use Rattle.edit_session.specs.Verbs.{IsNew, IsOfFour, four_of, four_of_each};
 
 use crate::session::run_session;

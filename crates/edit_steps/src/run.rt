@@ -1,0 +1,121 @@
+//! The steps of a script, run one after the other.
+ghost use Rattle.std.specs.Prelude.{◌≡◌, false, OnOk, OnErr};
+ghost use Rattle.std.specs.Io.KnownBytes.{Appends};
+ghost use Rattle.osm_outside.specs.Outside.{AppendsFront, HasCauseOf};
+ghost use Rattle.edit_script.specs.Order.{IsOrderly};
+ghost use Rattle.edit_steps.specs.Asked.{MayTake, MayRunAll};
+ghost use Rattle.edit_steps.specs.Load.{MayFind};
+ghost use Rattle.edit_steps.specs.Planned.{IsSized};
+ghost use Rattle.edit_history.specs.Moved.{Fits};
+ghost use Rattle.edit_steps.specs.Send.{Plays};
+ghost use Rattle.edit_steps.specs.States.{StepsRan};
+ghost use Rattle.edit_steps.specs.Stop.{StopCause};
+ghost use Rattle.edit_steps.specs.Turn.{turn, behind_text, response_text};
+ghost use Rattle.edit_steps.specs.declared.sending.WriteError.TheVariants.{Fault};
+
+use crate::limits::Limits;
+use crate::loading::{Found, find};
+use crate::response::{Behind, Response};
+use crate::sending::{
+    WriteError, send_changes, send_conflicts, send_count, send_findings, send_found,
+    send_rehearsed, send_reply, send_saved, send_sent, send_table,
+};
+use crate::stop::Stop;
+use crate::turns::take_turn;
+use dataset::DataSet;
+use edit_history::History;
+use edit_script::Step;
+use osm_outside::{Shelf, Sink};
+use std::alloc::Global;
+
+/// Runs the steps from the first state on. Each is read from the shelf first, then it moves the history, then its reply
+/// and the text behind it are written.
+///
+/// # Errors
+/// The shelf or the sink failed, or no memory was left. A front of the text was written.
+pub fn run_steps<S: Shelf, K: Sink>(
+    alloc: Global,
+    limits: Limits,
+    shelf: &mut S,
+    out: &mut K,
+    history: &mut History,
+    steps: &[Step],
+) -> Result<(), Stop>
+    requires fits { Fits (λ b. done (b.vtable, b.value)) (λ b. undone (b.vtable, b.value)) (λ b. kind (b.vtable, b.value)) history.old (MayRunAll steps.now) }
+    requires orderly { IsOrderly false steps.now }
+    ensures told { S.told shelf.new ≡ S.told shelf.old }
+    ensures ran { StepsRan limits (S.told shelf.old) (K.taken out.old) (K.taken out.new) result steps.now }
+    ensures cause { StopCause (S.faults shelf.old) (S.faults shelf.new) (K.faults out.old) (K.faults out.new) result }
+{
+    for step in steps {
+        history.ds().sound();
+        let found = find(alloc, limits, shelf, history.group(), &step.act)?;
+        run_step(alloc, limits, out, history, step, &found)?;
+    }
+    Ok(())
+}
+
+// Runs one step: what it does, its reply, and the text behind the reply.
+fn run_step<K: Sink>(
+    alloc: Global,
+    limits: Limits,
+    out: &mut K,
+    history: &mut History,
+    step: &Step,
+    found: &Found,
+) -> Result<(), WriteError>
+    requires fits { Fits (λ b. done (b.vtable, b.value)) (λ b. undone (b.vtable, b.value)) (λ b. kind (b.vtable, b.value)) history.old (MayTake step.now.act) }
+    requires found { MayFind step.now.act found.now }
+    ensures plays { Plays (λ b. done (b.vtable, b.value)) (λ b. undone (b.vtable, b.value)) (λ b. kind (b.vtable, b.value)) history.old history.new (K.taken out.old) (K.taken out.new) result step.now.line (turn limits found.now step.now.act) }
+    ensures cause { HasCauseOf Fault (K.faults out.old) (K.faults out.new) result }
+{
+    let response = take_turn(alloc, limits, history, &step.act, found)?;
+    send_response(alloc, out, step.line, &response, history.ds())
+}
+
+/// Sends the reply line, and the text behind it.
+///
+/// # Errors
+/// The sink failed, or no memory was left. A front of the text may have been written.
+#[tactic(auto, using(osm_outside::proofs::Along::front_of_first, osm_outside::proofs::Along::front_of_second))]
+pub fn send_response<K: Sink>(
+    alloc: Global,
+    out: &mut K,
+    line: u64,
+    response: &Response,
+    ds: &DataSet,
+) -> Result<(), WriteError>
+    requires { IsSized response.now.behind }
+    ensures ok { OnOk result (Appends (K.taken out.old) (K.taken out.new) (response_text line response.now ds.now)) }
+    ensures err { OnErr result (AppendsFront (K.taken out.old) (K.taken out.new) (response_text line response.now ds.now)) }
+    ensures cause { HasCauseOf Fault (K.faults out.old) (K.faults out.new) result }
+{
+    send_reply(alloc, out, line, &response.reply)?;
+    send_behind(alloc, out, &response.behind, ds)
+}
+
+// The text behind a reply.
+fn send_behind<K: Sink>(
+    alloc: Global,
+    out: &mut K,
+    behind: &Behind,
+    ds: &DataSet,
+) -> Result<(), WriteError>
+    requires { IsSized behind.now }
+    ensures ok { OnOk result (Appends (K.taken out.old) (K.taken out.new) (behind_text behind.now ds.now)) }
+    ensures err { OnErr result (AppendsFront (K.taken out.old) (K.taken out.new) (behind_text behind.now ds.now)) }
+    ensures cause { HasCauseOf Fault (K.faults out.old) (K.faults out.new) result }
+{
+    match behind {
+        Behind::Nothing => Ok(()),
+        Behind::Table => send_table(alloc, out, ds),
+        Behind::Counts => send_count(alloc, out, ds),
+        Behind::Conflicts => send_conflicts(alloc, out, ds),
+        Behind::Saved => send_saved(alloc, out, ds),
+        Behind::Changes { changes, size } => send_changes(out, changes, *size),
+        Behind::Rehearsed(count) => send_rehearsed(alloc, out, *count),
+        Behind::Found(keys) => send_found(alloc, out, ds, keys.as_slice()),
+        Behind::Findings(findings) => send_findings(alloc, out, findings),
+        Behind::Sent(count, refused) => send_sent(alloc, out, *count, *refused),
+    }
+}
