@@ -467,5 +467,5 @@ seat = record { editor = 0; meeting = record { world = server; earlier = []; edi
 -- What is promised of that step says that the server had there what the editor's table has as base.
 found_there : IsMet limits None sending seat → stands server n1 ≡ Some (in_version 1 (dot first_place))
 found_there met =
-    let finds : stands server n1 ≡ Some (object_told (option_map_or base_in (entry_of of_one n1) New)) = (met.begun.seen 1 (eastwards ∷ []) refl one_sent accepted).0 in
+    let finds : stands server n1 ≡ Some (object_told (option_map_or base_in (entry_of of_one n1) New)) = (met.begun.seen 1 (eastwards ∷ []) refl one_sent (pos 0) accepted).0 in
     finds ∙ ap (λ (o : Option Entry). Some (object_told (option_map_or base_in o New))) (fin.get-from_sorted rank_cmp ((n1, moved) ∷ []) n1 tt)

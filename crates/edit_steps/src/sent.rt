@@ -52,7 +52,7 @@ fn write_carried(why: WorldRefusal, out: &mut Vec<u8>) -> Result<(), AllocError>
     ensures kept { OnErr result (Extends out.old.items out.new.items) }
 {
     match why {
-        WorldRefusal::OldVersion { has } => write_part(b" ", u64::from(has), out),
+        WorldRefusal::OldVersion { has } => write_part(b" ", has, out),
         WorldRefusal::BadRef(key) | WorldRefusal::Used(key) => {
             out.push(b' ')?;
             write_key(key, out)

@@ -32,12 +32,14 @@ use Rattle.many_editors.specs.declared.act.MeetAct.{MeetAct}
 use Rattle.many_editors.specs.declared.act.MeetAct.TheVariants as act
 use Rattle.many_editors.specs.States.{IsFromStates, IsServer}
 use Rattle.many_editors.specs.Serving.{told_of_state}
-use Rattle.many_editors.specs.Sending.{version_end, ArePicked}
+use Rattle.many_editors.specs.Sending.{version_end}
 use Rattle.many_editors.specs.Meeting.{Editor, Meeting, states, at_editor, at_work, first_editor, first_editors, served, stepped}
 use Rattle.many_editors.specs.Acts.{lifted, fetch_met, changes_met, send_met, met_at_work, met_by, met_of, met}
 use Rattle.many_editors.specs.Own.{own_wait}
 use Rattle.many_editors.specs.Laws.{AllKeysStand, IsAbsent, IsNewId, IsUnmentioned, KeysStand, MayKeepSound, OfEachTable}
 use Rattle.many_editors.specs.Sound.{MayWait, IsFrom, IsSoundMeeting, KeepsSound}
+use Rattle.many_editors.proofs.Fetching.{tells_state}
+use Rattle.many_editors.proofs.Lifting.{all_at}
 use Rattle.many_editors.proofs.Stating.{keeps_states, empty_states, mentioned_stands, unmentioned}
 use Rattle.many_editors.proofs.Merging.{fetched_states}
 use Rattle.many_editors.proofs.Waiting.{each_map, here, at_sound, answered_sound, lost_sound, sent_sound}
@@ -57,18 +59,17 @@ module _ (m : Meeting) (s : IsSoundMeeting m) (n : ℕ) (e : Editor) (at : slice
       fetch_sound area wanted back None get = at_sound m s n e at (λ e. at_work (refused_in e.state.group e.state)) (record { tables = refused_tables (IsFromStates (states m)) e.state.group e.state tables; waits = tt })
       fetch_sound area wanted back (Some objects) get =
           let told = told_of_state objects area wanted in
-          step_sound (job_move limit (job.Merge told)) (job_tables (IsFromStates (states m)) limit (job.Merge told) e.state (fetched_states (states m) back objects area wanted e.state.now limit s.servers get is tables.now) tables)
+          step_sound (job_move limit (job.Merge told)) (job_tables (IsFromStates (states m)) limit (job.Merge told) e.state (fetched_states (states m) back objects told e.state.now limit s.servers get (tells_state objects (all_at IsServer (states m) back objects s.servers get) area wanted) is tables.now) tables)
 
-      changes_sound : (count : ℕ) (changes : List Change) → upload e.state.now ≡ Ok changes → e.state.group ≡ Outside → (version_end (take count changes) ≡ None → ArePicked e.state.now m.world (take count changes))
-          → (end : Option Key) → version_end (take count changes) ≡ end → IsSoundMeeting (changes_met n (take count changes) e.state end m).meeting
-      changes_sound count changes ok outside picked None end = sent_sound m s n e at changes count is ok outside (picked end) end
-      changes_sound count changes ok outside picked (Some k) end = s
+      changes_sound : (count : ℕ) (changes : List Change) → upload e.state.now ≡ Ok changes → e.state.group ≡ Outside → (end : Option Key) → version_end (take count changes) ≡ end → IsSoundMeeting (changes_met n (take count changes) e.state end m).meeting
+      changes_sound count changes ok outside None end = sent_sound m s n e at changes count is ok outside end
+      changes_sound count changes ok outside (Some k) end = s
 
-      send_sound : (count : ℕ) → KeepsSound (act.Send count) e.state m.world → (r : Result (List Change) PlanRefusal) → upload e.state.now ≡ r → IsSoundMeeting (send_met n count e.state r m).meeting
+      send_sound : (count : ℕ) → e.state.group ≡ Outside → (r : Result (List Change) PlanRefusal) → upload e.state.now ≡ r → IsSoundMeeting (send_met n count e.state r m).meeting
       send_sound count may (Err why) plan = s
-      send_sound count may (Ok changes) plan = changes_sound count changes plan may.0 (may.1 changes plan) (version_end (take count changes)) refl
+      send_sound count may (Ok changes) plan = changes_sound count changes plan may (version_end (take count changes)) refl
 
-      work_sound : (act : MeetAct) → KeepsSound act e.state m.world → IsSoundMeeting (met_at_work limit n act e.state m).meeting
+      work_sound : (act : MeetAct) → KeepsSound act e.state → IsSoundMeeting (met_at_work limit n act e.state m).meeting
       work_sound (act.Fetch back area wanted) may = fetch_sound area (option_map (λ tags. tags.now) wanted) back (slice_get (states m) back) refl
       work_sound (act.Own step) may = step_sound (edited limit step) (kept_tables (IsFromStates (states m)) (keeps_states (states m)) limit step e.state may tables)
       work_sound (act.Send count) may = send_sound count may (upload e.state.now) refl
@@ -81,11 +82,11 @@ module _ (m : Meeting) (s : IsSoundMeeting m) (n : ℕ) (e : Editor) (at : slice
   wait_sound act.Lost answers waits = lost_sound m s n e at
   wait_sound act answers waits = at_sound m s n e at (λ x. x) (here m s n e at)
 
-  by_sound : (limit : ℕ) (act : MeetAct) → IsSound e.state.now → (e.waits ≡ None → KeepsSound act e.state m.world) → (o : Option (List Answer)) → e.waits ≡ o → IsSoundMeeting (met_by limit n act e o m).meeting
+  by_sound : (limit : ℕ) (act : MeetAct) → IsSound e.state.now → (e.waits ≡ None → KeepsSound act e.state) → (o : Option (List Answer)) → e.waits ≡ o → IsSoundMeeting (met_by limit n act e o m).meeting
   by_sound limit act is may None waits = work_sound waits is limit act (may waits)
   by_sound limit act is may (Some answers) waits = wait_sound act answers waits
 
-of_sound : (limit n : ℕ) (act : MeetAct) (m : Meeting) → IsSoundMeeting m → (o : Option Editor) → slice_get m.editors n ≡ o → ((e : Editor) → o ≡ Some e → IsSound e.state.now × (e.waits ≡ None → KeepsSound act e.state m.world)) → IsSoundMeeting (met_of (λ e. met_by limit n act e e.waits) o m).meeting
+of_sound : (limit n : ℕ) (act : MeetAct) (m : Meeting) → IsSoundMeeting m → (o : Option Editor) → slice_get m.editors n ≡ o → ((e : Editor) → o ≡ Some e → IsSound e.state.now × (e.waits ≡ None → KeepsSound act e.state)) → IsSoundMeeting (met_of (λ e. met_by limit n act e e.waits) o m).meeting
 of_sound limit n act m s None at may = s
 of_sound limit n act m s (Some e) at may = let x = may e refl in by_sound m s n e at limit act x.0 x.1 e.waits refl
 

@@ -28,7 +28,7 @@ use Rattle.many_editors.specs.Asked.{MayAct, MayTry, MayWork, IsSeen, NeverClash
 use Rattle.many_editors.specs.Meeting as seen
 use Rattle.many_editors.specs.Meeting.{states}
 use Rattle.many_editors.specs.Own.{kept, own_step, own_wait, own_waiting, IsTaken, IsWaiting, MayOwnStep, MayTake}
-use Rattle.many_editors.specs.Parts.{fetched, sent_at, IsAt, IsPickedAt, MayFetch, MaySend}
+use Rattle.many_editors.specs.Parts.{fetched, sent_at, IsAt, MayFetch, MaySend}
 use Rattle.many_editors.specs.Shown.{shown_editor, shown_meeting, verbs_met, ComesOf, FitsEditor, FitsMeeting, MovedEditor, MovedMeeting, ValidMeeting}
 use Rattle.many_editors.specs.Laws.{AllKeysStand, HasSoundTable}
 use Rattle.many_editors.specs.Sound.{IsSoundMeeting, KeepsSound, MayWait}
@@ -132,13 +132,13 @@ module _ {X : Type 0} {F : X → Type 0} (done undone : DynBox X Global F → Li
     step_clash limit new result moved =
         IfOk-weaker result (λ r. r ≡ (met limit n a m).reply) (NeverClashes a) (λ r is. subst (NeverClashes a) (sym is) (met_calm m fits.valid.sound limit n a)) moved.reply
 
-    stays : (limit : ℕ) → (e.waits ≡ None → KeepsSound a e.state old.world) → IsSoundMeeting (met limit n a m).meeting
+    stays : (limit : ℕ) → (e.waits ≡ None → KeepsSound a e.state) → IsSoundMeeting (met limit n a m).meeting
     stays limit keeps =
         met_sound limit n a m fits.valid.sound
-        (record { table = tables; keeps = λ f h waits. subst (λ (g : seen.Editor). KeepsSound a g.state old.world) (is_it f h) (keeps (ap (λ (g : seen.Editor). g.waits) (is_it f h) ∙ waits)) })
+        (record { table = tables; keeps = λ f h waits. subst (λ (g : seen.Editor). KeepsSound a g.state) (is_it f h) (keeps (ap (λ (g : seen.Editor). g.waits) (is_it f h) ∙ waits)) })
 
-    stays_as : (limit : ℕ) (b : MeetAct) → a ≡ b → KeepsSound b e.state old.world → IsSoundMeeting (met limit n a m).meeting
-    stays_as limit b is keeps = stays limit (λ none. subst (λ c. KeepsSound c e.state old.world) (sym is) keeps)
+    stays_as : (limit : ℕ) (b : MeetAct) → a ≡ b → KeepsSound b e.state → IsSoundMeeting (met limit n a m).meeting
+    stays_as limit b is keeps = stays limit (λ none. subst (λ c. KeepsSound c e.state) (sym is) keeps)
 
     module _ {E : Type 0} (limit : ℕ) (new : Meeting X F) (result : Result MeetReply E) where
       -- the editor moved alone
@@ -164,12 +164,11 @@ module _ {X : Type 0} {F : X → Type 0} (done undone : DynBox X Global F → Li
           (met_here limit None (works idle) ∙ ap (λ b. met_by limit n b e None m) is ∙ ap (λ p. met_of (λ f. fetch_met limit n area (option_map (λ tags. tags.now) wanted) f.state (slice_get (states m) back)) p m) (sym shows))
           (always result _ (stays_as limit (act.Fetch back area wanted) is tt))
 
-      pub send_moved : is_some x.waiting ≡ false → (count : ℕ) → a ≡ act.Send count → ComesOf done undone kind old new result (sent_at n count) → OnOk result (IsPickedAt n count m) → MovedMeeting done undone kind old new result (met limit n a)
-      send_moved idle count is comes picked =
+      pub send_moved : is_some x.waiting ≡ false → (count : ℕ) → a ≡ act.Send count → ComesOf done undone kind old new result (sent_at n count) → MovedMeeting done undone kind old new result (met limit n a)
+      send_moved idle count is comes =
           moved_by done undone kind old new result (met limit n a) (sent_at n count) comes
           (met_here limit None (works idle) ∙ ap (λ b. met_by limit n b e None m) is ∙ ap (λ p. met_of (λ f. send_met n count f.state (upload f.state.now)) p m) (sym shows))
-          (IfOk-weaker result (λ _. IsPickedAt n count m) (λ _. IsSoundMeeting (met limit n a m).meeting)
-          (λ _ p. stays_as limit (act.Send count) is (work_as idle (act.Send count) is, λ changes up end. p e changes shows up end)) picked)
+          (always result _ (stays_as limit (act.Send count) is (work_as idle (act.Send count) is)))
 
   -- no answer is to come
   pub none_waits : {E : Type 0} (limit : ℕ) (b : MeetAct) → is_some x.waiting ≡ false → a ≡ b → met_by limit n b e None m ≡ refused NotWaiting m → MovedMeeting {E = E} done undone kind old old (Ok (Refused NotWaiting)) (met limit n a)

@@ -5,7 +5,6 @@ use Rattle.std.specs.Option.{option_map}
 use Rattle.std.specs.declared.dyn_box.DynBox.{DynBox}
 use Rattle.std.specs.declared.alloc.Global.{Global}
 use Rattle.std.proofs.lemmas.List.{length-reverse, map-set}
-use Rattle.std.proofs.lemmas.Result.{IfOk-weaker}
 use Rattle.osm_base.specs.Tags.{Pair}
 use Rattle.osm_base.specs.declared.area.Area.{Area}
 use Rattle.osm_base.specs.declared.key.Key.{Key}
@@ -24,11 +23,10 @@ use Rattle.edit_history.specs.Moved.{MayRun}
 use Rattle.edit_history.specs.Steps.{job_move}
 use Rattle.upload_order.specs.declared.change.Change.{Change}
 use Rattle.upload_order.specs.Refused.{upload}
-use Rattle.upload_order.proofs.Basics.{both, none_some}
+use Rattle.upload_order.proofs.Basics.{both}
 use Rattle.upload_order.specs.World.{World}
 use Rattle.server_world.specs.Codes.{Objects}
 use Rattle.server_world.specs.declared.refusal.WorldRefusal.{WorldRefusal}
-use Rattle.placeholder.specs.declared.answer.Answer.{Answer}
 use Rattle.many_editors.specs.declared.act.MeetAct.TheVariants as act
 use Rattle.many_editors.specs.declared.editor.Editor.{Editor}
 use Rattle.many_editors.specs.declared.editor.Waiting.{Waiting}
@@ -40,13 +38,13 @@ use Rattle.many_editors.specs.declared.reply.MeetRefusal.TheVariants as refusal
 use Rattle.many_editors.specs.Acts.{Met, changes_met, fetch_met, lifted, met_of, refused, send_met}
 use Rattle.many_editors.specs.Earlier.{states_before}
 use Rattle.many_editors.specs.Left.{changes_sent, first_planned}
-use Rattle.many_editors.specs.Parts.{changes_at, fetched, sent_at, ArePickedAt, IsAt, IsPickedAt, MayFetch}
+use Rattle.many_editors.specs.Parts.{changes_at, fetched, sent_at, IsAt, MayFetch}
 use Rattle.many_editors.specs.declared.sending.Outcome.{Outcome}
 use Rattle.many_editors.specs.Logged.{earlier_by, sent_by, HasTaken, IsOutcome, IsSent}
 use Rattle.many_editors.specs.Meeting as seen
 use Rattle.many_editors.specs.Meeting.{states, waiting_for, IfEditor}
 use Rattle.many_editors.specs.Own.{own_fetch, own_no_state, own_step, IsAtWork, MayOwnStep}
-use Rattle.many_editors.specs.Sending.{version_end, ArePicked, TookFirst}
+use Rattle.many_editors.specs.Sending.{version_end, TookFirst}
 use Rattle.many_editors.specs.Serving.{told_objects}
 use Rattle.many_editors.specs.Shown.{shown_editor, shown_meeting, verbs_met, AreValid, ComesOf, FitsEditor, LeftMeeting, MovedEditor, ValidEditor}
 use Rattle.many_editors.specs.States.{IsServer}
@@ -91,12 +89,6 @@ back_tellable ms back objects servers is =
 
 module _ {X : Type 0} {F : X → Type 0} (done undone : DynBox X Global F → List PatchValue) where
   module _ (old : Meeting X F) (n : ℕ) (x : Editor X F) (at : slice_get old.editors.items n ≡ Some x) where
-    pub send_picked : (new : Meeting X F) (changes : List Change) (answers : List Answer) (why : Option WorldRefusal) (t : TableValue) → t ≡ (shown done undone x.history).now
-        → IsSent t changes old.world old.log.items new.world new.log.items answers why → ArePickedAt n changes (shown_meeting done undone old)
-    send_picked new changes answers why t table sent e h =
-        subst (λ (f : seen.Editor). ArePicked f.state.now old.world changes) (both (shown_editor done undone x) e _ (shown_at done undone old n x at) h)
-        (subst (λ (u : TableValue). ArePicked u old.world changes) table sent.picked)
-
     -- the editor is at the plan's table
     pub is_planned : (changes : List Change) (t : TableValue) → t ≡ (shown done undone x.history).now → upload t ≡ Ok changes → IfEditor n (shown_meeting done undone old) (λ e. upload e.state.now ≡ Ok changes)
     is_planned changes t table plan = subst (λ o. IfSome o (λ (e : seen.Editor). upload e.state.now ≡ Ok changes)) (sym (shown_at done undone old n x at)) (ap upload (sym table) ∙ plan)
@@ -110,19 +102,6 @@ module _ {X : Type 0} {F : X → Type 0} (done undone : DynBox X Global F → Li
           let m = shown_meeting done undone old in
           let s = shown done undone x.history in
           ap (λ o. met_of (λ e. send_met n count e.state (upload e.state.now)) o m) (shown_at done undone old n x at) ∙ ap (λ r. send_met n count s r m) (sym (ap upload table) ∙ plan)
-
-      -- the plan of the editor is that one
-      planned : (e : seen.Editor) (others : List Change) → slice_get (shown_meeting done undone old).editors n ≡ Some e → upload e.state.now ≡ Ok others → changes ≡ others
-      planned e others h up =
-          same_ok (upload t) changes others plan (ap upload table ∙ ap (λ (f : seen.Editor). upload f.state.now) (both (shown_editor done undone x) e _ (shown_at done undone old n x at) h) ∙ up)
-
-      pub end_picked : (k : Key) → version_end (take count changes) ≡ Some k → IsPickedAt n count (shown_meeting done undone old)
-      end_picked k end e others h up none = none_some k (version_end (take count others)) none (ap (λ cs. version_end (take count cs)) (sym (planned e others h up)) ∙ end)
-
-      pub out_picked : {E : Type 0} (result : Result MeetReply E) → OnOk result (ArePickedAt n (take count changes) (shown_meeting done undone old)) → OnOk result (IsPickedAt n count (shown_meeting done undone old))
-      out_picked result picked =
-          IfOk-weaker result (λ _. ArePickedAt n (take count changes) (shown_meeting done undone old)) (λ _. IsPickedAt n count (shown_meeting done undone old))
-          (λ _ p e others h up none. subst (ArePicked e.state.now old.world) (ap (take count) (planned e others h up)) (p e h)) picked
 
 module _ {X : Type 0} {F : X → Type 0} (done undone : DynBox X Global F → List PatchValue) (kind : DynBox X Global F → Verb) where
   -- what comes of one definition comes of another that does the same

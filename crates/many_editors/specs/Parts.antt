@@ -1,5 +1,5 @@
 -- The parts of an act of a meeting: what each asks of the n-th editor, and what comes of it.
-use Rattle.std.specs.Prelude.{◌≡◌, ◌<◌, ℕ, List, [], length, take, get_or, slice_get, Option, Some, None, Ok}
+use Rattle.std.specs.Prelude.{◌≡◌, ◌<◌, ℕ, List, [], length, get_or, slice_get, Option, Some, None}
 use Rattle.osm_base.specs.Tags.{Pair}
 use Rattle.osm_base.specs.declared.area.Area.{Area}
 use Rattle.tool_api.specs.declared.verb.Verb.{Verb}
@@ -9,7 +9,6 @@ use Rattle.upload_order.specs.Refused.{upload}
 use Rattle.many_editors.specs.Acts.{Met, changes_met, fetch_met, met_at, send_met}
 use Rattle.many_editors.specs.Asked.{MayMerge}
 use Rattle.many_editors.specs.Meeting.{Editor, Meeting, states}
-use Rattle.many_editors.specs.Sending.{ArePicked, version_end}
 
 -- a fetch of an editor at work
 abbrev pub fetched : ℕ → ℕ → ℕ → Option Area → Option (List Pair) → Meeting → Met
@@ -37,12 +36,3 @@ pub record MayFetch (e : Editor) (verbs : List Verb) : Type 0 where
 pub record MaySend (e : Editor) (verbs : List Verb) : Type 0 where
   pub work : e.waits ≡ None
   pub outside : e.state.group ≡ Outside
-
--- Each id that was picked for the changes may be one.
-abbrev pub ArePickedAt : ℕ → List Change → Meeting → Type 0
-ArePickedAt n changes m = (e : Editor) → slice_get m.editors n ≡ Some e → ArePicked e.state.now m.world changes
-
--- the same for the changes that are sent
-abbrev pub IsPickedAt : ℕ → ℕ → Meeting → Type 0
-IsPickedAt n count m =
-    (e : Editor) (changes : List Change) → slice_get m.editors n ≡ Some e → upload e.state.now ≡ Ok changes → version_end (take count changes) ≡ None → ArePicked e.state.now m.world (take count changes)

@@ -12,7 +12,7 @@ ghost use Rattle.many_editors.specs.Boxed.{shown_meeting, verbs_met, AreValid, C
 ghost use Rattle.many_editors.specs.Laws.{AllKeysStand};
 ghost use Rattle.many_editors.specs.Left.{changes_sent};
 ghost use Rattle.many_editors.specs.Meeting.{first_meeting, joined, IfEditor};
-ghost use Rattle.many_editors.specs.Parts.{changes_at, fetched, sent_at, ArePickedAt, IsAt, IsPickedAt, MayFetch, MaySend};
+ghost use Rattle.many_editors.specs.Parts.{changes_at, fetched, sent_at, IsAt, MayFetch, MaySend};
 ghost use Rattle.many_editors.specs.Sending as sending;
 ghost use Rattle.many_editors.specs.Serving.{objects_served, with_served};
 ghost use Rattle.many_editors.specs.Shown as shown;
@@ -220,7 +220,6 @@ impl Meeting {
         requires valid { AreValid done undone self.old }
         requires asked { IsAsked done undone kind self.old (IsAt editor MaySend) }
         ensures comes { ComesOf done undone kind self.old self.new result (sent_at editor count) }
-        ensures picked { OnOk result (IsPickedAt editor count (shown_meeting done undone self.old)) }
         ensures left { OnErr result (LeftMeeting done undone kind editor (changes_sent (act.Send count)) self.old self.new) }
     {
         let changes = match plan(self.editors[editor].history.ds()) {
@@ -246,7 +245,6 @@ impl Meeting {
         requires planned { IfEditor editor (shown_meeting done undone self.old) (λ e. upload e.state.now ≡ Ok changes) }
         requires before_end { sending.version_end (take count changes) ≡ None }
         ensures comes { ComesOf done undone kind self.old self.new result (changes_at editor (take count changes)) }
-        ensures picked { OnOk result (ArePickedAt editor (take count changes) (shown_meeting done undone self.old)) }
         ensures left { OnErr result (LeftMeeting done undone kind editor (λ _. take count changes) self.old self.new) }
     {
         let alloc = self.alloc();
@@ -279,7 +277,7 @@ fn serve_batch(world: &mut World, objects: &[OplObject]) -> Result<(), AllocErro
     ensures { OnOk result (world.new ≡ record { entries = with_served world.old.entries objects.now; names = world.old.names }) }
 {
     for object in objects {
-        let entry = WorldEntry::new(object.version, copied(object.side.as_ref())?);
+        let entry = WorldEntry::new(u64::from(object.version), copied(object.side.as_ref())?);
         world.put(object.key, entry)?;
     }
     Ok(())

@@ -1,10 +1,9 @@
 -- The keys that changes meet have all that these ask for, and the objects of these keys are a part of the server of the bases.
-use Rattle.std.proofs.Common.{◌≡◌, Bool, true, false, cond, not, ◌&&◌, ◌||◌, List, [], ◌∷◌, ◌++◌, Option, Some, None, is_some, refl, sym, ◌∙◌, ap, subst, inl, inr}
+use Rattle.std.proofs.Common.{◌≡◌, Bool, true, false, cond, not, ◌&&◌, List, [], ◌∷◌, ◌++◌, Option, Some, None, is_some, refl, sym, ◌∙◌, ap, subst, inl, inr}
 use Rattle.std.specs.Prelude.{◌⊎◌}
 use Rattle.std.specs.List.{list_any, AllByRecursion}
 use Rattle.std.specs.Option.{option_map_or, option_or}
-use Rattle.std.specs.FinMap as fin
-use Rattle.std.proofs.lemmas.Bool.{cases_Bool, or_left, or_right, or_cases}
+use Rattle.std.proofs.lemmas.Bool.{or_left, or_right, or_cases}
 use Rattle.std.proofs.lemmas.List.Folds.{list_any-append}
 use Rattle.osm_base.specs.Rank.{is_key}
 use Rattle.osm_base.specs.Content.{refs_of, refers}
@@ -25,13 +24,12 @@ use Rattle.upload_order.specs.declared.change.Change.TheVariants.{Create, Modify
 use Rattle.upload_order.specs.Kinds.{at_key, content_refers, held_at, held_of, held_refers}
 use Rattle.upload_order.specs.Part.{changed_keys}
 use Rattle.upload_order.specs.Rename.{is_positive}
-use Rattle.upload_order.specs.World.{World, WorldEntry, stands, is_known}
+use Rattle.upload_order.specs.World.{WorldEntry, stands, is_known}
 use Rattle.upload_order.proofs.Basics.{none_some}
-use Rattle.upload_order.proofs.Entries.{IsIn, any_in, in_any}
-use Rattle.upload_order.proofs.Lists.{any_is, any_of}
+use Rattle.upload_order.proofs.Entries.{IsIn, any_in}
 use Rattle.upload_order.proofs.Vouchers.{any_there, changed_in, entry_in, same_bool}
 use Rattle.server_world.specs.Asked.{with_asked, with_deleted, with_each, with_users, with_unknown, keys_met, of_those}
-use Rattle.server_world.specs.Bases.{of_base, of_entry, of_mention, is_mentioned, standing, of_bases}
+use Rattle.server_world.specs.Bases.{of_base, of_entry, of_mention, of_bases}
 use Rattle.server_world.specs.Putting.{based, empty_object}
 use Rattle.server_world.proofs.Based.{bases_stand, those_put}
 use Rattle.server_world.proofs.Partial.{Covers, HasMet, IsLeftOut, IsPart, no_user, user_held, same_conclusion}

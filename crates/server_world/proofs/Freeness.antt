@@ -44,7 +44,8 @@ start_on w t kind id start less taken = record {
 pub first_start : (w : World) (t : TableValue) (kind : Kind) → IsStart w t kind 1
 first_start w t kind = record { least = omega arith; most = omega arith; below = λ n l g. absurd (omega (arith, l, g)) }
 
-neither : {A B : Type 0} (a : Option A) (b : Option B) → (is_some a || is_some b) ≡ false → (a ≡ None) × (b ≡ None)
+-- of neither there is one
+pub neither : {A B : Type 0} (a : Option A) (b : Option B) → (is_some a || is_some b) ≡ false → (a ≡ None) × (b ≡ None)
 neither None None e = (refl, refl)
 neither None (Some y) e = cc
 neither (Some x) b e = cc

@@ -1,6 +1,7 @@
 mod Indexing
 mod Naming
 mod Freeness
+pub mod Enough
 mod Starting
 mod Based
 mod Rehearsals

@@ -1,11 +1,11 @@
 -- The part of a server that changes meet answers as the whole.
-use Rattle.std.proofs.Common.{◌≡◌, ℕ, ◌+◌, ◌-◌, ℤ, pos, Bool, true, false, cond, not, ◌&&◌, ◌||◌, List, [], ◌∷◌, ◌++◌, Option, Some, None, is_some, refl, sym, ◌∙◌, ap, subst, inl, inr}
-use Rattle.std.specs.Prelude.{◌⊎◌, nat_eq, if◌then◌else◌}
-use Rattle.std.specs.List.{find, list_any, AllByRecursion}
-use Rattle.std.specs.Option.{option_map, option_map_or, option_or, unwrap_or}
+use Rattle.std.proofs.Common.{◌≡◌, ℕ, ◌+◌, ◌-◌, ℤ, pos, Bool, true, false, cond, not, ◌||◌, List, [], ◌∷◌, Option, Some, None, is_some, refl, sym, ◌∙◌, ap, subst, inl, inr}
+use Rattle.std.specs.Prelude.{◌⊎◌, nat_eq}
+use Rattle.std.specs.List.{find}
+use Rattle.std.specs.Option.{option_map, option_map_or, unwrap_or}
 use Rattle.std.specs.FinMap as fin
 use Rattle.std.proofs.lemmas.Bool.{cases_Bool, or_right}
-use Rattle.osm_base.specs.Rank.{rank_cmp, is_key}
+use Rattle.osm_base.specs.Rank.{is_key}
 use Rattle.osm_base.specs.Content.{refs_of, refers, fits}
 use Rattle.osm_base.specs.RisingKeys.{is_in}
 use Rattle.osm_base.specs.declared.key.Kind.{Kind}
@@ -18,22 +18,21 @@ use Rattle.osm_table.specs.declared.entry.Base.{Base}
 use Rattle.osm_table.specs.declared.entry.Base.TheVariants.{New, Live, Gone}
 use Rattle.osm_table.specs.declared.entry.Entry.{Entry}
 use Rattle.osm_table.specs.declared.entry.Entry.TheVariants.{Incomplete, Known}
-use Rattle.osm_table.specs.declared.entry.Conflict.{Conflict}
 use Rattle.osm_table.specs.Same.{same_mine}
-use Rattle.osm_table.specs.Table.{TableValue, entry_of, held_by, is_changed, is_new, mine_of, users, uses, IsThere}
+use Rattle.osm_table.specs.Table.{TableValue, entry_of, held_by, is_changed, mine_of, users, uses, IsThere}
 use Rattle.osm_table.proofs.SameLaws.{same_mine_decides}
 use Rattle.dataset.specs.Sound.{IsSound}
 use Rattle.dataset.proofs.Listed.{user_uses}
 use Rattle.upload_order.specs.declared.change.Change.{Change}
 use Rattle.upload_order.specs.declared.change.Change.TheVariants.{Create, Modify, Delete}
-use Rattle.upload_order.specs.Kinds.{at_key, content_refers, held_at, held_of, held_refers}
-use Rattle.upload_order.specs.Rename.{Names, named, id_meant, meant, called, with_id, is_positive}
-use Rattle.upload_order.specs.World.{World, WorldEntry, Refusal, BadRef, Unfit, Exists, Missing, OldVersion, Used, stands, content_in, content_at, entry_refers, user_of, reaches, has_content, bad_ref, on_content, on_modify, on_delete, refusal, after, is_known, IsFresh}
+use Rattle.upload_order.specs.Kinds.{at_key, content_refers, held_of}
+use Rattle.upload_order.specs.Rename.{Names, named, meant, called, with_id, is_positive}
+use Rattle.upload_order.specs.World.{World, WorldEntry, Refusal, BadRef, Unfit, Exists, Missing, OldVersion, Used, stands, content_in, entry_refers, user_of, reaches, has_content, on_content, on_modify, on_delete, refusal, after, is_known, IsFresh}
 use Rattle.renamed_content.specs.Renamed.{renamed}
 use Rattle.upload_order.proofs.Basics.{both, key_same, at_key_put, at_other}
 use Rattle.upload_order.proofs.Entries.{in_any}
 use Rattle.server_world.specs.Bases.{empty_content, of_base, of_entry, of_mention, is_mentioned, standing}
-use Rattle.server_world.specs.Free.{is_taken, first_free, last_id, free_id, IsStart}
+use Rattle.server_world.specs.Free.{is_taken, first_free, last_id, free_id}
 use Rattle.server_world.specs.Sent.{pick_for}
 use Rattle.server_world.specs.Starts.{AreStarts, key_at}
 use Rattle.server_world.specs.declared.starts.Starts.{Starts}

@@ -1,5 +1,6 @@
 -- Ids that are free.
 use Rattle.std.specs.Prelude.{◌≡◌, ◌<◌, ◌≤◌, ℕ, zero, suc, ◌+◌, ◌-◌, ℤ, pos, Bool, true, ◌||◌, is_some, None, if◌then◌else◌}
+use Rattle.std.specs.FinMap as fin
 use Rattle.osm_base.specs.declared.key.Kind.{Kind}
 use Rattle.osm_base.specs.declared.key.Key.{Key}
 use Rattle.osm_table.specs.Table.{TableValue, entry_of}
@@ -15,9 +16,9 @@ abbrev pub first_free : (ℕ → Bool) → ℕ → ℕ → ℕ
 first_free taken zero n = n
 first_free taken (suc more) n = if taken n then first_free taken more (n + 1) else n
 
--- the greatest id, 2 ^ 63 - 1
+-- the greatest id, 10 ^ 18
 abbrev pub last_id : ℕ
-last_id = 9223372036854775807
+last_id = 1000000000000000000
 
 -- The least positive id of the kind that stands neither in the world nor in the table, and the greatest id where all
 -- below it do.
@@ -33,3 +34,11 @@ pub record IsStart (w : World) (t : TableValue) (kind : Kind) (from : ℕ) : Typ
 -- the id is positive, and stands neither in the world nor in the table
 abbrev pub IsFreeId : World → TableValue → Kind → ℤ → Type 0
 IsFreeId w t kind id = let k : Key = record { kind = kind; id = id } in (is_positive id ≡ true) × (stands w k ≡ None) × (entry_of t k ≡ None)
+
+-- as many objects as memory may have room for, 2 ^ 58: each takes more than 32 bytes, and there are fewer than 2 ^ 63
+abbrev pub most_objects : ℕ
+most_objects = 288230376151711744
+
+-- memory may have room for the world, and for the table
+abbrev pub FitsMemory : World → TableValue → Type 0
+FitsMemory w t = (fin.len w.entries ≤ most_objects) × (fin.len t.entries ≤ most_objects)

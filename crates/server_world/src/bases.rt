@@ -93,8 +93,8 @@ fn of_base(base: &Base) -> Result<Option<WorldEntry>, AllocError>
             version,
             content,
             ..
-        } => Ok(Some(WorldEntry::new(*version, Some(content.copy()?)))),
-        Base::Gone { version, .. } => Ok(Some(WorldEntry::new(*version, None))),
+        } => Ok(Some(WorldEntry::new(u64::from(*version), Some(content.copy()?)))),
+        Base::Gone { version, .. } => Ok(Some(WorldEntry::new(u64::from(*version), None))),
     }
 }
 

@@ -5,10 +5,10 @@ ghost use Rattle.std.specs.Option.{option_copied};
 use osm_base::Content;
 use std::marker::Model;
 
-/// The version of an object, and its content, if it isn't deleted.
+/// The version of an object, and its content, if it isn't deleted. A change names a version of 32 bits, so the one after it has room.
 #[derive(Debug, Drop)]
 pub struct WorldEntry {
-    version: u32,
+    version: u64,
     content: Option<Content>,
 }
 
@@ -25,14 +25,14 @@ impl Model for WorldEntry {
 
 impl WorldEntry {
     /// An object in this version.
-    pub fn new(version: u32, content: Option<Content>) -> WorldEntry
+    pub fn new(version: u64, content: Option<Content>) -> WorldEntry
         ensures { result ≡ record { version = version; content = content } }
     {
         WorldEntry { version, content }
     }
 
     /// The version.
-    pub fn version(&self) -> u32
+    pub fn version(&self) -> u64
         ensures { result ≡ self.now.version }
     {
         self.version

@@ -1,7 +1,7 @@
 //! Ids that are free.
-ghost use Rattle.std.specs.Prelude.{◌≡◌, ◌≤◌, is_some, pos};
+ghost use Rattle.std.specs.Prelude.{◌≡◌, ◌≤◌, is_some, pos, IsTrue};
 ghost use Rattle.osm_table.specs.Table.{entry_of};
-ghost use Rattle.server_world.specs.Free.{is_taken, free_id, last_id, IsStart};
+ghost use Rattle.server_world.specs.Free.{is_taken, free_id, last_id, FitsMemory, IsStart};
 
 use crate::starts::LAST_ID;
 use crate::world::World;
@@ -44,6 +44,16 @@ pub fn is_taken(world: &World, ds: &DataSet, near: &mut usize, kind: Kind, id: u
         id: id as i64,
     };
     world.get(key).is_some() || has_entry(ds, near, key)
+}
+
+/// As many objects as memory may have room for, 2^58: each takes more than 32 bytes, and there are fewer than 2^63.
+const MOST_OBJECTS: usize = 288_230_376_151_711_744;
+
+/// Whether memory may have room for the world and the table. Where it has, ids don't run out.
+pub fn fits_memory(world: &World, ds: &DataSet) -> bool
+    ensures { IsTrue result → FitsMemory world.now ds.now }
+{
+    world.len() <= MOST_OBJECTS && ds.len() <= MOST_OBJECTS
 }
 
 fn has_entry(ds: &DataSet, near: &mut usize, key: Key) -> bool

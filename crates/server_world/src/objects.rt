@@ -70,6 +70,13 @@ impl Objects {
         self.index.users(key).first().copied()
     }
 
+    /// How many there are.
+    pub fn len(&self) -> usize
+        ensures { result ≡ fin.len self.now }
+    {
+        self.entries.len()
+    }
+
     /// Their keys by rank. It sorts them once, so n keys cost n log n steps.
     ///
     /// # Errors

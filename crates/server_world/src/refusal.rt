@@ -13,7 +13,7 @@ pub enum WorldRefusal {
     /// The object doesn't stand, or it is to be deleted and has no content.
     Missing,
     /// The object has another version than the change names.
-    OldVersion { has: u32 },
+    OldVersion { has: u64 },
     /// The content refers to this key, which has no name or stands without a content.
     BadRef(Key),
     /// The object is to be deleted, and this is the least whose content refers to it, itself included.
@@ -43,7 +43,7 @@ impl WorldRefusal {
 pub enum WorldFault {
     /// The world refuses it.
     Refused(WorldRefusal),
-    /// No memory was left, or the object has the last version that a number can have, 2^32 - 1.
+    /// No memory was left.
     Memory,
 }
 

@@ -31,7 +31,7 @@ pub enum Rehearsal {
 /// refers to. Where objects are made, also a look-up for each id of the table and that server at most.
 ///
 /// # Errors
-/// No memory was left, or no id.
+/// No memory was left.
 pub fn rehearse(ds: &DataSet, changes: &Changes) -> Result<Rehearsal, AllocError>
     // It is the answer of the definition.
     ensures value { IfOk result (λ r. r ≡ rehearsed ds.now 0 (of_bases ds.now) changes.now) }

@@ -5,7 +5,7 @@ ghost use Rattle.server_world.specs.Free.{free_id, IsFreeId};
 ghost use Rattle.server_world.specs.Sent.{pick_for, answer_to, after_sent};
 ghost use Rattle.server_world.specs.Starts.{AreStarts};
 
-use crate::free::{free_from, is_taken};
+use crate::free::{fits_memory, free_from};
 use crate::refusal::{WorldFault, WorldRefusal};
 use crate::starts::Starts;
 use crate::world::World;
@@ -31,7 +31,8 @@ impl World {
     /// for all sends, whatever their tables.
     ///
     /// # Errors
-    /// No memory was left, or no id, or the object has the version 2^32 - 1. Nothing has changed then.
+    /// No memory was left, as where the world or the table has more objects than memory may have room for, 2^58. Nothing has
+    /// changed then. There is always an id, and a version after the one that a change names.
     pub fn send(&mut self, ds: &DataSet, change: &Change) -> Result<Sent, AllocError>
         // The id or the refusal is that of the definition.
         ensures answer { IfOk result (λ sent. sent ≡ answer_to self.old ds.now change.now) }
@@ -48,7 +49,7 @@ impl World {
 /// Sends a change, and seeks its id from the start of its kind, which moves up to that id.
 ///
 /// # Errors
-/// No memory was left, or no id, or the object has the version 2^32 - 1. The world hasn't changed then.
+/// No memory was left. The world hasn't changed then.
 pub fn send_from(
     world: &mut World,
     ds: &DataSet,
@@ -94,10 +95,10 @@ fn pick_id(world: &World, ds: &DataSet, starts: &mut Starts, kind: Kind) -> Resu
     ensures value { IfOk result (λ picked. picked ≡ free_id world.now ds.now kind) }
     ensures fresh { OnOk result (IsFreeId world.now ds.now kind (free_id world.now ds.now kind)) }
 {
-    let id = free_from(world, ds, kind, starts.at(kind));
-    if is_taken(world, ds, &mut 0, kind, id) {
+    if !fits_memory(world, ds) {
         return Err(AllocError);
     }
+    let id = free_from(world, ds, kind, starts.at(kind));
     starts.set(kind, id);
     Ok(id as i64)
 }

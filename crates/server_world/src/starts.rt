@@ -4,8 +4,8 @@ ghost use Rattle.server_world.specs.Starts.{start_at, with_start};
 
 use osm_base::Kind;
 
-/// The greatest id.
-pub const LAST_ID: u64 = 9_223_372_036_854_775_807;
+/// The greatest id that an object may have, 10^18.
+pub const LAST_ID: u64 = 1_000_000_000_000_000_000;
 
 /// For each kind an id that the least free one isn't below.
 #[derive(Clone, Copy)]

@@ -73,6 +73,13 @@ impl World {
         self.names.key(key)
     }
 
+    /// How many objects there are, the deleted ones too.
+    pub(crate) fn len(&self) -> usize
+        ensures { result ≡ fin.len self.now.entries }
+    {
+        self.objects.len()
+    }
+
     /// The keys of all objects by rank, the deleted ones too: those of the entries, in their order. What stands of each
     /// is lent by `get`. It sorts the keys once, so n objects cost n log n steps.
     ///
@@ -111,8 +118,7 @@ impl World {
     /// refused costs no walk: the least user is at hand.
     ///
     /// # Errors
-    /// The refusal, exactly where there is one; or no memory was left, or the object has the version 2^32 - 1, after
-    /// which there is none. Nothing has changed then.
+    /// The refusal, exactly where there is one; or no memory was left. Nothing has changed then.
     pub fn accept(&mut self, change: &Change, picked: i64) -> Result<(), WorldFault>
         ensures answer { Answers result (refusal self.old change.now picked) }
         ensures ok { OnOk result (self.new ≡ after self.old change.now picked) }
@@ -154,7 +160,7 @@ impl World {
         let Some(entry) = self.get(self.names.key(key)) else {
             return Some(WorldRefusal::Missing);
         };
-        if entry.version() != version {
+        if entry.version() != u64::from(version) {
             return Some(WorldRefusal::OldVersion {
                 has: entry.version(),
             });
@@ -172,7 +178,7 @@ impl World {
         if entry.content().is_none() {
             return Some(WorldRefusal::Missing);
         }
-        if entry.version() != version {
+        if entry.version() != u64::from(version) {
             return Some(WorldRefusal::OldVersion {
                 has: entry.version(),
             });
@@ -259,19 +265,20 @@ impl World {
                 content,
             } => {
                 let content = renamed(self.alloc, content, &self.names)?;
-                let entry = WorldEntry::new(next_version(*version)?, Some(content));
+                let entry = WorldEntry::new(version_after(*version), Some(content));
                 self.objects.put(self.names.key(*key), entry)
             }
             Change::Delete { key, version } => {
-                let entry = WorldEntry::new(next_version(*version)?, None);
+                let entry = WorldEntry::new(version_after(*version), None);
                 self.objects.put(self.names.key(*key), entry)
             }
         }
     }
 }
 
-fn next_version(version: u32) -> Result<u32, AllocError>
-    ensures { IfOk result (λ next. next ≡ version + 1) }
+/// The version after one that a change names.
+fn version_after(version: u32) -> u64
+    ensures { result ≡ version + 1 }
 {
-    version.checked_add(1).ok_or(AllocError)
+    u64::from(version) + 1
 }

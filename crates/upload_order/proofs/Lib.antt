@@ -3,6 +3,7 @@ pub mod Keys
 mod Counted
 pub mod Peeling
 mod Starting
+mod Raising
 pub mod Users
 pub mod Sets
 pub mod FallSteps

@@ -1,5 +1,3 @@
-use Rattle.std.proofs.Common.{rules}
-use Rattle.many_editors.proofs.Lifting.{idle_valid}
 use Rattle.many_editors.proofs.editor.Editor.step.Goals as goal
 
 pub step-requires : goal.step-requires

@@ -76,7 +76,7 @@ returns-in-Send g c =
     let at = there_at _ _ c.args.self.now c.args.editor y c.requires.asked.there c.index-2.ensures in
     let table = same_table c.args.self.now c.args.editor y c.index.result.now c.ds.result.now at (there_at _ _ c.args.self.now c.args.editor c.index.result.now c.requires.asked.there c.index.ensures) c.ds.ensures in
     record {
-      moved = send_moved _ _ _ c.args.self.now c.args.editor c.args.act.now y at c.requires c.ds.result.now table c.sound.ensures c.args.limit c.send.new.self c.send.result (sym c.is_some.ensures ∙ c.if-is_some.false) c.in-Send.count c.in-Send.is c.send.ensures.comes c.send.ensures.picked;
+      moved = send_moved _ _ _ c.args.self.now c.args.editor c.args.act.now y at c.requires c.ds.result.now table c.sound.ensures c.args.limit c.send.new.self c.send.result (sym c.is_some.ensures ∙ c.if-is_some.false) c.in-Send.count c.in-Send.is c.send.ensures.comes;
       left = sends_as _ _ _ c.args.self.now c.send.new.self c.send.result c.args.editor _ (changes_sent c.args.act.now) (λ t. ap (λ a. changes_sent a t) (sym c.in-Send.is)) c.send.ensures.left;
     }
 

@@ -1,7 +1,7 @@
-use Rattle.std.proofs.Common.{refl, sym, ◌∙◌, ap, take, subst, arith}
+use Rattle.std.proofs.Common.{refl, ◌∙◌, ap, take, arith}
 use Rattle.many_editors.specs.Sending.{version_end}
 use Rattle.many_editors.proofs.Lifting.{always_err, there_at}
-use Rattle.many_editors.proofs.Outgoing.{first_sent, same_table, send_comes, send_left, send_picked, taken_first}
+use Rattle.many_editors.proofs.Outgoing.{first_sent, same_table, send_comes, send_left, taken_first}
 use Rattle.many_editors.proofs.meeting.Meeting.send_first.Goals as goal
 
 pub send-requires : goal.send-requires
@@ -13,12 +13,6 @@ returns-clause-comes g c =
     send_comes _ _ _ c.args.self.now c.args.editor c.index_mut.result.now at _ (take c.args.count c.args.changes) (record { plan = c.args.changes; answers = c.in_ok-outcome.outcome.answers }) c.len-accepted.result c.in_ok-outcome.outcome.refused c.ds-ds.result.now
     refl c.requires.valid (omega (arith, c.len-accepted.ensures, c.in_ok-outcome.outcome.answers.ok.0))
     (same_table c.args.self.now c.args.editor c.index_mut.result.now c.index.result.now c.ds-ds.result.now at (there_at _ _ c.args.self.now c.args.editor c.index.result.now c.requires.asked c.index.ensures) c.ds-ds.ensures) c.requires.planned
-    (first_sent c.ds-ds.result.now c.args.self.now c.in_ok-outcome.outcome c.send.new.world c.send.new.log c.first_changes-first.result.now (take c.args.count c.args.changes) (c.first_changes-first.ensures ∙ ap (take c.args.count) c.as_slice.ensures) c.in_ok-outcome.ensures.ok)
-
-pub returns-clause-picked : goal.returns-clause-picked
-returns-clause-picked g c =
-    send_picked _ _ c.args.self.now c.args.editor c.index.result.now (there_at _ _ c.args.self.now c.args.editor c.index.result.now c.requires.asked c.index.ensures)
-    (record { world = c.send.new.world; log = c.send.new.log; editors = c.args.self.now.editors }) (take c.args.count c.args.changes) c.in_ok-outcome.outcome.answers.items c.in_ok-outcome.outcome.refused c.ds-ds.result.now c.ds-ds.ensures
     (first_sent c.ds-ds.result.now c.args.self.now c.in_ok-outcome.outcome c.send.new.world c.send.new.log c.first_changes-first.result.now (take c.args.count c.args.changes) (c.first_changes-first.ensures ∙ ap (take c.args.count) c.as_slice.ensures) c.in_ok-outcome.ensures.ok)
 
 pub returns-in_err-outcome-clause-left : goal.returns-in_err-outcome-clause-left

@@ -6,4 +6,4 @@ abbrev pub invariant-loop-id : goal.invariant-loop-id
 invariant-loop-id l = IsStartOf l.self l.kind l.id
 
 abbrev pub decreases-loop-id : goal.decreases-loop-id
-decreases-loop-id l = 9223372036854775807 - l.id
+decreases-loop-id l = 1000000000000000000 - l.id

@@ -1,5 +1,4 @@
-use Rattle.std.proofs.Common.{[], List, ap, ◌∙◌}
-use Rattle.osm_base.specs.declared.key.Key.{Key}
+use Rattle.std.proofs.Common.{[], ap, ◌∙◌}
 use Rattle.upload_order.specs.World.{World, stands}
 use Rattle.server_world.specs.Asked.{of_those}
 use Rattle.server_world.specs.Codes.{Objects}
