@@ -12,6 +12,7 @@ mod Whole
 mod ToldIndex
 mod Beside
 pub mod ToldPatch
+mod EntriesPatch
 pub mod Kept
 pub mod Changes
 mod Examples

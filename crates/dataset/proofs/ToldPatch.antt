@@ -31,7 +31,7 @@ pub told_patch : (told : ToldEntries) (n m : ℕ) → IsPatch (record { edits = 
 told_patch told n m = record { by_rank = (whole told).patch.by_rank; changes = (whole told).patch.changes }
 
 -- a difference speaks of the entries alone
-same_diff : (t u t₀ u₀ : TableValue) (p : PatchValue) (n m : ℕ) → IsDiff t u p → t.entries ≡ t₀.entries → u.entries ≡ u₀.entries → t₀.next ≡ n → u₀.next ≡ m → IsDiff t₀ u₀ (record { edits = p.edits; next_before = n; next_after = m })
+pub same_diff : (t u t₀ u₀ : TableValue) (p : PatchValue) (n m : ℕ) → IsDiff t u p → t.entries ≡ t₀.entries → u.entries ≡ u₀.entries → t₀.next ≡ n → u₀.next ≡ m → IsDiff t₀ u₀ (record { edits = p.edits; next_before = n; next_after = m })
 same_diff t u t₀ u₀ p n m d et eu en em = record {
   patch = record { by_rank = d.patch.by_rank; changes = d.patch.changes };
   before = record { entries = subst (λ (x : Entries). AllByRecursion (λ e. fin.get x e.key ≡ e.before) p.edits) et d.before.entries; number = en };

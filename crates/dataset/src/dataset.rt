@@ -3,7 +3,8 @@ ghost use Rattle.std.specs.Prelude.{◌≡◌, not, neg_ℤ, pos, T, OnOk, OnErr
 ghost use Rattle.std.specs.List.{AllByRecursion};
 ghost use Rattle.std.specs.Option.{option_copied, option_map};
 ghost use Rattle.std.specs.FinMap as fin;
-ghost use Rattle.osm_base.specs.RisingKeys.{is_in};
+ghost use Rattle.std.specs.Map.{keys_of};
+ghost use Rattle.osm_base.specs.RisingKeys.{rises, is_in};
 ghost use Rattle.osm_table.specs.Table.{entry_of, keys_by_rank, users};
 ghost use Rattle.dataset.specs.Sound.{IsSound};
 ghost use Rattle.dataset.specs.Patch.{IsDiff, in_order, StandsBefore, StandsAfter, after_of, before_of};
@@ -15,14 +16,14 @@ ghost use Rattle.dataset.specs.Index.{count_kept};
 ghost use Rattle.dataset.specs.PatchKept.{edits_told};
 ghost use Rattle.dataset.specs.Sides.{side, led};
 
-use crate::difference::{edits_of_told, edits_over, told_edits};
+use crate::difference::{edits_of_entries, edits_of_told, edits_over, told_edits};
 use crate::draft::Draft;
 use crate::edit::Edit;
 use crate::index::Index;
 use crate::patch::{Edits, Patch};
 use crate::writes::{drop_keys, put_keys, write_all, writes_of};
 use osm_base::Key;
-use osm_table::{Ordered, OwnTable, Shared, SharedEntry, Table, ToldMap};
+use osm_table::{KeyedEntries, Ordered, OwnTable, Shared, SharedEntry, Table, ToldMap};
 use std::alloc::{AllocError, Global};
 use std::marker::Model;
 
@@ -175,6 +176,22 @@ impl DataSet {
         Ok(Patch::listed(edits, number, number))
     }
 
+    /// The difference between a table without objects and the one that has just these entries, which stand by rank, and that
+    /// number of the next new object. Costs a step for each entry, no look-up and no sort. The entries are shared.
+    ///
+    /// # Errors
+    ///
+    /// Where no memory is found.
+    pub fn patch_of_entries(&self, entries: &KeyedEntries, next: u64) -> Result<Patch, AllocError>
+        requires empty { fin.len self.now.entries ≡ 0 }
+        requires order { T (rises (keys_of entries.now)) }
+        ensures value { IfOk result (λ patch. patch ≡ diff self.now (record { entries = fin.from_entries entries.now; next = next })) }
+        ensures differs { IfOk result (λ patch. IsDiff self.now (record { entries = fin.from_entries entries.now; next = next }) patch) }
+    {
+        let edits = edits_of_entries(self.alloc(), entries)?;
+        Ok(Patch::listed(edits, self.table.next(), next))
+    }
+
     /// Leads the table on, from what the patch has before to what it has after. Costs the edited
     /// entries and their references; an edit that keeps the references, as one of tags alone, costs
     /// the index nothing. Where all that is told comes into a table without objects, the told map
@@ -309,8 +326,8 @@ fn lead_listed(
 
 /// Leads the table by one side of edits, or leaves all as it was. Costs one look-up an edit.
 ///
-/// All that can find no memory comes first: the writes with their entries, the new keys, the index.
-/// Where that finds none the new keys are taken out again.
+/// All that can find no memory comes first: the writes with their entries, the hashes of the keys where some go, the new keys,
+/// the index. Where that finds none the new keys are taken out again.
 fn lead_own(
     table: &mut OwnTable,
     index: &mut Index,

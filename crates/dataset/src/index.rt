@@ -79,12 +79,12 @@ impl Index {
         ensures ok { OnOk result ((p : Pair) → times p (pairs_by (side (not forth)) edits.now) + count_kept self.new p ≡ times p (pairs_by (side forth) edits.now) + count_kept self.old p) }
         ensures err { OnErr result ((p : Pair) → count_kept self.new p ≡ count_kept self.old p) }
     {
-        if keep_pairs(edits) {
-            return Ok(());
-        }
         match self {
             Index::Own(index) => lead_pairs(index, edits, forth),
             Index::Told(told) => {
+                if keep_pairs(edits) {
+                    return Ok(());
+                }
                 let mut index = told.own()?;
                 lead_pairs(&mut index, edits, forth)?;
                 *self = Index::Own(index);

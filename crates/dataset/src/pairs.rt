@@ -122,10 +122,12 @@ fn take_moved(index: &mut RefIndex, edit: &Edit, forth: bool)
 fn moved(edit: &Edit, forth: bool) -> Option<&Content>
     ensures { option_copied result ≡ (if keeps_refs edit.now then None else mine_at (side forth edit.now)) }
 {
+    let content = mine_at(edit.side(forth))?;
     if keeps_refs(edit) {
-        return None;
+        None
+    } else {
+        Some(content)
     }
-    mine_at(edit.side(forth))
 }
 
 fn keeps_pairs(edit: &Edit) -> bool

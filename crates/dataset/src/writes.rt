@@ -61,15 +61,25 @@ fn keys_to_come(edits: &[Edit], forth: bool) -> usize
         .count()
 }
 
-/// Puts the keys in that edits bring, or leaves all as it was. Costs one look-up each. It asks for their room at once: for
-/// no more than they take, so that edits of objects that stay ask for none.
+/// Makes a table ready for edits: its keys are hashed where some go, so that each goes by one look-up, and there is room for
+/// those that come, for no more than they take, so that edits of objects that stay ask for none.
+fn make_ready(table: &mut OwnTable, edits: &[Edit], forth: bool) -> Result<(), AllocError>
+    ensures { table.new ≡ table.old }
+{
+    if edits.iter().any(|edit| edit.side(forth).is_none()) {
+        table.hash()?;
+    }
+    table.reserve(keys_to_come(edits, forth))
+}
+
+/// Puts the keys in that edits bring, or leaves all as it was. Costs one look-up each.
 pub fn put_keys(table: &mut OwnTable, edits: &[Edit], forth: bool) -> Result<(), AllocError>
     requires order { T (in_order edits.now) }
     requires stands { AllByRecursion (λ e. entry_of table.old e.key ≡ side (not forth) e) edits.now }
     ensures ok { OnOk result (table.new ≡ led (side forth) (fresh forth edits.now) table.old) }
     ensures err { OnErr result (table.new ≡ table.old) }
 {
-    table.reserve(keys_to_come(edits, forth))?;
+    make_ready(table, edits, forth)?;
     for edit in edits {
         if let Err(e) = put_fresh(table, edit, forth) {
             drop_keys(table, edits, !forth);

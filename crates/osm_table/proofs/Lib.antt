@@ -1,6 +1,8 @@
 pub mod Each
 mod InPlace
 mod OrderLaws
+mod TakenOut
+mod ListedLaws
 mod Standing
 pub mod SameLaws
 pub mod ToldLaws

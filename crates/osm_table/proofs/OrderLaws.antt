@@ -4,7 +4,7 @@ use Rattle.std.specs.declared.cmp.Ordering.TheVariants.{Less}
 use Rattle.std.specs.Ordering.{is_eq}
 use Rattle.std.specs.List.{zip, IsDistinct, AllByRecursion}
 use Rattle.std.specs.Map.{keys_of, lookup}
-use Rattle.std.specs.Prelude.{slice_get, position, IfSome, IfNone, T}
+use Rattle.std.specs.Prelude.{slice_get, position, IfSome, IfNone, OnErr, Result, Ok, Err, T}
 use Rattle.std.proofs.lemmas.List.{take_more, length-take-le, length-map}
 use Rattle.std.proofs.lemmas.List.Quantifiers.{position-Some}
 use Rattle.std.proofs.lemmas.Slice.Zip.{firsts-zip}
@@ -24,7 +24,7 @@ use Rattle.osm_table.specs.declared.entry.Entry.{Entry}
 eq_itself : (k : Key) → eq k k ≡ true
 eq_itself k = rank_ties k k ∙ key_itself k
 
-less_apart : (x k : Key) → rank_cmp x k ≡ Less → is_key k x ≡ false
+pub less_apart : (x k : Key) → rank_cmp x k ≡ Less → is_key k x ≡ false
 less_apart x k e = key_turned k x ∙ ap is_eq e
 
 -- An entry put.
@@ -82,6 +82,10 @@ pub if_none : {A P Q : Type 0} (o : Option A) → IfNone o P → (P → Q) → I
 if_none None p f = f p
 if_none (Some a) p f = tt
 
+pub if_err : {A B P : Type 0} (r : Result A B) → P → OnErr r P
+if_err (Ok a) p = tt
+if_err (Err e) p = p
+
 -- Entries beside keys that rise.
 
 pub keys_zip : (ks : List Key) (es : List Entry) → length ks ≡ length es → keys_of (zip ks es) ≡ ks
@@ -90,7 +94,7 @@ keys_zip ks es len = firsts-zip ks es (sym len)
 pub zip_len : (ks : List Key) (es : List Entry) → length ks ≡ length es → length ks ≡ length (zip ks es)
 zip_len ks es len = ap (λ (js : List Key). length js) (sym (keys_zip ks es len)) ∙ length-map (zip ks es) (λ (e : Key × Entry). e.0)
 
-later_apart : (x : Key) (ks : List Key) (i : ℕ) (k : Key) → IsBelow x ks → slice_get ks i ≡ Some k → eq k x ≡ false
+pub later_apart : (x : Key) (ks : List Key) (i : ℕ) (k : Key) → IsBelow x ks → slice_get ks i ≡ Some k → eq k x ≡ false
 later_apart x ks i k h at =
     let less : rank_cmp x k ≡ Less = subst (λ (j : Key). rank_cmp x j ≡ Less) (get_or_from_slice_get ks i k k at) (below_at x ks i k h (slice_get_within ks i k at)) in
     rank_ties k x ∙ less_apart x k less
@@ -104,7 +108,14 @@ found_at (x ∷ ks) (e ∷ es) zero k h at =
     rw one refl
 found_at (x ∷ ks) (e ∷ es) (suc i) k h at = rw (later_apart x ks i k (first_T _ _ h) at) (found_at ks es i k (second_T _ _ h) at)
 
-neither : (a b : Bool) → (a || b) ≡ false → (a ≡ false) × (b ≡ false)
+-- a key and its entry stand at one place
+pub zip_at : (ks : List Key) (es : List Entry) (i : ℕ) (k : Key) (e : Entry) → slice_get ks i ≡ Some k → slice_get es i ≡ Some e → slice_get (zip ks es) i ≡ Some (k, e)
+zip_at [] es i k e here there = let no : None ≡ Some k = here in cc
+zip_at (x ∷ ks) [] i k e here there = let no : None ≡ Some e = there in cc
+zip_at (x ∷ ks) (y ∷ es) zero k e here there = λ j. Some (same_Some x k here j, same_Some y e there j)
+zip_at (x ∷ ks) (y ∷ es) (suc i) k e here there = zip_at ks es i k e here there
+
+pub neither : (a b : Bool) → (a || b) ≡ false → (a ≡ false) × (b ≡ false)
 neither true b h = cc
 neither false b h = (refl, h)
 

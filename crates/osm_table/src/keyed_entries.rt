@@ -1,10 +1,10 @@
 //! Entries by key in the order in which they were put.
-ghost use Rattle.std.specs.Prelude.{◌≡◌, ◌<◌, ◌++◌, ◌∷◌, Some, None, [], T, IfOk, OnOk, OnErr, IfSome, IfNone, length, slice_get};
+ghost use Rattle.std.specs.Prelude.{◌≡◌, ◌<◌, ◌++◌, ◌∷◌, if◌then◌else◌, Some, None, [], T, IfOk, OnOk, OnErr, IfSome, IfNone, length, slice_get};
 ghost use Rattle.std.specs.Option.{option_copied, option_map};
 ghost use Rattle.std.specs.FinMap as map;
 ghost use Rattle.std.specs.List.{IsDistinct, zip};
 ghost use Rattle.std.specs.Map.{lookup, keys_of};
-ghost use Rattle.indexmap.specs.IndexMap.{insert_entry};
+ghost use Rattle.indexmap.specs.IndexMap.{insert_entry, insert_all};
 ghost use Rattle.osm_base.specs.KeyEq.{eq};
 ghost use Rattle.osm_base.specs.Rank.{rank_cmp};
 ghost use Rattle.osm_base.specs.RisingKeys.{rises};
@@ -52,6 +52,19 @@ impl Model for KeyedEntries {
 }
 
 impl KeyedEntries {
+    /// No entries. It takes no memory.
+    pub fn new(alloc: Global) -> Self
+        ensures { result ≡ [] }
+    {
+        KeyedEntries {
+            form: Form::Rising {
+                keys: Vec::new(alloc),
+                entries: Vec::new(alloc),
+                posts: Vec::new(alloc),
+            },
+        }
+    }
+
     /// No entries, with room for so many.
     ///
     /// # Errors
@@ -68,6 +81,19 @@ impl KeyedEntries {
         })
     }
 
+    /// The entries of a list that stands by rank, which they take the place of. Each costs one comparison, and no key is hashed.
+    ///
+    /// # Errors
+    /// No memory was left.
+    pub fn of_list(alloc: Global, list: Vec<(Key, SharedEntry)>) -> Result<Self, AllocError>
+        requires { T (rises (keys_of list.items)) }
+        ensures { IfOk result (λ entries. entries ≡ list.items) }
+    {
+        let mut entries = KeyedEntries::with_capacity(alloc, list.len())?;
+        put_all(&mut entries, list)?;
+        Ok(entries)
+    }
+
     /// Sets the entry of a key, and drops the one that it had. A new key comes last. One that comes
     /// behind all others costs one comparison; another one that is there costs a search, and the
     /// first new one that doesn't come by rank has all of them hashed.
@@ -78,9 +104,39 @@ impl KeyedEntries {
         ensures ok { OnOk result (self.new ≡ insert_entry eq self.old key entry) }
         ensures unique { OnOk result (IsDistinct eq (keys_of self.new)) }
         ensures err { OnErr result (self.new ≡ self.old) }
+        ensures absent { OnErr result (lookup (eq key) self.old ≡ None) }
     {
         insert_in(&mut self.form, key, entry)?;
         Ok(())
+    }
+
+    /// Takes out the entry of a key. Hashed entries lose it by one look-up, and the last one comes into its place; where keys
+    /// rise it costs a search, and one move of those behind it. It takes no memory.
+    pub fn remove(&mut self, key: Key) -> Option<SharedEntry>
+        ensures value { result ≡ lookup (eq key) self.old }
+        ensures removed { (q : Key) → lookup (eq q) self.new ≡ (if eq key q then None else lookup (eq q) self.old) }
+    {
+        remove_in(&mut self.form, key)
+    }
+
+    /// Makes room for so many keys that aren't there yet: at least for as many as there are, where there is none.
+    ///
+    /// # Errors
+    /// No memory was left.
+    pub fn reserve(&mut self, more: usize) -> Result<(), AllocError>
+        ensures { self.new ≡ self.old }
+    {
+        reserve_in(&mut self.form, more)
+    }
+
+    /// Hashes the keys, where they aren't yet, so that each is found and taken out by one look-up.
+    ///
+    /// # Errors
+    /// No memory was left.
+    pub fn hash(&mut self) -> Result<(), AllocError>
+        ensures { self.new ≡ self.old }
+    {
+        hash_in(&mut self.form)
     }
 
     /// The entry of a key. It costs one search: about log n comparisons where the keys came by rank,
@@ -125,7 +181,8 @@ impl KeyedEntries {
 
     /// How many entries there are.
     pub fn len(&self) -> usize
-        ensures { result ≡ length self.now }
+        ensures len { result ≡ length self.now }
+        ensures unique { IsDistinct eq (keys_of self.now) }
     {
         match &self.form {
             Form::Rising { keys, .. } => keys.len(),
@@ -147,6 +204,7 @@ impl KeyedEntries {
         requires { i < length self.now }
         ensures key { slice_get (keys_of self.now) i ≡ Some result.0 }
         ensures entry { lookup (eq result.0) self.now ≡ Some result.1.now }
+        ensures pair { slice_get self.now i ≡ Some (result.0, result.1.now) }
     {
         match &self.form {
             Form::Rising { keys, entries, .. } => (keys[i], &entries[i]),
@@ -171,19 +229,16 @@ impl KeyedEntries {
         }
     }
 
-    /// The entries in a hashed map, which shares them. It hashes the keys where they aren't yet.
+    /// The same entries under the same keys. It shares the entries, and hashes nothing.
     ///
     /// # Errors
     /// No memory was left.
-    pub fn to_map(&self) -> Result<IndexMap<Key, SharedEntry>, AllocError>
-        ensures { IfOk result (λ map. map.entries ≡ self.now) }
+    pub fn copy(&self) -> Result<KeyedEntries, AllocError>
+        ensures { IfOk result (λ copy. copy ≡ self.now) }
     {
-        match &self.form {
-            Form::Rising { keys, entries, .. } => {
-                hashed(*keys.allocator(), keys.len(), keys, entries)
-            }
-            Form::Hashed(map) => copied(map),
-        }
+        Ok(KeyedEntries {
+            form: copied(&self.form)?,
+        })
     }
 
     /// The allocator that it takes its memory from.
@@ -201,6 +256,7 @@ fn insert_in(form: &mut Form, key: Key, entry: SharedEntry) -> Result<(), AllocE
     ensures ok { OnOk result (entries_kept form.new ≡ insert_entry eq (entries_kept form.old) key entry) }
     ensures unique { OnOk result (IsDistinct eq (keys_of (entries_kept form.new))) }
     ensures err { OnErr result (entries_kept form.new ≡ entries_kept form.old) }
+    ensures absent { OnErr result (lookup (eq key) (entries_kept form.old) ≡ None) }
     ensures kept { IsInPlace form.new }
 {
     match form {
@@ -222,6 +278,17 @@ fn insert_in(form: &mut Form, key: Key, entry: SharedEntry) -> Result<(), AllocE
         Form::Hashed(map) => {
             map.insert(key, entry)?;
         }
+    }
+    Ok(())
+}
+
+/// Sets the entries of a list, one after the other.
+fn put_all(entries: &mut KeyedEntries, list: Vec<(Key, SharedEntry)>) -> Result<(), AllocError>
+    ensures { OnOk result (entries.new ≡ insert_all eq entries.old list.items) }
+{
+    for item in list {
+        let (key, entry) = item;
+        entries.insert(key, entry)?;
     }
     Ok(())
 }
@@ -295,8 +362,72 @@ fn hashed(
     Ok(map)
 }
 
-fn copied(map: &IndexMap<Key, SharedEntry>) -> Result<IndexMap<Key, SharedEntry>, AllocError>
-    ensures { IfOk result (λ copy. copy.entries ≡ map.now.entries) }
+/// The same entries in the same form.
+fn copied(form: &Form) -> Result<Form, AllocError>
+    requires { IsInPlace form.now }
+    ensures value { IfOk result (λ copy. entries_kept copy ≡ entries_kept form.now) }
+    ensures kept { IfOk result (λ copy. IsInPlace copy) }
 {
-    map.clone()
+    match form {
+        Form::Rising {
+            keys,
+            entries,
+            posts,
+        } => Ok(Form::Rising {
+            keys: keys.clone()?,
+            entries: entries.clone()?,
+            posts: posts.clone()?,
+        }),
+        Form::Hashed(map) => Ok(Form::Hashed(map.clone()?)),
+    }
+}
+
+/// Takes out the entry of a key, as `remove` says.
+fn remove_in(form: &mut Form, key: Key) -> Option<SharedEntry>
+    requires { IsInPlace form.old }
+    ensures value { result ≡ lookup (eq key) (entries_kept form.old) }
+    ensures removed { (q : Key) → lookup (eq q) (entries_kept form.new) ≡ (if eq key q then None else lookup (eq q) (entries_kept form.old)) }
+    ensures kept { IsInPlace form.new }
+{
+    match form {
+        Form::Rising {
+            keys,
+            entries,
+            posts,
+        } => {
+            let place = rising::place_of(keys, posts, key)?;
+            keys.remove(place);
+            Some(entries.remove(place))
+        }
+        Form::Hashed(map) => map.swap_remove(&key),
+    }
+}
+
+/// Makes room, as `reserve` says.
+fn reserve_in(form: &mut Form, more: usize) -> Result<(), AllocError>
+    requires { IsInPlace form.old }
+    ensures same { entries_kept form.new ≡ entries_kept form.old }
+    ensures kept { IsInPlace form.new }
+{
+    match form {
+        Form::Rising { keys, entries, .. } => {
+            keys.reserve(more)?;
+            entries.reserve(more)?;
+        }
+        Form::Hashed(map) => map.reserve(more)?,
+    }
+    Ok(())
+}
+
+/// Hashes the keys, where they aren't yet.
+fn hash_in(form: &mut Form) -> Result<(), AllocError>
+    requires { IsInPlace form.old }
+    ensures same { entries_kept form.new ≡ entries_kept form.old }
+    ensures kept { IsInPlace form.new }
+{
+    if let Form::Rising { keys, entries, .. } = form {
+        let map = hashed(*keys.allocator(), keys.len(), keys, entries)?;
+        *form = Form::Hashed(map);
+    }
+    Ok(())
 }

@@ -25,6 +25,7 @@ mod told;
 mod told_map;
 
 pub use entry::{Base, Conflict, Entry, Why};
+pub use keyed_entries::KeyedEntries;
 pub use ordered::Ordered;
 pub use own_table::OwnTable;
 pub use shared::Shared;

@@ -129,6 +129,17 @@ impl SharedEntry {
         }
     }
 
+    /// The entry of an object whose mine is what the base holds, without a conflict. It takes one block, and copies and compares
+    /// nothing.
+    ///
+    /// # Errors
+    /// No memory was left.
+    pub fn unchanged(alloc: Global, base: Base) -> Result<SharedEntry, AllocError>
+        ensures { IfOk result (λ shared. shared ≡ Known base (held_by base) None) }
+    {
+        shared(alloc, Kept::Unchanged { base })
+    }
+
     /// The same entry. No block is made.
     ///
     /// # Errors

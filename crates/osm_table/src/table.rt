@@ -71,7 +71,7 @@ impl Table {
     }
 
     /// Takes the table as one that shares its entries with nobody, and leaves one without entries. Where it
-    /// has a told map its keys are hashed, by `ToldMap::to_table`; else it costs nothing.
+    /// has a told map its keys are copied, by `ToldMap::to_table`; else it costs nothing.
     ///
     /// # Errors
     /// Answers want of memory, and then nothing has changed.
@@ -107,8 +107,7 @@ impl Table {
         }
     }
 
-    /// The entry of a key: one look-up by hash, or in a told map whose keys came by rank about log n
-    /// comparisons.
+    /// The entry of a key: one look-up by hash, or where the keys came by rank about log n comparisons.
     pub fn get(&self, key: Key) -> Option<&SharedEntry>
         ensures { option_copied result ≡ entry_of self.now key }
     {

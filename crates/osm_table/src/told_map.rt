@@ -211,15 +211,15 @@ impl ToldMap {
         self.entries.ordered()
     }
 
-    /// The table of which no more is known than what is told, which shares its entries. It hashes each
-    /// key that came by rank, once; a map that is hashed already is copied.
+    /// The table of which no more is known than what is told, which shares its entries. The keys are copied, and hashed
+    /// where they are hashed here.
     ///
     /// # Errors
     /// Answers want of memory.
     pub fn to_table(&self, next: u64) -> Result<OwnTable, AllocError>
         ensures { IfOk result (λ table. table ≡ table_told self.now.told next) }
     {
-        Ok(OwnTable::with_entries(self.entries.to_map()?, next))
+        Ok(OwnTable::with_entries(self.entries.copy()?, next))
     }
 
     /// The allocator that it takes its memory from.

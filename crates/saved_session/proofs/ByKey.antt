@@ -47,7 +47,7 @@ entries_of es sorted =
 pub keys_of_table : (s : Session) → T (is_sorted rank_cmp s.entries) → keys_by_rank (table_of s) ≡ map (λ e. e.0) s.entries
 keys_of_table s sorted = ap (λ (es : Entries). map (λ e. e.0) es) (entries_of s.entries sorted)
 
-keys_len : (es : Entries) → length (map (λ (e : Key × Entry). e.0) es) ≡ length es
+pub keys_len : (es : Entries) → length (map (λ (e : Key × Entry). e.0) es) ≡ length es
 keys_len [] = refl
 keys_len (e ∷ es) = ap (λ n. suc n) (keys_len es)
 

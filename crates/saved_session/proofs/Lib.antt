@@ -1,4 +1,5 @@
 pub mod ByKey
+pub mod KeyedTable
 pub mod Pieces
 pub mod Onto
 pub mod Drafted

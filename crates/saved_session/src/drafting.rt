@@ -8,10 +8,10 @@ ghost use Rattle.dataset.specs.Draft.{drafted};
 ghost use Rattle.saved_session.specs.Drafting.{with_all, without_all};
 ghost use Rattle.saved_session.specs.Reading.{table_of};
 
-use crate::lines::{SavedTable, SharedSaved};
+use crate::keyed::KeyedTable;
 use dataset::{DataSet, Draft};
 use osm_base::Key;
-use osm_table::SharedEntry;
+use osm_table::{KeyedEntries, SharedEntry};
 use std::alloc::AllocError;
 
 #[tactic(auto, using(dataset::proofs::Changes::drafted_put))]
@@ -37,11 +37,12 @@ fn take_all_out(ds: &DataSet, draft: &mut Draft, keys: &[Key]) -> Result<(), All
     Ok(())
 }
 
-fn put_all_in(ds: &DataSet, draft: &mut Draft, entries: &[SharedSaved]) -> Result<(), AllocError>
+fn put_all_in(ds: &DataSet, draft: &mut Draft, entries: &KeyedEntries) -> Result<(), AllocError>
     ensures { OnOk result (drafted draft.new ds.now ≡ with_all entries.now (drafted draft.old ds.now)) }
 {
-    for entry in entries {
-        put_in(ds, draft, entry.0, &entry.1)?;
+    for i in 0..entries.len() {
+        let (key, entry) = entries.entry_at(i);
+        put_in(ds, draft, key, entry)?;
     }
     Ok(())
 }
@@ -50,14 +51,14 @@ fn put_all_in(ds: &DataSet, draft: &mut Draft, entries: &[SharedSaved]) -> Resul
 ///
 /// # Errors
 /// No memory was left.
-pub fn draft_of(ds: &DataSet, saved: &SavedTable) -> Result<Draft, AllocError>
-    requires { T (is_sorted rank_cmp saved.now.entries.items) }
-    ensures { IfOk result (λ draft. drafted draft ds.now ≡ table_of (record { next = saved.now.next; entries = saved.now.entries.items })) }
+pub fn draft_of(ds: &DataSet, saved: &KeyedTable) -> Result<Draft, AllocError>
+    requires { T (is_sorted rank_cmp saved.now.entries) }
+    ensures { IfOk result (λ draft. drafted draft ds.now ≡ table_of (record { next = saved.now.next; entries = saved.now.entries })) }
 {
     let mut draft = Draft::with_capacity(ds, saved.entries.len())?;
     let keys = ds.ordered()?;
     take_all_out(ds, &mut draft, keys.as_slice())?;
-    put_all_in(ds, &mut draft, saved.entries.as_slice())?;
+    put_all_in(ds, &mut draft, &saved.entries)?;
     draft.set_next(saved.next);
     Ok(draft)
 }

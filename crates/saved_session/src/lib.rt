@@ -12,6 +12,7 @@
 mod drafting;
 mod fault;
 mod heads;
+mod keyed;
 mod law;
 mod lines;
 mod place;

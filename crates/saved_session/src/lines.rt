@@ -14,19 +14,14 @@ use crate::place::{Place, SavedEntry, Step};
 use crate::steps::{Desk, step};
 use opl_file::first_line;
 use opl_line::freed;
-use osm_base::Key;
-use osm_table::SharedEntry;
 use std::alloc::{AllocError, Global};
 
 /// A saved table, as it was read: its number, and its entries in the order of their lines.
 #[derive(Drop)]
 pub struct SavedTable {
     pub next: u64,
-    pub entries: Vec<SharedSaved>,
+    pub entries: Vec<SavedEntry>,
 }
-
-/// A key with its entry, as tables keep it.
-pub type SharedSaved = (Key, SharedEntry);
 
 /// The first line, and the bytes behind its LF.
 fn next_line(bytes: &[u8]) -> (&[u8], &[u8])
@@ -41,13 +36,12 @@ fn next_line(bytes: &[u8]) -> (&[u8], &[u8])
     }
 }
 
-/// Adds what a line made, as tables keep it.
-fn push_made(entries: &mut Vec<SharedSaved>, made: Option<SavedEntry>) -> Result<(), AllocError>
+/// Adds what a line made.
+fn push_made(entries: &mut Vec<SavedEntry>, made: Option<SavedEntry>) -> Result<(), AllocError>
     ensures { OnOk result (entries.new.items ≡ entries.old.items ++ option_to_list made) }
 {
-    if let Some((key, entry)) = made {
-        let shared = SharedEntry::new(*entries.allocator(), entry)?;
-        entries.push((key, shared))?;
+    if let Some(entry) = made {
+        entries.push(entry)?;
     }
     Ok(())
 }
@@ -62,7 +56,7 @@ fn has_ended(place: Place) -> bool
 }
 
 /// The entries of the lines behind a header, which has that number.
-fn read_entries(desk: &mut Desk, number: u64, bytes: &[u8]) -> Result<Vec<SharedSaved>, SavedFault>
+fn read_entries(desk: &mut Desk, number: u64, bytes: &[u8]) -> Result<Vec<SavedEntry>, SavedFault>
     requires { number + 1 + length bytes.now < 2 ^ 64 }
     ensures { MatchResult result (λ es. entries_from (number + 1) (Head None) (lines_of bytes.now) ≡ Ok es.items) (Refuses (entries_from (number + 1) (Head None) (lines_of bytes.now))) }
 {

@@ -2,7 +2,7 @@
 
 use crate::words::Words;
 use osm_base::{Content, Key};
-use osm_table::{Base, Entry, Why};
+use osm_table::{Base, SharedEntry, Why};
 
 /// What is awaited of the next line.
 #[derive(Drop)]
@@ -33,8 +33,8 @@ pub enum Place {
     Behind,
 }
 
-/// A key with what is known of it.
-pub type SavedEntry = (Key, Entry);
+/// A key with what is known of it, as tables keep it.
+pub type SavedEntry = (Key, SharedEntry);
 
 /// What a line makes: where the next one stands, and an entry if it ended one.
 #[derive(Drop)]

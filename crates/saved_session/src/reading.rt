@@ -1,7 +1,8 @@
 //! A saved table, read.
-ghost use Rattle.std.specs.Prelude.{◌≡◌, IfOk, T, map};
+ghost use Rattle.std.specs.Prelude.{◌≡◌, IfOk, T};
 ghost use Rattle.std.specs.FinMap.Entries.{is_sorted};
 ghost use Rattle.osm_base.specs.Rank.{rank_cmp};
+ghost use Rattle.dataset.specs.Diff.{diff};
 ghost use Rattle.dataset.specs.Patch.{StandsBefore, after_of};
 ghost use Rattle.dataset.specs.Sound.{IsSound};
 ghost use Rattle.opl_file.specs.Cut.{lines_of};
@@ -11,43 +12,45 @@ ghost use Rattle.saved_session.specs.Told.{StandsIn};
 
 use crate::drafting::draft_of;
 use crate::fault::SavedFault;
-use crate::lines::{SavedTable, SharedSaved, read_table};
+use crate::keyed::KeyedTable;
+use crate::lines::read_table;
 use crate::soundness::first_unsound;
 use dataset::{DataSet, Patch};
-use osm_base::Key;
-use std::alloc::{AllocError, Global};
+use std::alloc::AllocError;
 
-fn keys_of(alloc: Global, entries: &[SharedSaved]) -> Result<Vec<Key>, AllocError>
-    ensures { IfOk result (λ keys. keys.items ≡ map (λ e. e.0) entries.now) }
+/// The difference to a table that was read. Into a session without objects it costs a step for each entry; into another one look-up
+/// of each as well, and of each key that goes.
+fn patch_to_saved(ds: &DataSet, saved: &KeyedTable) -> Result<Patch, AllocError>
+    requires { T (is_sorted rank_cmp saved.now.entries) }
+    ensures { IfOk result (λ patch. patch ≡ diff ds.now (table_of (record { next = saved.now.next; entries = saved.now.entries }))) }
 {
-    let mut keys = Vec::new(alloc);
-    for entry in entries {
-        keys.push(entry.0)?;
+    if ds.len() == 0 {
+        return ds.patch_of_entries(&saved.entries, saved.next);
     }
-    Ok(keys)
+    let draft = draft_of(ds, saved)?;
+    ds.patch_of(&draft)
 }
 
 /// The difference to a table that was read, where it is sound and within the limit.
-fn patch_within(ds: &DataSet, saved: &SavedTable, limit: u64) -> Result<Patch, SavedFault>
-    requires { T (is_sorted rank_cmp saved.now.entries.items) }
-    ensures { Resumes result (patch_to ds.now (within limit (table_of (record { next = saved.now.next; entries = saved.now.entries.items })))) }
+fn patch_within(ds: &DataSet, saved: &KeyedTable, limit: u64) -> Result<Patch, SavedFault>
+    requires { T (is_sorted rank_cmp saved.now.entries) }
+    ensures { Resumes result (patch_to ds.now (within limit (table_of (record { next = saved.now.next; entries = saved.now.entries })))) }
 {
-    let keys = keys_of(ds.alloc(), saved.entries.as_slice())?;
-    let draft = draft_of(ds, saved)?;
-    match first_unsound(ds, &draft, keys.as_slice())? {
+    match first_unsound(saved)? {
         Some(key) => Err(SavedFault::Unsound { key }),
         None => {
-            if limit < keys.len() as u64 {
+            if limit < saved.entries.len() as u64 {
                 Err(SavedFault::TableFull)
             } else {
-                Ok(ds.patch_of(&draft)?)
+                Ok(patch_to_saved(ds, saved)?)
             }
         }
     }
 }
 
-/// The difference from the table of a data set to the one of a text. Costs the bytes, and a look-up of each object and of each
-/// of its references; beside the difference it takes no copy of a table.
+/// The difference from the table of a data set to the one of a text. Costs the bytes, a step for each object, and for each of its
+/// references a search, or none where it stands behind the one before it. No key is hashed, but where the data set has objects: then
+/// each key of both costs a look-up more.
 ///
 /// # Errors
 /// The first line that can't stand in its place; else the least key whose entry breaks a condition of a sound table; else that
@@ -63,5 +66,6 @@ pub fn read_saved(ds: &DataSet, bytes: &[u8], limit: u64) -> Result<Patch, Saved
     ensures saved { IfOk result (λ patch. StandsIn (after_of patch ds.now) (lines_of bytes.now)) }
 {
     let saved = read_table(ds.alloc(), bytes)?;
-    patch_within(ds, &saved, limit)
+    let table = KeyedTable::new(ds.alloc(), saved)?;
+    patch_within(ds, &table, limit)
 }

@@ -1,18 +1,20 @@
-//! Whether a draft's table is sound, entry by entry.
+//! Whether a table that was read is sound, entry by entry.
 
 ghost use Rattle.std.specs.Prelude.{◌≡◌, IfOk, OnOk};
 ghost use Rattle.std.specs.List.{list_all};
+ghost use Rattle.std.specs.Map.{keys_of};
 ghost use Rattle.std.specs.Option.{option_copied};
 ghost use Rattle.osm_base.specs.Content.{refs_of};
 ghost use Rattle.osm_table.specs.Table.{entry_of};
-ghost use Rattle.dataset.specs.Draft.{drafted};
-ghost use Rattle.saved_session.specs.SoundTest.{is_positive, is_given, is_version, has_version, is_live, is_gone, of_kind, from_server, told_fits, id_fits, why_fits, conflict_fits, limits_fit, is_sound_entry, is_there, refs_there, is_sound_at, is_unsound, first_unsound};
+ghost use Rattle.saved_session.specs.Reading.{table_of};
+ghost use Rattle.saved_session.specs.SoundTest.{is_positive, is_given, is_version, has_version, is_live, is_gone, of_kind, from_server, told_fits, id_fits, why_fits, conflict_fits, limits_fit, is_sound_entry, is_there, refs_there, is_sound_at, first_unsound};
 
+use crate::keyed::KeyedTable;
 use crate::writing::same_mine;
-use dataset::{DataSet, Draft};
 use osm_base::{Content, Key, fits, push_references, same_key};
 use osm_table::{Base, Conflict, EntryParts, SharedEntry, Why};
 use std::alloc::AllocError;
+use std::cell::Cell;
 
 const MOST_ID: i64 = 1_000_000_000_000_000_000;
 
@@ -206,68 +208,58 @@ fn is_sound_entry(
     }
 }
 
-fn all_there(ds: &DataSet, draft: &Draft, refs: &[Key]) -> bool
-    ensures { result ≡ list_all (λ r. is_there (entry_of (drafted draft.now ds.now) r)) refs.now }
+/// Whether the keys are there. Each is sought first behind the one before it.
+fn all_there(saved: &KeyedTable, near: &Cell<usize>, refs: &[Key]) -> bool
+    ensures { result ≡ list_all (λ r. is_there (entry_of (table_of (record { next = saved.now.next; entries = saved.now.entries })) r)) refs.now }
 {
-    refs.iter().all(|r| is_there(draft.entry(ds, *r)))
+    refs.iter().all(|r| is_there(saved.entry_near(near, *r)))
 }
 
 fn refs_there(
     refs: &mut Vec<Key>,
-    ds: &DataSet,
-    draft: &Draft,
+    saved: &KeyedTable,
+    near: &Cell<usize>,
     mine: Option<&Content>,
 ) -> Result<bool, AllocError>
-    ensures { IfOk result (λ there. there ≡ refs_there (drafted draft.now ds.now) (option_copied mine.entry)) }
+    ensures { IfOk result (λ there. there ≡ refs_there (table_of (record { next = saved.now.next; entries = saved.now.entries })) (option_copied mine.entry)) }
 {
     match mine {
         None => Ok(true),
         Some(content) => {
             list_refs(refs, content)?;
-            Ok(all_there(ds, draft, refs.as_slice()))
+            Ok(all_there(saved, near, refs.as_slice()))
         }
     }
 }
 
 fn is_sound_at(
     refs: &mut Vec<Key>,
-    ds: &DataSet,
-    draft: &Draft,
+    saved: &KeyedTable,
+    near: &Cell<usize>,
     key: Key,
     entry: &SharedEntry,
 ) -> Result<bool, AllocError>
-    ensures { IfOk result (λ sound. sound ≡ is_sound_at (drafted draft.now ds.now) key entry.now) }
+    ensures { IfOk result (λ sound. sound ≡ is_sound_at (table_of (record { next = saved.now.next; entries = saved.now.entries })) key entry.now) }
 {
-    let alone = is_sound_entry(refs, draft.next(), key, entry)?;
-    let together = refs_there(refs, ds, draft, entry.mine())?;
+    let alone = is_sound_entry(refs, saved.next, key, entry)?;
+    let together = refs_there(refs, saved, near, entry.mine())?;
     Ok(alone && together)
 }
 
-fn is_unsound(
-    refs: &mut Vec<Key>,
-    ds: &DataSet,
-    draft: &Draft,
-    key: Key,
-) -> Result<bool, AllocError>
-    ensures { IfOk result (λ unsound. unsound ≡ is_unsound (drafted draft.now ds.now) key) }
-{
-    match draft.entry(ds, key) {
-        None => Ok(false),
-        Some(entry) => Ok(!is_sound_at(refs, ds, draft, key, entry)?),
-    }
-}
-
-/// The first of the keys whose entry breaks a condition of a sound table. A look-up of each key and of each of its references.
+/// The first of the keys whose entry breaks a condition of a sound table. Costs a step for each entry and a search for each of
+/// its references, and none for one that stands behind the one before it.
 ///
 /// # Errors
 /// No memory was left.
-pub fn first_unsound(ds: &DataSet, draft: &Draft, keys: &[Key]) -> Result<Option<Key>, AllocError>
-    ensures { IfOk result (λ key. key ≡ first_unsound (drafted draft.now ds.now) keys.now) }
+pub fn first_unsound(saved: &KeyedTable) -> Result<Option<Key>, AllocError>
+    ensures { IfOk result (λ key. key ≡ first_unsound (table_of (record { next = saved.now.next; entries = saved.now.entries })) (keys_of saved.now.entries)) }
 {
-    let mut refs = Vec::new(ds.alloc());
-    for key in keys {
-        if is_unsound(&mut refs, ds, draft, *key)? {
-            return Ok(Some(*key));
+    let mut refs = Vec::new(saved.entries.alloc());
+    let near = Cell::new(0);
+    for i in 0..saved.entries.len() {
+        let (key, entry) = saved.entries.entry_at(i);
+        if !is_sound_at(&mut refs, saved, &near, key, entry)? {
+            return Ok(Some(key));
         }
     }
     Ok(None)

@@ -14,7 +14,7 @@ use crate::words::{BaseWord, Head, MineWord, Words};
 use crate::writing::{mine_version, same_mine};
 use opl_line::{LineKind, Mode, OplObject, Pool, read_line, write_line};
 use osm_base::{Content, Key, Meta, rank, same_key};
-use osm_table::{Base, Conflict, Entry, Shared, Why};
+use osm_table::{Base, Conflict, Entry, Shared, SharedEntry, Why};
 use std::alloc::{AllocError, Global};
 
 /// What the reader of lines has at hand: its texts, and room for what it writes to compare.
@@ -166,7 +166,7 @@ fn awaiting(place: Place) -> Step
     Step { place, entry: None }
 }
 
-fn ending(key: Key, entry: Entry) -> Step
+fn ending(key: Key, entry: SharedEntry) -> Step
     ensures { result ≡ ending key entry }
 {
     Step {
@@ -175,24 +175,30 @@ fn ending(key: Key, entry: Entry) -> Step
     }
 }
 
-fn with_mine(key: Key, base: Base, mine: Option<Content>, why: Option<Why>) -> Step
-    ensures { result ≡ with_mine key base mine why }
+fn with_mine(
+    alloc: Global,
+    key: Key,
+    base: Base,
+    mine: Option<Content>,
+    why: Option<Why>,
+) -> Result<Step, AllocError>
+    ensures { IfOk result (λ s. s ≡ with_mine key base mine why) }
 {
     match why {
-        None => ending(
-            key,
-            Entry::Known {
+        None => {
+            let entry = Entry::Known {
                 base,
                 mine,
                 conflict: None,
-            },
-        ),
-        Some(why) => awaiting(Place::Theirs {
+            };
+            Ok(ending(key, SharedEntry::new(alloc, entry)?))
+        }
+        Some(why) => Ok(awaiting(Place::Theirs {
             key,
             base,
             mine,
             why,
-        }),
+        })),
     }
 }
 
@@ -205,43 +211,64 @@ fn held_copy(base: &Base) -> Result<Option<Content>, AllocError>
     }
 }
 
-fn with_base(key: Key, base: Base, mine: MineWord, why: Option<Why>) -> Result<Step, AllocError>
+/// As `with_mine`, where mine is what the base holds.
+fn with_held(alloc: Global, key: Key, base: Base, why: Option<Why>) -> Result<Step, AllocError>
+    ensures { IfOk result (λ s. s ≡ with_mine key base (held_by base) why) }
+{
+    match why {
+        None => Ok(ending(key, SharedEntry::unchanged(alloc, base)?)),
+        Some(why) => {
+            let mine = held_copy(&base)?;
+            Ok(awaiting(Place::Theirs {
+                key,
+                base,
+                mine,
+                why,
+            }))
+        }
+    }
+}
+
+fn with_base(
+    alloc: Global,
+    key: Key,
+    base: Base,
+    mine: MineWord,
+    why: Option<Why>,
+) -> Result<Step, AllocError>
     ensures { IfOk result (λ s. s ≡ with_base key base mine why) }
 {
     match mine {
-        MineWord::Same => {
-            let held = held_copy(&base)?;
-            Ok(with_mine(key, base, held, why))
-        }
-        MineWord::Absent => Ok(with_mine(key, base, None, why)),
+        MineWord::Same => with_held(alloc, key, base, why),
+        MineWord::Absent => with_mine(alloc, key, base, None, why),
         MineWord::Own => Ok(awaiting(Place::Mine { key, base, why })),
     }
 }
 
-fn with_words(key: Key, words: Words) -> Result<Step, AllocError>
+fn with_words(alloc: Global, key: Key, words: Words) -> Result<Step, AllocError>
     ensures { IfOk result (λ s. s ≡ with_words key words.base words) }
 {
     match words.base {
-        BaseWord::New => with_base(key, Base::New, words.mine, words.why),
+        BaseWord::New => with_base(alloc, key, Base::New, words.mine, words.why),
         BaseWord::Live | BaseWord::Gone => Ok(awaiting(Place::Base { key, words })),
     }
 }
 
-fn with_head(last: Option<Key>, head: Head) -> Result<Step, Unread>
+fn with_head(alloc: Global, last: Option<Key>, head: Head) -> Result<Step, Unread>
     ensures { Gives result (with_head last head) }
 {
     match head {
         Head::End => Ok(awaiting(Place::Behind)),
         Head::Incomplete(key) => {
             if is_behind(last, key) {
-                Ok(ending(key, Entry::Incomplete))
+                Ok(ending(key, SharedEntry::new(alloc, Entry::Incomplete)?))
             } else {
                 Err(Unread::Outside)
             }
         }
         Head::Known { key, words } => {
             if is_behind(last, key) && may_stand(words.mine, words.base) {
-                Ok(with_words(key, words)?)
+                Ok(with_words(alloc, key, words)?)
             } else {
                 Err(Unread::Outside)
             }
@@ -254,18 +281,19 @@ fn with_head(last: Option<Key>, head: Head) -> Result<Step, Unread>
 pub fn step(desk: &mut Desk, here: Place, line: &[u8]) -> Result<Step, Unread>
     ensures { Gives result (step here line.now) }
 {
+    let alloc = desk.pool.allocator();
     match here {
         Place::Head { last } => {
             let head = read_head(&mut desk.written, line)?;
-            with_head(last, head)
+            with_head(alloc, last, head)
         }
         Place::Base { key, words } => {
             let base = base_at(desk, key, words.base, line)?;
-            Ok(with_base(key, base, words.mine, words.why)?)
+            Ok(with_base(alloc, key, base, words.mine, words.why)?)
         }
         Place::Mine { key, base, why } => {
             let mine = mine_at(desk, key, &base, line)?;
-            Ok(with_mine(key, base, mine, why))
+            Ok(with_mine(alloc, key, base, mine, why)?)
         }
         Place::Theirs {
             key,
@@ -274,15 +302,13 @@ pub fn step(desk: &mut Desk, here: Place, line: &[u8]) -> Result<Step, Unread>
             why,
         } => {
             let theirs = theirs_at(desk, key, line)?;
-            let conflict = Shared::new(desk.pool.allocator(), Conflict { why, theirs })?;
-            Ok(ending(
-                key,
-                Entry::Known {
-                    base,
-                    mine,
-                    conflict: Some(conflict),
-                },
-            ))
+            let conflict = Some(Shared::new(alloc, Conflict { why, theirs })?);
+            let entry = Entry::Known {
+                base,
+                mine,
+                conflict,
+            };
+            Ok(ending(key, SharedEntry::new(alloc, entry)?))
         }
         Place::Behind => Ok(awaiting(Place::Behind)),
     }

@@ -1,4 +1,4 @@
-use Rattle.std.proofs.Common.{◌≡◌, ◌+◌, ◌≤◌, not, sym, ◌∙◌, true, arith, subst}
+use Rattle.std.proofs.Common.{◌≡◌, ◌+◌, ◌≤◌, not, sym, ◌∙◌, ap, true, arith, subst}
 use Rattle.std.specs.List.{list_all}
 use Rattle.ref_index.specs.Bag.{times}
 use Rattle.dataset.specs.Exact.{keeps_pairs, pairs_by}
@@ -11,7 +11,9 @@ use Rattle.dataset.proofs.index.Index.lead.Goals as goal
 pub returns-then-keep_pairs-clause-ok : goal.returns-then-keep_pairs-clause-ok
 returns-then-keep_pairs-clause-ok c = λ p.
     let kept : list_all keeps_pairs c.args.edits.now ≡ true = sym c.keep_pairs.ensures ∙ c.if-keep_pairs.true in
-    λ i. times p ((no_pairs_move (not c.args.forth) c.args.edits.now kept ∙ sym (no_pairs_move c.args.forth c.args.edits.now kept)) i) + count_kept c.args.self.now p
+    let same = ap (λ (x : Index). count_kept x p) c.in-Told.is in
+    ap (λ n. times p (pairs_by (side (not c.args.forth)) c.args.edits.now) + n) (sym same)
+    ∙ (λ i. times p ((no_pairs_move (not c.args.forth) c.args.edits.now kept ∙ sym (no_pairs_move c.args.forth c.args.edits.now kept)) i) + count_kept c.args.self.now p)
 
 pub lead_pairs-requires : goal.lead_pairs-requires
 lead_pairs-requires c = λ p. subst (λ (x : Index). times p (pairs_by (side (not c.args.forth)) c.args.edits.now) ≤ count_kept x p) c.in-Own.is (c.requires p)

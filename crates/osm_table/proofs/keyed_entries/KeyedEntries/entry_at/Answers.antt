@@ -8,7 +8,7 @@ use Rattle.osm_table.specs.declared.entry.Entry.{Entry}
 use Rattle.std.specs.Map.Iter.{deref_pair}
 use Rattle.std.specs.Option.{option_map}
 use Rattle.std.proofs.lemmas.Option.{slice_get-map, slice_get_read}
-use Rattle.osm_table.proofs.OrderLaws.{found_at}
+use Rattle.osm_table.proofs.OrderLaws.{found_at, zip_at}
 use Rattle.osm_table.proofs.InPlace.{kept_view, kept_keys, kept_len}
 use Rattle.osm_table.proofs.keyed_entries.KeyedEntries.entry_at.Goals as goal
 
@@ -42,3 +42,13 @@ returns-in-Hashed-clause-key c =
     ap (λ (es : List (Key × Entry)). slice_get (keys_of es) c.args.i) (sym view)
     ∙ slice_get-map (λ (e : Key × Entry). e.0) entries c.args.i
     ∙ ap (option_map (λ (e : Key × Entry). e.0)) (sym c.get_index.ensures.entry ∙ ap (λ o. option_map deref_pair o) c.unwrap.ensures)
+
+pub returns-in-Rising-clause-pair : goal.returns-in-Rising-clause-pair
+returns-in-Rising-clause-pair c =
+    let long = kept_len c.in-Rising.is c.self.invariant c.self.view_is in
+    let keys = c.in-Rising.keys in
+    let entries = c.in-Rising.entries in
+    ap (λ (es : List (Key × Entry)). slice_get es c.args.i) (sym (kept_view c.in-Rising.is c.self.view_is))
+    ∙ zip_at keys.items entries.items c.args.i c.index.result.now c.index-in-Rising.result.now
+    (slice_get_read keys.items keys.len c.args.i c.index.result.now keys.ok.0 (subst (λ n. c.args.i < n) (sym long.0) c.requires) c.index.ensures)
+    (slice_get_read entries.items entries.len c.args.i c.index-in-Rising.result.now entries.ok.0 (subst (λ n. c.args.i < n) (sym long.1) c.requires) c.index-in-Rising.ensures)

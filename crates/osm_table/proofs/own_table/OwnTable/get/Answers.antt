@@ -5,4 +5,4 @@ use Rattle.osm_base.specs.RankLaws.{rank_total, rank_exact, rank_ties}
 use Rattle.osm_table.proofs.own_table.OwnTable.get.Goals as goal
 
 pub returns : goal.returns
-returns c = c.get.ensures.value ∙ get_view rank_total rank_exact rank_ties c.self.inside.entries.entries c.args.key ∙ ap (λ (t : TableValue). entry_of t c.args.key) c.self.view_is
+returns c = c.get.ensures ∙ get_view rank_total rank_exact rank_ties c.self.inside.entries c.args.key ∙ ap (λ (t : TableValue). entry_of t c.args.key) c.self.view_is

@@ -9,6 +9,6 @@ use Rattle.osm_table.proofs.told_map.ToldMap.to_table.Goals as goal
 pub returns : goal.returns
 returns c =
     c.with_entries.ensures
-    ∙ ap (λ (es : List (Key × Entry)). record { entries = map.from_entries es; next = c.args.next }) c.in_ok-to_map.ensures
+    ∙ ap (λ (es : List (Key × Entry)). record { entries = map.from_entries es; next = c.args.next }) c.in_ok-copy.ensures
     ∙ table_kept c.self.inside.entries c.args.next c.self.invariant.1
     ∙ ap (λ (m : ToldValue). table_told m.told c.args.next) c.self.view_is

@@ -1,0 +1,12 @@
+use Rattle.std.proofs.Common.{◌∙◌, List, [], ap}
+use Rattle.indexmap.specs.IndexMap.{insert_all}
+use Rattle.osm_base.specs.KeyEq.{eq}
+use Rattle.osm_base.specs.declared.key.Key.{Key}
+use Rattle.osm_table.specs.declared.entry.Entry.{Entry}
+use Rattle.osm_table.proofs.ListedLaws.{all_new}
+use Rattle.osm_table.proofs.keyed_entries.KeyedEntries.of_list.Goals as goal
+
+pub returns : goal.returns
+returns c =
+    c.in_ok-put_all.ensures ∙ ap (λ (es : List (Key × Entry)). insert_all eq es c.args.list.items) c.in_ok-entries.ensures
+    ∙ all_new [] c.args.list.items c.requires
