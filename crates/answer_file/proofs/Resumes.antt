@@ -9,13 +9,13 @@ use Rattle.dataset.proofs.Laws.{diff_leads}
 use Rattle.upload_order.specs.declared.change.Change.{Change}
 use Rattle.upload_order.specs.World.{World}
 use Rattle.placeholder.specs.Answered.{AreAnswered}
-use Rattle.placeholder.specs.Confirm.{answers_of}
+use Rattle.placeholder.specs.Confirm.{answers_of, Confirms}
 use Rattle.placeholder.specs.Confirmed.{confirmed_all}
 use Rattle.placeholder.proofs.Accepts.{accepts_answers}
 use Rattle.placeholder.proofs.After.{after_all, front_taken}
-use Rattle.answer_file.specs.declared.fault.AnswerFault.{AnswerFault}
-use Rattle.answer_file.specs.declared.fault.AnswerFault.TheVariants.{Plan, WrongAnswer, IdTaken, Memory}
-use Rattle.answer_file.specs.Answers.{Confirms, confirm_text}
+use Rattle.placeholder.specs.declared.fault.ConfirmFault.{ConfirmFault}
+use Rattle.placeholder.specs.declared.fault.ConfirmFault.TheVariants.{Plan, WrongAnswer, IdTaken, Memory}
+use Rattle.answer_file.specs.Answers.{confirm_text}
 use Rattle.answer_file.specs.Resumed.{TellsAnswers, GoesOn}
 use Rattle.answer_file.specs.Text.{text_of}
 use Rattle.answer_file.proofs.Told.{answers_told, text_makes}
@@ -38,7 +38,7 @@ difference_leads : (t u : TableValue) → u ≡ after_of (diff t u) t
 difference_leads t u = (diff_leads t u (diff t u) (diff_is t u)).to
 
 -- where a patch is to be answered, memory alone can fail
-memory_alone : (result : Result PatchValue AnswerFault) (patch : PatchValue) → Confirms result (Ok patch) → IfErr result (λ fault. fault ≡ Memory)
+memory_alone : (result : Result PatchValue ConfirmFault) (patch : PatchValue) → Confirms result (Ok patch) → IfErr result (λ fault. fault ≡ Memory)
 memory_alone (Ok other) patch h = tt
 memory_alone (Err Memory) patch h = refl
 memory_alone (Err (Plan refusal)) patch h = cc
@@ -46,11 +46,11 @@ memory_alone (Err (WrongAnswer line)) patch h = cc
 memory_alone (Err (IdTaken key)) patch h = cc
 
 -- and a patch that is answered is that one
-patch_alone : (P : PatchValue → Type 0) (result : Result PatchValue AnswerFault) (patch : PatchValue) → Confirms result (Ok patch) → P patch → IfOk result P
+patch_alone : (P : PatchValue → Type 0) (result : Result PatchValue ConfirmFault) (patch : PatchValue) → Confirms result (Ok patch) → P patch → IfOk result P
 patch_alone P (Ok other) patch h holds = let same : patch ≡ other = cc in subst P same holds
 patch_alone P (Err fault) patch h holds = tt
 
-module _ (w : World) (t : TableValue) (cs ds : List Change) (ids : List ℤ) (bytes : List ℕ) (result : Result PatchValue AnswerFault) where
+module _ (w : World) (t : TableValue) (cs ds : List Change) (ids : List ℤ) (bytes : List ℕ) (result : Result PatchValue ConfirmFault) where
   confirms_patch : TellsAnswers w t cs ds ids bytes → Confirms result (confirm_text t bytes) → Confirms result (Ok (diff t (confirmed_all t cs ids)))
   confirms_patch h value = subst (Confirms result) (ap (confirm_text t) h.text ∙ text_confirms w t cs ds ids h.answers) value
 

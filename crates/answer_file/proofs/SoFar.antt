@@ -6,10 +6,10 @@ use Rattle.edit_script.specs.Script.{is_skipped}
 use Rattle.osm_table.specs.Table.{TableValue}
 use Rattle.placeholder.specs.declared.answer.Answer.{Answer}
 use Rattle.placeholder.specs.declared.fault.ConfirmFault.{ConfirmFault}
-use Rattle.placeholder.specs.declared.fault.ConfirmFault.TheVariants as confirm
-use Rattle.placeholder.specs.Confirm as placeholder
+use Rattle.placeholder.specs.declared.fault.ConfirmFault.TheVariants.{Plan, WrongAnswer, IdTaken, Memory}
+use Rattle.placeholder.specs.Confirm.{Confirms, confirm}
 use Rattle.answer_file.specs.Lines.{answer_of}
-use Rattle.answer_file.specs.Answers.{FileAnswers, before_others, answers_from, answers_of, unless_wrong, by_lines, confirm_text, Confirms}
+use Rattle.answer_file.specs.Answers.{FileAnswers, before_others, answers_from, answers_of, unless_wrong, by_lines, confirm_text}
 
 -- answers with their lines before the others
 abbrev pub onto_front : List Answer → List ℕ → FileAnswers → FileAnswers
@@ -67,16 +67,16 @@ unless_itself None patch = refl
 unless_itself (Some line) patch = refl
 
 -- what is answered of the answers is answered of the file
-pub by_lines_of : (file : FileAnswers) (r s : Result PatchValue ConfirmFault) → placeholder.Confirms r s → Confirms (by_lines file r) (by_lines file s)
+pub by_lines_of : (file : FileAnswers) (r s : Result PatchValue ConfirmFault) → Confirms r s → Confirms (by_lines file r) (by_lines file s)
 by_lines_of file (Ok patch) s h = subst (λ x. Confirms (unless_wrong file.wrong patch) (by_lines file x)) (sym h) (unless_itself file.wrong patch)
-by_lines_of file (Err confirm.Memory) s h = tt
-by_lines_of file (Err (confirm.Plan refusal)) s h = ap (by_lines file) h
-by_lines_of file (Err (confirm.WrongAnswer number)) s h = ap (by_lines file) h
-by_lines_of file (Err (confirm.IdTaken key)) s h = ap (by_lines file) h
+by_lines_of file (Err Memory) s h = tt
+by_lines_of file (Err (Plan refusal)) s h = ap (by_lines file) h
+by_lines_of file (Err (WrongAnswer number)) s h = ap (by_lines file) h
+by_lines_of file (Err (IdTaken key)) s h = ap (by_lines file) h
 
 pub text_of_file : (t : TableValue) (bytes : List ℕ) (answers : List Answer) (lines : List ℕ) (wrong : Option ℕ) (r : Result PatchValue ConfirmFault)
-    → answers ≡ (answers_of bytes).answers → lines ≡ (answers_of bytes).lines → wrong ≡ (answers_of bytes).wrong → placeholder.Confirms r (placeholder.confirm t answers)
+    → answers ≡ (answers_of bytes).answers → lines ≡ (answers_of bytes).lines → wrong ≡ (answers_of bytes).wrong → Confirms r (confirm t answers)
     → Confirms (by_lines (ended answers lines wrong) r) (confirm_text t bytes)
 text_of_file t bytes answers lines wrong r a l w h =
     subst (λ (file : FileAnswers). Confirms (by_lines file r) (confirm_text t bytes)) (λ i. record { answers = sym a i; lines = sym l i; wrong = sym w i })
-    (by_lines_of (answers_of bytes) r (placeholder.confirm t (answers_of bytes).answers) (subst (λ (x : List Answer). placeholder.Confirms r (placeholder.confirm t x)) a h))
+    (by_lines_of (answers_of bytes) r (confirm t (answers_of bytes).answers) (subst (λ (x : List Answer). Confirms r (confirm t x)) a h))

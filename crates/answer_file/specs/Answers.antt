@@ -2,7 +2,7 @@
 --
 -- For example the first line of a file is `# chunk 1`, its second `create n-1 n50 v1` and its third `modify w5`. It has one
 -- answer, of line 2, and the first line that gives none is 3: so line 3 is a wrong answer, unless the second is one.
-use Rattle.std.specs.Prelude.{◌≡◌, ℕ, ◌+◌, ◌-◌, if◌then◌else◌, List, [], ◌∷◌, slice_index, Option, Some, None, Result, Ok, Err}
+use Rattle.std.specs.Prelude.{ℕ, ◌+◌, ◌-◌, if◌then◌else◌, List, [], ◌∷◌, slice_index, Option, Some, None, Result, Ok, Err}
 use Rattle.opl_line.specs.Line.{freed}
 use Rattle.opl_file.specs.Cut.{lines_of}
 use Rattle.edit_script.specs.Script.{is_skipped}
@@ -10,10 +10,8 @@ use Rattle.osm_table.specs.Table.{TableValue}
 use Rattle.dataset.specs.Patch.{PatchValue}
 use Rattle.placeholder.specs.declared.answer.Answer.{Answer}
 use Rattle.placeholder.specs.declared.fault.ConfirmFault.{ConfirmFault}
-use Rattle.placeholder.specs.declared.fault.ConfirmFault.TheVariants as confirm
+use Rattle.placeholder.specs.declared.fault.ConfirmFault.TheVariants.{WrongAnswer}
 use Rattle.placeholder.specs.Confirm as placeholder
-use Rattle.answer_file.specs.declared.fault.AnswerFault.{AnswerFault}
-use Rattle.answer_file.specs.declared.fault.AnswerFault.TheVariants.{Plan, WrongAnswer, IdTaken, Memory}
 use Rattle.answer_file.specs.Lines.{answer_of}
 
 -- The answers of a file before the first line that gives none, the number of each one's line, and the number of that line.
@@ -39,28 +37,20 @@ abbrev pub answers_of : List ℕ → FileAnswers
 answers_of bytes = answers_from 1 (lines_of bytes)
 
 -- a fault, with the line of an answer for its number
-abbrev pub at_line : List ℕ → ConfirmFault → AnswerFault
-at_line lines (confirm.Plan refusal) = Plan refusal
-at_line lines (confirm.WrongAnswer number) = WrongAnswer (slice_index lines (number - 1))
-at_line lines (confirm.IdTaken key) = IdTaken key
-at_line lines confirm.Memory = Memory
+abbrev pub at_line : List ℕ → ConfirmFault → ConfirmFault
+at_line lines (WrongAnswer number) = WrongAnswer (slice_index lines (number - 1))
+at_line lines fault = fault
 
 -- a line that gives no answer is a wrong one
-abbrev pub unless_wrong : Option ℕ → PatchValue → Result PatchValue AnswerFault
+abbrev pub unless_wrong : Option ℕ → PatchValue → Result PatchValue ConfirmFault
 unless_wrong None patch = Ok patch
 unless_wrong (Some line) patch = Err (WrongAnswer line)
 
 -- what the answers make, and then the line that gives none
-abbrev pub by_lines : FileAnswers → Result PatchValue ConfirmFault → Result PatchValue AnswerFault
+abbrev pub by_lines : FileAnswers → Result PatchValue ConfirmFault → Result PatchValue ConfirmFault
 by_lines file (Ok patch) = unless_wrong file.wrong patch
 by_lines file (Err fault) = Err (at_line file.lines fault)
 
 -- The difference to the table that a file's answers confirm, or why there is none.
-abbrev pub confirm_text : TableValue → List ℕ → Result PatchValue AnswerFault
+abbrev pub confirm_text : TableValue → List ℕ → Result PatchValue ConfirmFault
 confirm_text t bytes = by_lines (answers_of bytes) (placeholder.confirm t (answers_of bytes).answers)
-
--- what is answered, where memory is found
-abbrev pub Confirms : Result PatchValue AnswerFault → Result PatchValue AnswerFault → Type 0
-Confirms (Ok patch) answer = answer ≡ Ok patch
-Confirms (Err Memory) answer = Unit {0}
-Confirms (Err fault) answer = answer ≡ Err fault

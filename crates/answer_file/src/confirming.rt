@@ -4,33 +4,30 @@ ghost use Rattle.dataset.specs.Patch.{StandsBefore, after_of};
 ghost use Rattle.dataset.specs.Sound.{IsSound};
 ghost use Rattle.upload_order.specs.declared.change.Change.{Change};
 ghost use Rattle.upload_order.specs.World.{World};
-ghost use Rattle.placeholder.specs.Confirm.{IsNumbered};
-ghost use Rattle.answer_file.specs.declared.fault.AnswerFault.TheVariants.{Memory};
-ghost use Rattle.answer_file.specs.Answers.{Confirms, at_line, confirm_text};
+ghost use Rattle.placeholder.specs.declared.fault.ConfirmFault.TheVariants.{Memory};
+ghost use Rattle.placeholder.specs.Confirm.{Confirms, IsNumbered};
+ghost use Rattle.answer_file.specs.Answers.{at_line, confirm_text};
 ghost use Rattle.answer_file.specs.Resumed.{GoesOn, TellsAnswers};
 
-use crate::fault::AnswerFault;
 use crate::reading::read_answers;
 use dataset::{DataSet, Patch};
 use placeholder::{ConfirmFault, confirm};
 
 /// The fault, with the line of an answer for its number.
-fn at_line(lines: &[u64], fault: ConfirmFault) -> AnswerFault
+fn at_line(lines: &[u64], fault: ConfirmFault) -> ConfirmFault
     requires { IsNumbered (length lines.now) fault }
     ensures { result ≡ at_line lines.now fault }
 {
     match fault {
-        ConfirmFault::Plan { refusal } => AnswerFault::Plan { refusal },
-        ConfirmFault::WrongAnswer { number } => AnswerFault::WrongAnswer {
-            line: lines[number as usize - 1],
+        ConfirmFault::WrongAnswer { number } => ConfirmFault::WrongAnswer {
+            number: lines[number as usize - 1],
         },
-        ConfirmFault::IdTaken { key } => AnswerFault::IdTaken { key },
-        ConfirmFault::Memory => AnswerFault::Memory,
+        other => other,
     }
 }
 
 /// What the file makes of the table, by the definition.
-fn confirmed_by(ds: &DataSet, bytes: &[u8]) -> Result<Patch, AnswerFault>
+fn confirmed_by(ds: &DataSet, bytes: &[u8]) -> Result<Patch, ConfirmFault>
     ensures value { Confirms result (confirm_text ds.now bytes.now) }
     ensures stands { IfOk result (λ patch. StandsBefore patch ds.now) }
     ensures sound { IfOk result (λ patch. IsSound (after_of patch ds.now)) }
@@ -40,7 +37,7 @@ fn confirmed_by(ds: &DataSet, bytes: &[u8]) -> Result<Patch, AnswerFault>
         Err(fault) => Err(at_line(file.lines.as_slice(), fault)),
         Ok(patch) => match file.wrong {
             None => Ok(patch),
-            Some(line) => Err(AnswerFault::WrongAnswer { line }),
+            Some(line) => Err(ConfirmFault::WrongAnswer { number: line }),
         },
     }
 }
@@ -51,7 +48,7 @@ fn confirmed_by(ds: &DataSet, bytes: &[u8]) -> Result<Patch, AnswerFault>
 /// # Errors
 /// The plan is refused; or by the first of the lines, it isn't the answer to its change, or gives an id that is taken; or no
 /// memory was left.
-pub fn confirm_file(ds: &DataSet, bytes: &[u8]) -> Result<Patch, AnswerFault>
+pub fn confirm_file(ds: &DataSet, bytes: &[u8]) -> Result<Patch, ConfirmFault>
     // It is the difference by the definition, or the fault.
     ensures value { Confirms result (confirm_text ds.now bytes.now) }
     // It leads to a sound table.

@@ -10,11 +10,9 @@
 #![tactic(auto)]
 
 mod confirming;
-mod fault;
 mod laws;
 mod line;
 mod reading;
 
 pub use confirming::confirm_file;
-pub use fault::AnswerFault;
 pub use laws::{answers_by_line, text_is_confirmed};

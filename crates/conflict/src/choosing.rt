@@ -11,6 +11,7 @@ use merge_cases::{
 use osm_base::Content;
 use osm_table::{Base, Conflict, Entry, EntryParts, SharedEntry};
 use std::alloc::{AllocError, Global};
+use tool_api::copied;
 
 fn of_side<'a>(side: Side, mine: &'a Content, theirs: &'a Content) -> &'a Content
     ensures { result.now ≡ of_side side mine.now theirs.now }
@@ -126,15 +127,6 @@ fn parts_of(
     match (base, mine, theirs) {
         (Some(base), Some(mine), Some(theirs)) => in_parts(alloc, body, listed, base, mine, theirs),
         _ => Ok(None),
-    }
-}
-
-fn copied(content: Option<&Content>) -> Result<Option<Content>, AllocError>
-    ensures { IfOk result (λ copy. copy ≡ option_copied content.entry) }
-{
-    match content {
-        None => Ok(None),
-        Some(content) => Ok(Some(content.copy()?)),
     }
 }
 

@@ -1,15 +1,10 @@
 //! The objects in conflict.
 ghost use Rattle.std.specs.Prelude.{◌≡◌, IfOk};
-ghost use Rattle.std.specs.List.{filter};
-ghost use Rattle.std.specs.Option.{option_copied};
-ghost use Rattle.osm_table.specs.Table.{entry_of};
-ghost use Rattle.tool_api.specs.Closing.{in_conflict};
 ghost use Rattle.conflict.specs.Listed.{conflict_keys};
 
 use dataset::DataSet;
-use osm_base::{Key, Keys};
-use osm_table::SharedEntry;
-use std::alloc::{AllocError, Global};
+use osm_base::Keys;
+use std::alloc::AllocError;
 use std::cell::Cell;
 use tool_api::in_conflict;
 
@@ -22,24 +17,12 @@ pub fn conflicts(ds: &DataSet) -> Result<Keys, AllocError>
     ensures { IfOk result (λ keys. keys ≡ conflict_keys ds.now) }
 {
     let keys = ds.ordered()?;
-    Ok(Keys::from_vec(conflicts_among(ds.alloc(), ds, keys.as_slice())?))
-}
-
-fn conflicts_among(alloc: Global, ds: &DataSet, keys: &[Key]) -> Result<Vec<Key>, AllocError>
-    ensures { IfOk result (λ found. found.items ≡ filter (λ k. in_conflict (entry_of ds.now k)) keys.now) }
-{
     let near = Cell::new(0);
-    keys.iter()
+    let found = keys
+        .as_slice()
+        .iter()
         .copied()
-        .filter(|key| in_conflict(entry_near(ds, &near, *key)))
-        .collect(alloc)
-}
-
-/// The entry of a key. It is sought first at the place `near`, which then is the one behind it.
-fn entry_near<'a>(ds: &'a DataSet, near: &Cell<usize>, key: Key) -> Option<&'a SharedEntry>
-    ensures { option_copied result ≡ entry_of ds.now key }
-{
-    let (behind, entry) = ds.entry_near(near.get(), key)?;
-    near.set(behind);
-    Some(entry)
+        .filter(|key| in_conflict(ds.entry_along(&near, *key)))
+        .collect(ds.alloc())?;
+    Ok(Keys::from_vec(found))
 }

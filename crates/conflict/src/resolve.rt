@@ -36,15 +36,11 @@ impl Command for Resolve {
 
     ghost kind = { verb.Resolve };
 
-    fn new() -> Resolve {
-        Resolve {}
-    }
-
-    fn verb(&self) -> Verb {
+    fn verb() -> Verb {
         Verb::Resolve
     }
 
-    fn plan(&self, ds: &DataSet, job: &Job, limit: u64) -> Result<Plan, AllocError> {
+    fn plan(ds: &DataSet, job: &Job, limit: u64) -> Result<Plan, AllocError> {
         match job {
             Job::Resolve { key, choice } => resolve_plan(ds, *key, choice, limit),
             _ => unreachable!(),

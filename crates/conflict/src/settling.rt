@@ -13,10 +13,12 @@ ghost use Rattle.tool_api.specs.Staged.{refs_by};
 ghost use Rattle.conflict.specs.Settled.{settled_tests, entered};
 
 use dataset::{DataSet, Draft};
-use osm_base::{Content, Key, Keys, push_references, same_key};
+use osm_base::{Content, Key, Keys, same_key};
 use osm_table::{Entry, EntryParts, SharedEntry};
-use std::alloc::{AllocError, Global};
-use tool_api::{KeySet, Plan, Refusal, makes_unfit, room_test, use_test};
+use std::alloc::AllocError;
+use tool_api::{
+    KeySet, Plan, Refusal, first_refusal, makes_unfit, push_refs_by, room_test, use_test,
+};
 
 fn mine(entry: &Entry) -> Option<&Content>
     ensures { option_copied result ≡ mine_of entry.now }
@@ -25,17 +27,6 @@ fn mine(entry: &Entry) -> Option<&Content>
         Entry::Incomplete => None,
         Entry::Known { mine, .. } => mine.as_ref(),
     }
-}
-
-/// To what the content refers, if there is one.
-fn references(alloc: Global, content: Option<&Content>) -> Result<Vec<Key>, AllocError>
-    ensures { IfOk result (λ refs. refs.items ≡ refs_by (option_copied content.entry)) }
-{
-    let mut refs = Vec::new(alloc);
-    if let Some(content) = content {
-        push_references(content, &mut refs)?;
-    }
-    Ok(refs)
 }
 
 /// Of an object that goes: InUse with the least user besides itself.
@@ -56,10 +47,7 @@ fn unused_test(
 fn gone_test(key: Key, found: Option<&SharedEntry>) -> Option<Refusal>
     ensures { result ≡ gone_test key (option_copied found.entry) }
 {
-    let Some(entry) = found else {
-        return None;
-    };
-    match entry.parts() {
+    match found?.parts() {
         EntryParts::Known { mine: None, .. } => Some(Refusal::DeletedObject(key)),
         _ => None,
     }
@@ -78,12 +66,7 @@ fn reference_gone_test(ds: &DataSet, key: Key, of: Key) -> Option<Refusal>
 fn references_gone_test(ds: &DataSet, key: Key, refs: &[Key]) -> Option<Refusal>
     ensures { result ≡ first_of (λ r. if is_key key r then None else gone_test r (entry_of ds.now r)) refs.now }
 {
-    for of in refs {
-        if let Some(refusal) = reference_gone_test(ds, key, *of) {
-            return Some(refusal);
-        }
-    }
-    None
+    first_refusal(refs, |of| reference_gone_test(ds, key, of))
 }
 
 /// Unfit where mine is not what the server has, and doesn't fit.
@@ -165,7 +148,8 @@ pub fn settle_plan(ds: &DataSet, key: Key, entry: Entry, limit: u64) -> Result<P
     requires sound { settled_tests ds.now key entry ≡ None → IsSound (settled_table ds.now key (Some entry)) }
     ensures { IfOk result (Plans ds.now (settle ds.now limit key (Some entry))) }
 {
-    let refs = references(ds.alloc(), mine(&entry))?;
+    let mut refs = Vec::new(ds.alloc());
+    push_refs_by(mine(&entry), &mut refs)?;
     if let Some(refusal) = settled_tests(ds, key, &entry, &refs)? {
         return Ok(Plan::Refused(refusal));
     }

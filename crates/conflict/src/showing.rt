@@ -9,7 +9,7 @@ ghost use Rattle.conflict.specs.Shown.{conflict_text, known_text, meta_of, side_
 use dataset::DataSet;
 use opl_line::write_line;
 use osm_base::{Content, Key, Meta, write_key};
-use osm_table::{Base, Conflict, EntryParts, Why};
+use osm_table::{Base, EntryParts, Why};
 use std::alloc::AllocError;
 
 /// Appends the four lines of the object in conflict with that key, and nothing where it isn't in conflict: its key and
@@ -32,23 +32,11 @@ pub fn write_conflict(ds: &DataSet, key: Key, out: &mut Vec<u8>) -> Result<(), A
             base,
             mine,
             conflict: Some(conflict),
-        } => write_lines(key, base, mine, conflict, out),
+        } => {
+            write_why(key, conflict.why, out)?;
+            write_sides(key, base, mine, &conflict.theirs, out)
+        }
     }
-}
-
-#[tactic(auto, using(osm_base::proofs::ExtendLaws::extends_steps))]
-fn write_lines(
-    key: Key,
-    base: &Base,
-    mine: Option<&Content>,
-    conflict: &Conflict,
-    out: &mut Vec<u8>,
-) -> Result<(), AllocError>
-    ensures written { OnOk result (out.new.items ≡ out.old.items ++ (why_line key conflict.now.why ++ side_lines key base.now (option_copied mine.entry) conflict.now.theirs)) }
-    ensures kept { OnErr result (Extends out.old.items out.new.items) }
-{
-    write_why(key, conflict.why, out)?;
-    write_sides(key, base, mine, &conflict.theirs, out)
 }
 
 #[tactic(auto, using(osm_base::proofs::ExtendLaws::extends_steps))]

@@ -27,6 +27,7 @@ mod index;
 mod pairs;
 mod patch;
 mod told_index;
+mod walk;
 mod writes;
 
 pub use dataset::DataSet;

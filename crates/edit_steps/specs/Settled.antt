@@ -6,8 +6,8 @@ use Rattle.std.specs.Prelude.{ℕ, List, Result, Ok, Err}
 use Rattle.osm_table.specs.Table.{TableValue}
 use Rattle.dataset.specs.Patch.{PatchValue, StandsBefore, after_of}
 use Rattle.dataset.specs.Sound.{IsSound}
-use Rattle.answer_file.specs.declared.fault.AnswerFault.{AnswerFault}
-use Rattle.answer_file.specs.declared.fault.AnswerFault.TheVariants as answer
+use Rattle.placeholder.specs.declared.fault.ConfirmFault.{ConfirmFault}
+use Rattle.placeholder.specs.declared.fault.ConfirmFault.TheVariants as answer
 use Rattle.answer_file.specs.Answers.{confirm_text}
 use Rattle.saved_session.specs.declared.fault.SavedFault.{SavedFault}
 use Rattle.saved_session.specs.declared.fault.SavedFault.TheVariants as fault
@@ -18,7 +18,7 @@ use Rattle.edit_script.specs.declared.reply.StepRefusal.TheVariants.{Tool, Wrong
 use Rattle.edit_steps.specs.Planned.{plan_refused}
 
 -- why a file of answers isn't taken; want of memory is no file's refusal
-abbrev pub answers_refused : AnswerFault → StepRefusal
+abbrev pub answers_refused : ConfirmFault → StepRefusal
 answers_refused (answer.Plan why) = plan_refused why
 answers_refused (answer.WrongAnswer line) = WrongAnswer line
 answers_refused (answer.IdTaken key) = IdTaken key
@@ -31,7 +31,7 @@ saved_refused (fault.Unsound key) = Unsound key
 saved_refused fault.TableFull = Tool TableFull
 saved_refused fault.Memory = BadSaved 0
 
-abbrev pub of_answers : Result PatchValue AnswerFault → Result PatchValue StepRefusal
+abbrev pub of_answers : Result PatchValue ConfirmFault → Result PatchValue StepRefusal
 of_answers (Ok patch) = Ok patch
 of_answers (Err why) = Err (answers_refused why)
 

@@ -1,13 +1,14 @@
 //! The table that a file makes the table now for good, or why the file isn't taken.
 ghost use Rattle.std.specs.Prelude.{◌≡◌, ◌≢◌, IfOk};
-ghost use Rattle.answer_file.specs.declared.fault.AnswerFault.TheVariants as answers;
+ghost use Rattle.placeholder.specs.declared.fault.ConfirmFault.TheVariants as answers;
 ghost use Rattle.saved_session.specs.declared.fault.SavedFault.TheVariants as saved;
 ghost use Rattle.edit_steps.specs.Settled.{answers_refused, saved_refused, confirmed, resumed, Settles};
 
 use crate::uploading::plan_refused;
-use answer_file::{AnswerFault, confirm_file};
+use answer_file::confirm_file;
 use dataset::{DataSet, Patch};
 use edit_script::StepRefusal;
+use placeholder::ConfirmFault;
 use saved_session::{SavedFault, read_saved};
 use std::alloc::AllocError;
 use tool_api::Refusal;
@@ -52,15 +53,15 @@ pub fn resumed(
 }
 
 // Why a file of answers isn't taken, as the refusal of a step. Want of memory is none.
-fn answers_refused(why: AnswerFault) -> Result<StepRefusal, AllocError>
+fn answers_refused(why: ConfirmFault) -> Result<StepRefusal, AllocError>
     ensures refusal { IfOk result (λ refusal. refusal ≡ answers_refused why) }
     ensures memory { IfOk result (λ _. why ≢ answers.Memory) }
 {
     match why {
-        AnswerFault::Plan { refusal } => plan_refused(refusal),
-        AnswerFault::WrongAnswer { line } => Ok(StepRefusal::WrongAnswer(line)),
-        AnswerFault::IdTaken { key } => Ok(StepRefusal::IdTaken(key)),
-        AnswerFault::Memory => Err(AllocError),
+        ConfirmFault::Plan { refusal } => plan_refused(refusal),
+        ConfirmFault::WrongAnswer { number } => Ok(StepRefusal::WrongAnswer(number)),
+        ConfirmFault::IdTaken { key } => Ok(StepRefusal::IdTaken(key)),
+        ConfirmFault::Memory => Err(AllocError),
     }
 }
 

@@ -56,15 +56,11 @@ impl Command for Import {
 
     ghost kind = { verb.Import };
 
-    fn new() -> Import {
-        Import {}
-    }
-
-    fn verb(&self) -> Verb {
+    fn verb() -> Verb {
         Verb::Import
     }
 
-    fn plan(&self, ds: &DataSet, job: &Job, limit: u64) -> Result<Plan, AllocError> {
+    fn plan(ds: &DataSet, job: &Job, limit: u64) -> Result<Plan, AllocError> {
         match job {
             Job::Import { objects } => import_plan(ds, objects.as_slice(), limit),
             _ => unreachable!(),

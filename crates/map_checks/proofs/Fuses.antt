@@ -32,16 +32,11 @@ use Rattle.tool_api.proofs.Bools.{left_alone}
 use Rattle.tool_api.proofs.Passed.{Lives, lives, named_lives, passes, both_none, passed_tests}
 use Rattle.tool_api.proofs.Sounds.{edited_there}
 use Rattle.tool_api.proofs.Changed.{entry_thrice, next_thrice, four_cases, leaves_conflict, fits_edited, sound_edited, edited_from, deleted_from, kind_with}
-use Rattle.tool_api.proofs.Named.{find_named, or_case}
+use Rattle.tool_api.proofs.Named.{kept_named}
 use Rattle.map_checks.specs.Kept.{lives_at, KeepsOne}
 use Rattle.map_checks.proofs.Ends.{first_none, through, last_through}
 use Rattle.map_checks.proofs.Renames.{same_kind, refers_moved, RefersMoved}
 use Rattle.map_checks.proofs.Users.{node_kind, user_among}
-
--- The kept node is one of the nodes.
-
-kept_named : (nodes : List Key) (kept : Key) → kept_node nodes ≡ Some kept → is_named nodes kept ≡ true
-kept_named nodes kept e = or_case nodes kept (find (λ (k : Key). is_positive k.id) nodes) e (find_named (λ (k : Key). is_positive k.id) nodes kept)
 
 -- a node refers to nothing
 no_refs : (f : List Pair → List Pair) (c : Content) (r : Key) → kind_of_content c ≡ kind.Node → refers (with_tags f c) r ≡ false

@@ -11,4 +11,3 @@ mod Rings
 mod SideBySide
 mod Squeezes
 mod Users
-mod Walks

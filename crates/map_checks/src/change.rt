@@ -1,14 +1,13 @@
 //! The change that fuses nodes, as a draft.
-ghost use Rattle.std.specs.Prelude.{◌≡◌, ◌<◌, ◌&&◌, not, length, Some, IfOk};
-ghost use Rattle.std.specs.List.{filter, find};
+ghost use Rattle.std.specs.Prelude.{◌≡◌, ◌&&◌, IfOk};
 ghost use Rattle.std.specs.Ordering.{int_eq};
-ghost use Rattle.osm_base.specs.Rank.{is_key};
 ghost use Rattle.dataset.specs.Draft.{drafted};
-ghost use Rattle.tool_api.specs.Combine.{all_tags, is_positive, united};
-ghost use Rattle.tool_api.specs.Fuse.{fused, kept_node, without_runs, users_among};
+ghost use Rattle.tool_api.specs.Combine.{all_tags, united};
+ghost use Rattle.tool_api.specs.Fuse.{fused, without_runs, users_among};
 
 use dataset::{DataSet, Draft};
-use osm_base::{Content, Key, Refs, Tags, ranked, same_key};
+use osm_base::{Content, Key, Refs, Tags, ranked};
+use relation_upkeep::other_keys;
 use renamed_content::{Renaming, renamed};
 use std::alloc::{AllocError, Global};
 use tool_api::{EditContent, KeySet, all_users, delete_all, edit_all};
@@ -104,16 +103,6 @@ fn users_among(ds: &DataSet, nodes: &[Key]) -> Result<Vec<Key>, AllocError>
     ranked(all_users(ds, nodes)?)
 }
 
-fn other_nodes(alloc: Global, nodes: &[Key], kept: Key) -> Result<Vec<Key>, AllocError>
-    ensures { IfOk result (λ others. others.items ≡ filter (λ k. not (is_key kept k)) nodes.now) }
-{
-    nodes
-        .iter()
-        .copied()
-        .filter(|node| !same_key(kept, *node))
-        .collect(alloc)
-}
-
 /// The draft in which the users of the nodes refer to the kept one, the others are deleted, and the kept one has the tags. It
 /// costs the nodes and their users, with the references of each.
 ///
@@ -125,7 +114,7 @@ pub fn fused(ds: &DataSet, nodes: &[Key], kept: Key, tags: Tags) -> Result<Draft
 {
     let alloc = ds.alloc();
     let users = users_among(ds, nodes)?;
-    let others = other_nodes(alloc, nodes, kept)?;
+    let others = other_keys(alloc, nodes, kept)?;
     let named = KeySet::from_slice(alloc, nodes)?;
     let names = FusedKeys {
         nodes: &named,
@@ -136,27 +125,4 @@ pub fn fused(ds: &DataSet, nodes: &[Key], kept: Key, tags: Tags) -> Result<Draft
     delete_all(ds, &others, &mut draft)?;
     edit_all(ds, &[kept], &HaveTags { tags }, &mut draft)?;
     Ok(draft)
-}
-
-fn is_positive(id: i64) -> bool
-    ensures { result ≡ is_positive id }
-{
-    0 <= id
-}
-
-fn first_positive(nodes: &[Key]) -> Option<Key>
-    ensures { result ≡ find (λ k. is_positive k.id) nodes.now }
-{
-    nodes.iter().copied().find(|node| is_positive(node.id))
-}
-
-/// The node that is kept: the first with a positive id, else the first.
-pub fn kept_node(nodes: &[Key]) -> Key
-    requires { 0 < length nodes.now }
-    ensures { kept_node nodes.now ≡ Some result }
-{
-    match first_positive(nodes) {
-        Some(node) => node,
-        None => nodes[0],
-    }
 }

@@ -7,11 +7,11 @@ ghost use Rattle.tool_api.specs.Fuse.{fuse, place_test};
 ghost use Rattle.tool_api.specs.Planned.{Plans};
 ghost use Rattle.tool_api.specs.declared.refusal.Refusal.TheVariants.{NotSamePlace};
 
-use crate::change::{fused, kept_node};
+use crate::change::fused;
 use crate::places::are_together;
-use crate::union::{all_tags, clash_test, united};
 use dataset::DataSet;
 use osm_base::{Key, Keys};
+use relation_upkeep::{kept_key, united_tags};
 use std::alloc::AllocError;
 use tool_api::{Command, Job, Kinds, Plan, Refusal, Undoable, Verb, closed, list_tests};
 
@@ -47,12 +47,11 @@ fn fuse_plan(ds: &DataSet, nodes: &[Key], limit: u64) -> Result<Plan, AllocError
     if let Some(refusal) = place_test(ds, nodes) {
         return Ok(Plan::Refused(refusal));
     }
-    let all = all_tags(ds, nodes)?;
-    let tags = united(ds.alloc(), &all)?;
-    if let Some(refusal) = clash_test(&all, &tags)? {
-        return Ok(Plan::Refused(refusal));
-    }
-    let draft = fused(ds, nodes, kept_node(nodes), tags)?;
+    let tags = match united_tags(ds, nodes)? {
+        Ok(tags) => tags,
+        Err(refusal) => return Ok(Plan::Refused(refusal)),
+    };
+    let draft = fused(ds, nodes, kept_key(nodes), tags)?;
     closed(ds, draft, nodes, limit, Keys::new(ds.alloc()))
 }
 
@@ -65,15 +64,11 @@ impl Command for Fuse {
 
     ghost kind = { verb.Fuse };
 
-    fn new() -> Fuse {
-        Fuse {}
-    }
-
-    fn verb(&self) -> Verb {
+    fn verb() -> Verb {
         Verb::Fuse
     }
 
-    fn plan(&self, ds: &DataSet, job: &Job, limit: u64) -> Result<Plan, AllocError> {
+    fn plan(ds: &DataSet, job: &Job, limit: u64) -> Result<Plan, AllocError> {
         match job {
             Job::Fuse { nodes } => fuse_plan(ds, nodes.as_slice(), limit),
             _ => unreachable!(),

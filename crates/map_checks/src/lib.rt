@@ -6,10 +6,9 @@
 //! one place, to which ways and relations refer in place of them all: `squeeze` and `fuse` of `tool_api`. Each command is the
 //! `Undoable` of one that plans just that, at the cost of the named objects and those that use them, never of the table.
 //!
-//! `by_kind` finds the places of nodes and the references of ways: where they lie in a walk over all keys, and by a look-up
-//! for a key alone, but for one of another kind. `places` has the first node at each place, by which doubled nodes are found
-//! in one pass; only where one of them is an end of a way may that be an open ring. `law` says what a squeeze and a fuse leave of the
-//! named objects.
+//! `by_kind` finds the places of nodes and the references of ways, in a walk over all keys where they lie. `places` has the
+//! first node at each place, by which doubled nodes are found in one pass; only where one of them is an end of a way may that
+//! be an open ring. `law` says what a squeeze and a fuse leave of the named objects.
 //!
 //! Where to add a check: its test by look-up goes into `specs/Findings` of `tool_api`, a variant with a sentence into
 //! `Finding`, a line at the end of `findings`, and its pass into `listing`.
@@ -24,7 +23,6 @@ mod listing;
 mod places;
 mod repeats;
 mod squeeze;
-mod union;
 
 pub use finding::{Finding, Findings};
 pub use fuse::FuseTool;

@@ -20,7 +20,7 @@ use dataset::DataSet;
 use osm_base::{Key, node_key};
 use std::alloc::{AllocError, Global};
 use std::cell::Cell;
-use tool_api::KeySet;
+use tool_api::{KeySet, first_in, last_in};
 
 fn push_doubled(found: &mut Vec<Finding>, key: Key, of: Option<Key>) -> Result<(), AllocError>
     ensures { OnOk result (found.new.items ≡ found.old.items ++ cons_option (option_map (λ first. Doubled key first) of) []) }
@@ -111,18 +111,6 @@ fn ends_meet(ds: &DataSet, doubled: &KeySet, first: Option<i64>, last: Option<i6
         (Some(first), Some(last)) => two_meet(ds, doubled, first, last),
         _ => false,
     }
-}
-
-fn first_in(refs: &[i64]) -> Option<i64>
-    ensures { result ≡ first_in refs.now }
-{
-    refs.first().copied()
-}
-
-fn last_in(refs: &[i64]) -> Option<i64>
-    ensures { result ≡ last_in refs.now }
-{
-    refs.last().copied()
 }
 
 fn is_open(ds: &DataSet, doubled: &KeySet, refs: &[i64]) -> bool

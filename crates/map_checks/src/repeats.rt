@@ -3,10 +3,10 @@ ghost use Rattle.std.specs.Prelude.{◌≡◌, IfOk};
 ghost use Rattle.tool_api.specs.Findings.{has_repeat, is_repeated};
 ghost use Rattle.tool_api.specs.Squeeze.{squeezed};
 
-use crate::by_kind::refs_at;
 use dataset::DataSet;
 use osm_base::Key;
 use std::alloc::{AllocError, Global};
+use tool_api::refs_at;
 
 /// Whether two equal references stand side by side. It walks them up to the first two.
 pub fn has_repeat(refs: &[i64]) -> bool
@@ -20,8 +20,7 @@ pub fn has_repeat(refs: &[i64]) -> bool
     false
 }
 
-/// Whether the key's object lives as a way with such two. One look-up of a way's key and a walk of its references, and
-/// nothing of any other key.
+/// Whether the key's object lives as a way with such two. One look-up, and a walk of a way's references.
 pub fn is_repeated(ds: &DataSet, key: Key) -> bool
     ensures { result ≡ is_repeated ds.now key }
 {

@@ -73,15 +73,11 @@ impl Command for Squeeze {
 
     ghost kind = { verb.Squeeze };
 
-    fn new() -> Squeeze {
-        Squeeze {}
-    }
-
-    fn verb(&self) -> Verb {
+    fn verb() -> Verb {
         Verb::Squeeze
     }
 
-    fn plan(&self, ds: &DataSet, job: &Job, limit: u64) -> Result<Plan, AllocError> {
+    fn plan(ds: &DataSet, job: &Job, limit: u64) -> Result<Plan, AllocError> {
         match job {
             Job::Squeeze { keys } => squeeze_plan(ds, keys.as_slice(), limit),
             _ => unreachable!(),

@@ -5,7 +5,6 @@ ghost use Rattle.osm_table.specs.Table.{keys_by_rank};
 ghost use Rattle.map_search.specs.Meets.{meets, found};
 ghost use Rattle.map_search.specs.Query.{depth};
 
-use crate::entries::entry_near;
 use crate::query::{Form, Query};
 use crate::relatives::{children, parents};
 use crate::sets::{others, those_of};
@@ -46,22 +45,22 @@ fn meeting(ds: &DataSet, all: &[Key], keys: &[Key], query: &Query) -> Result<Vec
     match &query.form {
         Form::OfKind(kind) => keys_of.filter(|key| key.kind == *kind).collect(alloc),
         Form::Tag { key: tag, value } => keys_of
-            .filter(|key| is_tagged(entry_near(ds, &near, *key), tag, value))
+            .filter(|key| is_tagged(ds.entry_along(&near, *key), tag, value))
             .collect(alloc),
         Form::IsNew => keys_of
-            .filter(|key| begins_new(entry_near(ds, &near, *key)))
+            .filter(|key| begins_new(ds.entry_along(&near, *key)))
             .collect(alloc),
         Form::IsChanged => keys_of
-            .filter(|key| is_changed(entry_near(ds, &near, *key)))
+            .filter(|key| is_changed(ds.entry_along(&near, *key)))
             .collect(alloc),
         Form::IsDeleted => keys_of
-            .filter(|key| is_deleted(entry_near(ds, &near, *key)))
+            .filter(|key| is_deleted(ds.entry_along(&near, *key)))
             .collect(alloc),
         Form::IsIncomplete => keys_of
-            .filter(|key| is_incomplete(entry_near(ds, &near, *key)))
+            .filter(|key| is_incomplete(ds.entry_along(&near, *key)))
             .collect(alloc),
         Form::HasConflict => keys_of
-            .filter(|key| has_conflict(entry_near(ds, &near, *key)))
+            .filter(|key| has_conflict(ds.entry_along(&near, *key)))
             .collect(alloc),
         Form::Child(of) => children(ds, keys, &meeting(ds, all, all, of)?),
         Form::Parent(of) => parents(ds, keys, &meeting(ds, all, all, of)?),

@@ -8,12 +8,11 @@
 //! The reader goes through the words once with a stack of what waits for a part of the query: words that open a factor
 //! (`not`, `child`, `parent`, a bracket) wait for that factor, and the left sides of `and` and `or` for the right ones.
 //! `takes` says which part each of them takes, and so which binds before which. `find` asks the forms of a query of lists of
-//! keys that are in order, and each list is what one form lets through: `entries` finds their entries where they lie, behind
-//! each other. A new word that tells objects apart wants a variant
-//! of `Form` and of `QueryValue`, its word in `specs/Words`, and its meaning in `specs/Meets`.
+//! keys that are in order, and each list is what one form lets through: their entries are found where they lie, behind each
+//! other. A new word that tells objects apart wants a variant of `Form` and of `QueryValue`, its word in `specs/Words`, and its
+//! meaning in `specs/Meets`.
 #![tactic(auto)]
 
-mod entries;
 mod fault;
 mod finding;
 mod law;

@@ -9,7 +9,6 @@ ghost use Rattle.osm_base.specs.Rank.{is_key};
 ghost use Rattle.osm_base.specs.RisingKeys.{is_in};
 ghost use Rattle.osm_table.specs.Table.{entry_of};
 
-use crate::entries::entry_near;
 use closure::{is_among, set_of};
 use dataset::DataSet;
 use indexmap::IndexSet;
@@ -62,7 +61,7 @@ fn push_references_of(
     ds.sound();
     match key.kind {
         Kind::Node => Ok(()),
-        Kind::Way | Kind::Relation => push_living(entry_near(ds, near, key), refs),
+        Kind::Way | Kind::Relation => push_living(ds.entry_along(near, key), refs),
     }
 }
 
@@ -105,20 +104,17 @@ fn is_user(ds: &DataSet, near: &Cell<usize>, key: Key, found: &IndexSet<Key>) ->
     ds.sound();
     match key.kind {
         Kind::Node => false,
-        Kind::Way | Kind::Relation => refers_among(entry_near(ds, near, key), found),
+        Kind::Way | Kind::Relation => refers_among(ds.entry_along(near, key), found),
     }
 }
 
 fn refers_among(entry: Option<&SharedEntry>, found: &IndexSet<Key>) -> bool
     ensures { result ≡ list_any (has is_key found.now.keys) (refs_at (option_copied entry.entry)) }
 {
-    match entry {
+    entry.is_some_and(|entry| match entry.mine() {
         None => false,
-        Some(entry) => match entry.mine() {
-            None => false,
-            Some(content) => has_reference_among(content, found),
-        },
-    }
+        Some(content) => has_reference_among(content, found),
+    })
 }
 
 #[tactic(auto, using(osm_base::proofs::AnyMap::list_any_map))]

@@ -1,5 +1,5 @@
 -- One key more of a pass that appends.
-use Rattle.std.proofs.Common.{◌<◌, length, drop, get_or, drop-cons, ◌≡◌, ◌↔◌, ◌||◌, ℕ, zero, suc, true, false, List, [], ◌∷◌, ◌++◌, take, slice_get, Some, sym, refl, ap, subst, ◌∙◌, append_assoc, Bool, filter}
+use Rattle.std.proofs.Common.{length, ◌≡◌, ◌↔◌, ◌||◌, ℕ, zero, suc, true, false, List, [], ◌∷◌, ◌++◌, take, slice_get, Some, sym, refl, ap, subst, ◌∙◌, append_assoc, Bool, filter}
 use Rattle.std.specs.Prelude.{Result, Ok, Err, IfOk}
 use Rattle.std.specs.List.{flat_map}
 use Rattle.std.proofs.lemmas.Grind.{flat_map-append}
@@ -51,15 +51,6 @@ pub filter_more : (p : Key → Bool) (ks first before new : List Key) (i : ℕ) 
 filter_more p ks first before new i k so_far at step =
     step ∙ ap (λ (l : List Key). l ++ filter p (k ∷ [])) so_far ∙ append_assoc first (filter p (take i ks)) (filter p (k ∷ []))
     ∙ sym (ap (λ (l : List Key). first ++ l) (ap (filter p) (taken_more ks i k at) ∙ filter-append p (take i ks) (k ∷ [])))
-
--- what is left to do leads to the same list
-pub filter_left : (p : Key → Bool) (xs : List Key) (i : ℕ) (d k : Key) (out new all : List Key) → i < length xs → out ++ filter p (drop i xs) ≡ all → k ≡ get_or xs i d → new ≡ out ++ filter p (k ∷ []) → new ++ filter p (drop (suc i) xs) ≡ all
-filter_left p xs i d k out new all lt before is step =
-    ap (λ (l : List Key). l ++ filter p (drop (suc i) xs)) (step ∙ ap (λ (j : Key). out ++ filter p (j ∷ [])) is)
-    ∙ append_assoc out (filter p (get_or xs i d ∷ [])) (filter p (drop (suc i) xs))
-    ∙ ap (λ (l : List Key). out ++ l) (sym (filter-append p (get_or xs i d ∷ []) (drop (suc i) xs)))
-    ∙ sym (ap (λ l. out ++ filter p l) (drop-cons xs i d lt))
-    ∙ before
 
 -- nothing is among none
 pub filter_none : (ks : List Key) → filter (has is_key []) ks ≡ []

@@ -49,11 +49,8 @@ fn version_clash(told: &ToldMap, key: Key) -> Refusal
 fn version_told(news: Option<&SharedEntry>) -> u32
     ensures { result ≡ version_told (option_copied news.entry) }
 {
-    match news {
+    news.map_or(0, |news| match news.base() {
         None => 0,
-        Some(news) => match news.base() {
-            None => 0,
-            Some(base) => base.version(),
-        },
-    }
+        Some(base) => base.version(),
+    })
 }

@@ -1,9 +1,7 @@
 //! What a merge makes of one entry.
 ghost use Rattle.std.specs.Prelude.{◌≡◌, ◌&&◌, not, is_some, Some, IfOk};
 ghost use Rattle.std.specs.Option.{option_copied};
-ghost use Rattle.osm_table.specs.Table.{held_by};
 ghost use Rattle.osm_table.specs.Told.{told_of, entry_told};
-ghost use Rattle.dataset.specs.Exact.{mine_at};
 ghost use Rattle.merge_cases.specs.Case.{verdict_of, version_case, mention_case};
 ghost use Rattle.tool_api.specs.Staged.{theirs_told, against, withdrawn, with_theirs, all_joined, back, lost_of, is_dead};
 ghost use Rattle.merge_tool.specs.Passes.{CaseGives, rests, says_nothing, are_alike};
@@ -12,6 +10,7 @@ use merge_cases::{Verdict, joined};
 use osm_base::Content;
 use osm_table::{Base, Conflict, Entry, EntryParts, Shared, SharedEntry, Why};
 use std::alloc::{AllocError, Global};
+use tool_api::copied;
 
 /// Whether what is told leaves an object as it is, as its case says. It compares versions, and no contents.
 pub fn rests(old: Option<&SharedEntry>, news: &SharedEntry) -> bool
@@ -34,10 +33,7 @@ pub fn rests(old: Option<&SharedEntry>, news: &SharedEntry) -> bool
 fn rests_when_mentioned(old: Option<&SharedEntry>) -> bool
     ensures { result ≡ rests (mention_case (option_copied old.entry)) }
 {
-    match old {
-        None => false,
-        Some(_) => true,
-    }
+    old.is_some()
 }
 
 fn rests_by(old: Option<&SharedEntry>, version: u32, theirs: Option<&Content>) -> bool
@@ -70,11 +66,7 @@ fn says_nothing(known: &Base, version: u32, theirs: Option<&Content>) -> bool
 fn are_alike(known: Option<&Content>, theirs: Option<&Content>) -> bool
     ensures { result ≡ are_alike (option_copied known.entry) (option_copied theirs.entry) }
 {
-    match (known, theirs) {
-        (None, None) => true,
-        (Some(_), Some(_)) => true,
-        _ => false,
-    }
+    matches!((known, theirs), (None, None) | (Some(_), Some(_)))
 }
 
 /// What a case makes of an entry, None where it stays as it is. What is taken as it is told shares its block.
@@ -98,22 +90,19 @@ pub fn staged(
         Verdict::Mention => Ok(Some(news.copy()?)),
         Verdict::Take => Ok(Some(news.copy()?)),
         Verdict::Settle => Ok(Some(news.copy()?)),
-        Verdict::Keep => Ok(Some(shared(alloc, withdrawn(alloc, theirs(news)?)?)?)),
+        Verdict::Keep => Ok(Some(SharedEntry::new(alloc, withdrawn(alloc, theirs(news)?)?)?)),
         Verdict::Join => match old {
             None => Ok(None),
-            Some(old) => Ok(Some(shared(alloc, with_theirs(alloc, theirs(news)?, old)?)?)),
+            Some(old) => Ok(Some(SharedEntry::new(
+                alloc,
+                with_theirs(alloc, theirs(news)?, old)?,
+            )?)),
         },
         Verdict::Dispute => match old {
             None => Ok(None),
             Some(old) => Ok(Some(against(alloc, Why::Changed, news, old)?)),
         },
     }
-}
-
-fn shared(alloc: Global, entry: Entry) -> Result<SharedEntry, AllocError>
-    ensures { IfOk result (λ shared. shared ≡ entry) }
-{
-    SharedEntry::new(alloc, entry)
 }
 
 /// What is told, as a base.
@@ -127,26 +116,11 @@ fn theirs(news: &SharedEntry) -> Result<Base, AllocError>
     }
 }
 
-fn content_of(base: &Base) -> Result<Option<Content>, AllocError>
-    ensures { IfOk result (λ content. content ≡ held_by base.now) }
-{
-    copied(base.content())
-}
-
-fn copied(content: Option<&Content>) -> Result<Option<Content>, AllocError>
-    ensures { IfOk result (λ copy. copy ≡ option_copied content.entry) }
-{
-    match content {
-        None => Ok(None),
-        Some(content) => Ok(Some(content.copy()?)),
-    }
-}
-
 /// An object that came back.
 fn withdrawn(alloc: Global, theirs: Base) -> Result<Entry, AllocError>
     ensures { IfOk result (λ entry. entry ≡ withdrawn theirs) }
 {
-    let mine = content_of(&theirs)?;
+    let mine = copied(theirs.content())?;
     let conflict = Conflict {
         why: Why::Withdrawn,
         theirs: theirs.copy()?,
@@ -177,7 +151,7 @@ pub fn against(
                 why,
                 theirs: theirs(news)?,
             };
-            shared(
+            SharedEntry::new(
                 alloc,
                 Entry::Known {
                     base: base.copy()?,
@@ -230,19 +204,9 @@ pub fn back(alloc: Global, entry: &SharedEntry) -> Result<SharedEntry, AllocErro
     match entry.parts() {
         EntryParts::Incomplete => entry.copy(),
         EntryParts::Known { base, conflict, .. } => match conflict {
-            None => shared(alloc, withdrawn(alloc, base.copy()?)?),
-            Some(conflict) => shared(alloc, withdrawn(alloc, conflict.theirs.copy()?)?),
+            None => SharedEntry::new(alloc, withdrawn(alloc, base.copy()?)?),
+            Some(conflict) => SharedEntry::new(alloc, withdrawn(alloc, conflict.theirs.copy()?)?),
         },
-    }
-}
-
-/// The content of an entry that lives.
-pub fn mine(entry: Option<&SharedEntry>) -> Option<&Content>
-    ensures { option_copied result ≡ mine_at (option_copied entry.entry) }
-{
-    match entry {
-        None => None,
-        Some(entry) => entry.mine(),
     }
 }
 
@@ -250,10 +214,7 @@ pub fn mine(entry: Option<&SharedEntry>) -> Option<&Content>
 pub fn lost(entry: Option<&SharedEntry>) -> Option<&Content>
     ensures { option_copied result ≡ lost_of (option_copied entry.entry) }
 {
-    match entry {
-        None => None,
-        Some(entry) => lost_content(entry),
-    }
+    lost_content(entry?)
 }
 
 /// Whether an object was lost here: the known side holds something, and the entry doesn't live.

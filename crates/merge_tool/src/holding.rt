@@ -1,5 +1,5 @@
 //! The candidates that are held.
-ghost use Rattle.std.specs.Prelude.{◌≡◌, ◌++◌, ◌∷◌, [], IfOk, OnOk, filter};
+ghost use Rattle.std.specs.Prelude.{◌≡◌, ◌++◌, IfOk, OnOk, filter};
 ghost use Rattle.std.specs.List.{flat_map};
 ghost use Rattle.osm_base.specs.Rank.{is_key};
 ghost use Rattle.dataset.specs.Sound.{IsSound};
@@ -9,15 +9,15 @@ ghost use Rattle.job_laws.specs.MergeOutcomes.{is_held_name};
 ghost use Rattle.merge_tool.specs.Walks.{mine_refs};
 ghost use Rattle.merge_tool.specs.Passes.{has_resting_user, held_starts};
 
-use crate::entries::mine;
 use crate::naming::name_all;
-use crate::staging::{has_resting_user, push_all};
+use crate::staging::has_resting_user;
 use closure::{Links, is_among, reach};
 use dataset::{DataSet, Draft};
 use indexmap::IndexSet;
 use osm_base::Key;
 use osm_table::ToldMap;
 use std::alloc::AllocError;
+use tool_api::{living, push_refs_by};
 
 /// The candidates, with those to which they refer.
 #[derive(Clone, Copy)]
@@ -34,7 +34,7 @@ impl<'a> Links for CandidateLinks<'a> {
     fn append(&self, key: Key, out: &mut Vec<Key>) -> Result<(), AllocError> {
         if is_among(self.candidates, key) {
             let mut refs = Vec::new(self.ds.alloc());
-            push_all(mine(self.ds.entry(key)), &mut refs)?;
+            push_refs_by(living(self.ds.entry(key)), &mut refs)?;
             push_going(self.candidates, &refs, out)?;
         }
         Ok(())
@@ -49,18 +49,12 @@ fn push_going(
 ) -> Result<(), AllocError>
     ensures { OnOk result (out.new.items ≡ out.old.items ++ filter (has is_key candidates.now.keys) keys.now) }
 {
-    for key in keys {
-        push_if_going(candidates, *key, out)?;
-    }
-    Ok(())
-}
-
-fn push_if_going(candidates: &IndexSet<Key>, key: Key, out: &mut Vec<Key>) -> Result<(), AllocError>
-    ensures { OnOk result (out.new.items ≡ out.old.items ++ filter (has is_key candidates.now.keys) (key ∷ [])) }
-{
-    if is_among(candidates, key) {
-        out.push(key)?;
-    }
+    let going: Vec<Key> = keys
+        .iter()
+        .copied()
+        .filter(|key| is_among(candidates, *key))
+        .collect(*out.allocator())?;
+    out.extend_from_slice(&going)?;
     Ok(())
 }
 
@@ -73,23 +67,13 @@ fn push_used(
 ) -> Result<(), AllocError>
     ensures { OnOk result (out.new.items ≡ out.old.items ++ filter (has_resting_user ds.now told.now.told) keys.now.keys) }
 {
-    for i in 0..keys.len() {
-        push_if_used(ds, told, keys[i], out)?;
-    }
-    Ok(())
-}
-
-fn push_if_used(
-    ds: &DataSet,
-    told: &ToldMap,
-    key: Key,
-    out: &mut Vec<Key>,
-) -> Result<(), AllocError>
-    ensures { OnOk result (out.new.items ≡ out.old.items ++ filter (has_resting_user ds.now told.now.told) (key ∷ [])) }
-{
-    if has_resting_user(ds, told, key) {
-        out.push(key)?;
-    }
+    let used: Vec<Key> = keys
+        .as_slice()
+        .iter()
+        .copied()
+        .filter(|key| has_resting_user(ds, told, *key))
+        .collect(*out.allocator())?;
+    out.extend_from_slice(&used)?;
     Ok(())
 }
 
@@ -171,7 +155,7 @@ fn held_names(ds: &DataSet, keys: &IndexSet<Key>) -> Result<Vec<Key>, AllocError
 {
     let mut names = Vec::new(ds.alloc());
     for i in 0..keys.len() {
-        push_all(mine(ds.entry(keys[i])), &mut names)?;
+        push_refs_by(living(ds.entry(keys[i])), &mut names)?;
     }
     Ok(names)
 }

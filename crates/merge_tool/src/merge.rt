@@ -88,15 +88,11 @@ impl Command for Merge {
 
     ghost kind = { verb.Merge };
 
-    fn new() -> Merge {
-        Merge {}
-    }
-
-    fn verb(&self) -> Verb {
+    fn verb() -> Verb {
         Verb::Merge
     }
 
-    fn plan(&self, ds: &DataSet, job: &Job, limit: u64) -> Result<Plan, AllocError> {
+    fn plan(ds: &DataSet, job: &Job, limit: u64) -> Result<Plan, AllocError> {
         match job {
             Job::Merge { told } => merge_plan(ds, told, limit),
             _ => unreachable!(),

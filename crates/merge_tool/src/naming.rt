@@ -56,11 +56,8 @@ fn name(ds: &DataSet, draft: &mut Draft, key: Key, out: &mut Vec<Key>) -> Result
 fn is_there(entry: Option<&SharedEntry>) -> bool
     ensures { result ≡ is_there (option_copied entry.entry) }
 {
-    match entry {
-        None => false,
-        Some(entry) => match entry.parts() {
-            EntryParts::Incomplete => true,
-            EntryParts::Known { mine, .. } => mine.is_some(),
-        },
-    }
+    entry.is_some_and(|entry| match entry.parts() {
+        EntryParts::Incomplete => true,
+        EntryParts::Known { mine, .. } => mine.is_some(),
+    })
 }

@@ -2,7 +2,7 @@
 ghost use Rattle.std.specs.Prelude.{◌≡◌, ◌++◌, ◌∷◌, [], Some, IfOk, OnOk, filter};
 ghost use Rattle.std.specs.Option.{option_copied, option_or};
 ghost use Rattle.std.specs.FinMap as map;
-ghost use Rattle.osm_table.specs.Table.{TableValue, entry_of};
+ghost use Rattle.osm_table.specs.Table.{TableValue};
 ghost use Rattle.osm_table.specs.Told.{told_of, told_at, entry_told};
 ghost use Rattle.dataset.specs.Draft.{drafted};
 ghost use Rattle.dataset.specs.Sound.{IsSound};
@@ -10,12 +10,14 @@ ghost use Rattle.tool_api.specs.Staged.{is_candidate, is_clash, refs_by};
 ghost use Rattle.merge_tool.specs.Drafts.{IsStaged, StagesNext, clashing_keys, renewed_names, going_keys};
 ghost use Rattle.merge_tool.specs.Passes.{noted, new_bared, renewed_mine, renewed_refs, is_resting, has_resting_user, is_going, is_clashing};
 
-use crate::entries::{is_gone, mine, rests, staged};
+use crate::entries::{is_gone, rests, staged};
 use dataset::{DataSet, Draft};
 use merge_cases::{Verdict, decide};
-use osm_base::{Content, Key, push_references};
+use osm_base::Key;
 use osm_table::{SharedEntry, Told, ToldMap};
 use std::alloc::AllocError;
+use std::cell::Cell;
+use tool_api::{living, push_refs_by};
 
 /// What the cases make of all that is told, one by one.
 #[derive(Drop)]
@@ -51,11 +53,11 @@ impl Staging {
             candidates: Vec::new(ds.alloc()),
             clashes: Vec::new(ds.alloc()),
         };
-        let mut near = 0;
+        let near = Cell::new(0);
         ds.sound();
         for i in 0..told.len() {
             let (key, news) = told.entry_at(i);
-            staging.stage(ds, told, &mut near, key, news)?;
+            staging.stage(ds, told, &near, key, news)?;
         }
         told.sound();
         Ok(staging)
@@ -65,7 +67,7 @@ impl Staging {
         &mut self,
         ds: &DataSet,
         told: &ToldMap,
-        near: &mut usize,
+        near: &Cell<usize>,
         key: Key,
         news: &SharedEntry,
     ) -> Result<(), AllocError>
@@ -78,7 +80,7 @@ impl Staging {
         ensures clashes { OnOk result (self.new.clashes.items ≡ self.old.clashes.items ++ filter (is_clashing ds.now told.now.told) (key ∷ [])) }
         ensures number { OnOk result (self.new.draft.next ≡ self.old.draft.next) }
     {
-        let old = known_near(ds, near, key);
+        let old = ds.entry_along(near, key);
         let verdict = decide(old, news);
         let new = staged(ds.alloc(), verdict, old, news)?;
         push_if_going(verdict, key, &mut self.candidates)?;
@@ -101,19 +103,6 @@ fn empty_draft(ds: &DataSet, told: &ToldMap) -> Result<Draft, AllocError>
         Draft::with_capacity(ds, told.len())
     } else {
         Ok(Draft::new(ds))
-    }
-}
-
-/// What is known of a key. The place `near` is looked at first, and moves behind the key where that is known.
-fn known_near<'a>(ds: &'a DataSet, near: &mut usize, key: Key) -> Option<&'a SharedEntry>
-    ensures { option_copied result ≡ entry_of ds.now key }
-{
-    match ds.entry_near(*near, key) {
-        None => None,
-        Some((behind, entry)) => {
-            *near = behind;
-            Some(entry)
-        }
     }
 }
 
@@ -160,20 +149,7 @@ fn push_renewed(
 {
     match verdict {
         Verdict::Stay | Verdict::Candidate => Ok(()),
-        _ => push_all(mine(after), out),
-    }
-}
-
-/// Appends all to which a content refers, each as often as it stands.
-///
-/// # Errors
-/// No memory was left.
-pub fn push_all(content: Option<&Content>, out: &mut Vec<Key>) -> Result<(), AllocError>
-    ensures { OnOk result (out.new.items ≡ out.old.items ++ refs_by (option_copied content.entry)) }
-{
-    match content {
-        None => Ok(()),
-        Some(content) => push_references(content, out),
+        _ => push_refs_by(living(after), out),
     }
 }
 

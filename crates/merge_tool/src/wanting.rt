@@ -1,5 +1,5 @@
 //! The lost objects that are wanted.
-ghost use Rattle.std.specs.Prelude.{◌≡◌, ◌++◌, ◌∷◌, [], IfOk, OnOk, filter};
+ghost use Rattle.std.specs.Prelude.{◌≡◌, ◌++◌, IfOk, OnOk, filter};
 ghost use Rattle.std.specs.List.{flat_map};
 ghost use Rattle.dataset.specs.Draft.{drafted};
 ghost use Rattle.dataset.specs.Sound.{IsSound};
@@ -8,13 +8,13 @@ ghost use Rattle.merge_tool.specs.Walks.{is_lost, lost_refs, lost_links};
 
 use crate::entries::{is_lost, lost};
 use crate::naming::name_all;
-use crate::staging::push_all;
 use closure::{Links, reach};
 use dataset::{DataSet, Draft};
 use indexmap::IndexSet;
 use osm_base::Key;
 use osm_table::ToldMap;
 use std::alloc::AllocError;
+use tool_api::push_refs_by;
 
 /// The lost objects, with the lost ones to which they would refer.
 #[derive(Clone, Copy)]
@@ -31,7 +31,7 @@ impl<'a> Links for LostLinks<'a> {
 
     fn append(&self, key: Key, out: &mut Vec<Key>) -> Result<(), AllocError> {
         let mut refs = Vec::new(self.ds.alloc());
-        push_all(lost(self.draft.entry(self.ds, key)), &mut refs)?;
+        push_refs_by(lost(self.draft.entry(self.ds, key)), &mut refs)?;
         push_lost(self.ds, self.draft, &refs, out)
     }
 }
@@ -45,18 +45,12 @@ fn push_lost(
 ) -> Result<(), AllocError>
     ensures { OnOk result (out.new.items ≡ out.old.items ++ filter (is_lost (drafted draft.now ds.now)) keys.now) }
 {
-    for key in keys {
-        push_if_lost(ds, draft, *key, out)?;
-    }
-    Ok(())
-}
-
-fn push_if_lost(ds: &DataSet, draft: &Draft, key: Key, out: &mut Vec<Key>) -> Result<(), AllocError>
-    ensures { OnOk result (out.new.items ≡ out.old.items ++ filter (is_lost (drafted draft.now ds.now)) (key ∷ [])) }
-{
-    if is_lost(draft.entry(ds, key)) {
-        out.push(key)?;
-    }
+    let lost: Vec<Key> = keys
+        .iter()
+        .copied()
+        .filter(|key| is_lost(draft.entry(ds, *key)))
+        .collect(*out.allocator())?;
+    out.extend_from_slice(&lost)?;
     Ok(())
 }
 
@@ -115,7 +109,7 @@ fn lost_names(ds: &DataSet, draft: &Draft, keys: &IndexSet<Key>) -> Result<Vec<K
 {
     let mut names = Vec::new(ds.alloc());
     for i in 0..keys.len() {
-        push_all(lost(draft.entry(ds, keys[i])), &mut names)?;
+        push_refs_by(lost(draft.entry(ds, keys[i])), &mut names)?;
     }
     Ok(names)
 }

@@ -1,10 +1,8 @@
 -- How a draft takes an answer.
 use Rattle.std.specs.Prelude.{◌≡◌, ℕ, ◌+◌, ℤ, List, [], ◌∷◌, Option, Some, None, Result, Ok, IfOk}
 use Rattle.std.specs.Option.{option_map, unwrap_or}
-use Rattle.osm_base.specs.Content.{node}
 use Rattle.osm_base.specs.Meta.{empty_meta}
 use Rattle.osm_base.specs.declared.key.Key.{Key}
-use Rattle.osm_base.specs.declared.members.Member.{Member}
 use Rattle.osm_base.specs.declared.content.Content.{Content}
 use Rattle.osm_table.specs.declared.entry.Base.TheVariants.{Live, Gone}
 use Rattle.osm_table.specs.declared.entry.Entry.{Entry}
@@ -37,14 +35,6 @@ drafted_entry d t k = entry_of (drafted d t) k
 -- the user's content there
 abbrev pub drafted_mine : DraftValue → TableValue → Key → Option Content
 drafted_mine d t k = mine_at (drafted_entry d t k)
-
--- a node of a way, where the placeholder's object got the id
-unfoldable pub moved_node : Key → ℤ → ℤ → ℤ
-moved_node placeholder id n = (moved placeholder id (node n)).id
-
--- a member, where it did
-unfoldable pub moved_member : Key → ℤ → Member → Member
-moved_member placeholder id m = record { key = moved placeholder id m.key; role = m.role }
 
 -- an entry with other references in what the user has
 abbrev pub with_mine : (Key → Key) → Entry → Entry

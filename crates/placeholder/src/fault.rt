@@ -8,7 +8,8 @@ use upload_order::PlanRefusal;
 pub enum ConfirmFault {
     /// Nothing was sent, since the table is refused. It never says that no memory was left.
     Plan { refusal: PlanRefusal },
-    /// The answer with this number, counted from 1, isn't one to its change, or there is no such change.
+    /// The answer with this number, counted from 1, isn't one to its change, or there is no such change. Of a file it is the
+    /// number of the line.
     WrongAnswer { number: u64 },
     /// Something stands in the table under the id that an object got.
     IdTaken { key: Key },

@@ -36,10 +36,8 @@ fn have_role(run: &[Member], role: &[u8]) -> bool
 fn have_one_role(run: &[Member]) -> bool
     ensures { result ≡ option_map_or (λ m. list_all (λ n. same_text n.role m.role) run.now) (first_in run.now) true }
 {
-    match run.first() {
-        None => true,
-        Some(member) => have_role(run, member.role.as_bytes()),
-    }
+    run.first()
+        .is_none_or(|member| have_role(run, member.role.as_bytes()))
 }
 
 /// Whether the members are a run of the ways, which are given forward and backward.
@@ -67,14 +65,6 @@ fn members_from(members: &[Member], start: usize) -> &[Member]
     &members[start..]
 }
 
-/// Whether the first of the members are a run of the ways.
-fn begin_a_run(members: &[Member], ways: &[Key], back: &[Key]) -> bool
-    requires back { back.now ≡ reverse ways.now }
-    ensures { result ≡ is_run ways.now (take (length ways.now) members.now) }
-{
-    is_run(first_of(members, ways.len()), ways, back)
-}
-
 /// Reads the first of the members, and tells how many behind it belong to its run; `None` where its run isn't whole.
 fn read_first(
     folded: &mut Vec<Member>,
@@ -94,7 +84,7 @@ fn read_first(
         folded.push(first.copy()?)?;
         return Ok(Some(0));
     }
-    if !begin_a_run(rest, ways, back) {
+    if !is_run(first_of(rest, ways.len()), ways, back) {
         return Ok(None);
     }
     folded.push(Member {

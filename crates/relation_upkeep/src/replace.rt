@@ -57,29 +57,20 @@ fn ends_beside(ds: &DataSet, way: Key, key: Key) -> Option<(i64, i64)>
     if same_key(way, key) {
         return None;
     }
-    match content_of(ds, key) {
-        None => None,
-        Some(content) => ends(content),
-    }
+    ends(content_of(ds, key)?)
 }
 
 fn is_end(ends: Option<(i64, i64)>, node: i64) -> bool
     ensures { result ≡ is_among (ends_list ends) node }
 {
-    match ends {
-        None => false,
-        Some((first, last)) => node == first || node == last,
-    }
+    ends.is_some_and(|(first, last)| node == first || node == last)
 }
 
 /// Whether a neighbour is a living way other than the split one, and the node is its first or last.
 fn touches(ds: &DataSet, way: Key, node: i64, neighbour: Option<&Member>) -> bool
     ensures { result ≡ touches ds.now way node (option_copied neighbour.entry) }
 {
-    match neighbour {
-        None => false,
-        Some(member) => is_end(ends_beside(ds, way, member.key), node),
-    }
+    neighbour.is_some_and(|member| is_end(ends_beside(ds, way, member.key), node))
 }
 
 fn first_node(pieces: &[Piece]) -> i64
@@ -248,10 +239,8 @@ fn restricted_piece(via: &[i64], pieces: &[Piece]) -> Option<Piece>
 fn is_restriction(tags: &Tags) -> bool
     ensures { result ≡ is_restriction tags.now }
 {
-    match tags.get(b"type") {
-        None => false,
-        Some(value) => same_bytes(b"restriction", value),
-    }
+    tags.get(b"type")
+        .is_some_and(|value| same_bytes(b"restriction", value))
 }
 
 /// In a restriction the piece that stands for the way at `from` and `to`.

@@ -12,15 +12,11 @@ impl Command for Poor {
 
     ghost kind = { Tag };
 
-    fn new() -> Poor {
-        Poor {}
-    }
-
-    fn verb(&self) -> Verb {
+    fn verb() -> Verb {
         Verb::Tag
     }
 
-    fn plan(&self, _ds: &DataSet, _job: &Job, _limit: u64) -> Result<Plan, AllocError> {
+    fn plan(_ds: &DataSet, _job: &Job, _limit: u64) -> Result<Plan, AllocError> {
         Err(AllocError)
     }
 }

@@ -14,6 +14,7 @@ use Rattle.osm_table.specs.declared.entry.Entry.{Entry}
 use Rattle.osm_table.specs.Table.{TableValue, entry_of, users, uses}
 use Rattle.dataset.proofs.Listed.{user_uses}
 use Rattle.tool_api.specs.Checks.{is_named}
+use Rattle.tool_api.specs.Combine.{is_positive, kept_way}
 use Rattle.tool_api.specs.Upkeep.{first_in}
 
 -- ---- the first
@@ -37,6 +38,10 @@ first_named (j ∷ ks) k e = (let i : j ≡ k = cc in ap (λ (x : Key). is_key k
 pub or_case : (ks : List Key) (k : Key) (o : Option Key) → option_or o (first_in ks) ≡ Some k → (o ≡ Some k → is_named ks k ≡ true) → is_named ks k ≡ true
 or_case ks k None e h = first_named ks k e
 or_case ks k (Some j) e h = h e
+
+-- of several objects the kept one is one of them
+pub kept_named : (ks : List Key) (k : Key) → kept_way ks ≡ Some k → is_named ks k ≡ true
+kept_named ks k e = or_case ks k (find (λ (j : Key). is_positive j.id) ks) e (find_named (λ (j : Key). is_positive j.id) ks k)
 
 -- ---- nodes
 

@@ -1,10 +1,12 @@
 //! The tests that jobs share. Each gives the first refusal in the fixed order, or none.
-ghost use Rattle.std.specs.Prelude.{◌≡◌, [], IfOk};
+ghost use Rattle.std.specs.Prelude.{◌≡◌, [], Option, IfOk};
 ghost use Rattle.std.specs.List.{find};
 ghost use Rattle.std.specs.Option.{option_copied};
 ghost use Rattle.osm_base.specs.Content.{node};
+ghost use Rattle.osm_base.specs.declared.key.Key.{Key};
 ghost use Rattle.osm_table.specs.Table.{entry_of};
 ghost use Rattle.tool_api.specs.Split.{complete_test, is_incomplete};
+ghost use Rattle.tool_api.specs.declared.refusal.Refusal.{Refusal};
 ghost use Rattle.tool_api.specs.Checks.{is_named, entry_test, target_test, twice_test, list_tests, ref_entry_test, ref_tests, first_of};
 
 use crate::kinds::Kinds;
@@ -20,6 +22,20 @@ pub fn is_named(keys: &[Key], key: Key) -> bool
     ensures { result ≡ is_named keys.now key }
 {
     keys.iter().any(|named| same_key(key, *named))
+}
+
+/// The first refusal of a test, object by object in the order given.
+pub fn first_refusal<F: Fn(Key) -> Option<Refusal>>(keys: &[Key], test: F) -> Option<Refusal>
+    requires { F.IsAlwaysCallable test }
+    // So it is for the function that the test computes.
+    ensures { (expected : Key → Option Refusal) → ((k : Key) (r : Option Refusal) → F.post test k r → r ≡ expected k) → result ≡ first_of expected keys.now }
+{
+    for key in keys {
+        if let Some(refusal) = test(*key) {
+            return Some(refusal);
+        }
+    }
+    None
 }
 
 fn entry_test(kinds: Kinds, key: Key, found: Option<&SharedEntry>) -> Option<Refusal>
@@ -54,12 +70,7 @@ pub fn target_test(ds: &DataSet, kinds: Kinds, key: Key) -> Option<Refusal>
 pub fn target_tests(ds: &DataSet, kinds: Kinds, keys: &[Key]) -> Option<Refusal>
     ensures { result ≡ first_of (target_test ds.now kinds) keys.now }
 {
-    for key in keys {
-        if let Some(refusal) = target_test(ds, kinds, *key) {
-            return Some(refusal);
-        }
-    }
-    None
+    first_refusal(keys, |key| target_test(ds, kinds, key))
 }
 
 /// NamedTwice for the first key that repeats one before it. It hashes each key once.
@@ -108,24 +119,13 @@ pub fn reference_test(ds: &DataSet, key: Key) -> Option<Refusal>
 pub fn reference_tests(ds: &DataSet, refs: &[Key]) -> Option<Refusal>
     ensures { result ≡ ref_tests ds.now refs.now }
 {
-    for key in refs {
-        if let Some(refusal) = reference_test(ds, *key) {
-            return Some(refusal);
-        }
-    }
-    None
+    first_refusal(refs, |key| reference_test(ds, key))
 }
 
 fn is_incomplete(found: Option<&SharedEntry>) -> bool
     ensures { result ≡ is_incomplete (option_copied found.entry) }
 {
-    let Some(entry) = found else {
-        return false;
-    };
-    match entry.parts() {
-        EntryParts::Incomplete => true,
-        EntryParts::Known { .. } => false,
-    }
+    found.is_some_and(|entry| entry.is_incomplete())
 }
 
 fn first_incomplete(ds: &DataSet, refs: &[i64]) -> Option<i64>
@@ -140,8 +140,5 @@ fn first_incomplete(ds: &DataSet, refs: &[i64]) -> Option<i64>
 pub fn complete_test(ds: &DataSet, refs: &[i64]) -> Option<Refusal>
     ensures { result ≡ complete_test ds.now refs.now }
 {
-    match first_incomplete(ds, refs) {
-        None => None,
-        Some(id) => Some(Refusal::IncompleteObject(node_key(id))),
-    }
+    Some(Refusal::IncompleteObject(node_key(first_incomplete(ds, refs)?)))
 }

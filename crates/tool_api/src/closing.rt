@@ -16,12 +16,12 @@ ghost use Rattle.tool_api.specs.Closing.{closing, closing_tests, conflict_change
 ghost use Rattle.tool_api.specs.Planned.{Plans};
 
 use crate::checks::is_named;
-use crate::contents::content;
+use crate::contents::living;
 use crate::plan::Plan;
 use crate::refusal::Refusal;
 use dataset::{DataSet, Draft};
 use osm_base::{Content, Key, Keys, fits, same};
-use osm_table::{EntryParts, SharedEntry};
+use osm_table::SharedEntry;
 use std::alloc::AllocError;
 
 /// The last number that a new object may have: ids are from -10^18 on.
@@ -31,13 +31,7 @@ const LAST_NUMBER: u64 = 1_000_000_000_000_000_000;
 pub fn in_conflict(found: Option<&SharedEntry>) -> bool
     ensures { result ≡ in_conflict (option_copied found.entry) }
 {
-    let Some(entry) = found else {
-        return false;
-    };
-    match entry.parts() {
-        EntryParts::Incomplete => false,
-        EntryParts::Known { conflict, .. } => conflict.is_some(),
-    }
+    found.is_some_and(|entry| entry.conflict().is_some())
 }
 
 fn same_entries(a: Option<&SharedEntry>, b: Option<&SharedEntry>) -> bool
@@ -65,12 +59,12 @@ fn changes_conflict(
 fn conflict_changed(ds: &DataSet, draft: &Draft, named: &[Key], keys: &[Key]) -> Option<Key>
     ensures { result ≡ find (λ k. changes_conflict named.now k (entry_of ds.now k) (entry_of (drafted draft.now ds.now) k)) keys.now }
 {
-    for key in keys {
-        if changes_conflict(named, *key, ds.entry(*key), draft.entry(ds, *key)) {
-            return Some(*key);
-        }
-    }
-    None
+    keys.iter().copied().find(|key| changes_conflict(
+        named,
+        *key,
+        ds.entry(*key),
+        draft.entry(ds, *key),
+    ))
 }
 
 fn conflict_change_test(ds: &DataSet, draft: &Draft, named: &[Key], keys: &[Key]) -> Option<Refusal>
@@ -86,10 +80,7 @@ fn conflict_change_test(ds: &DataSet, draft: &Draft, named: &[Key], keys: &[Key]
 fn is_content(before: Option<&Content>, after: &Content) -> bool
     ensures { result ≡ same_mine (option_copied before.entry) (Some after.now) }
 {
-    match before {
-        None => false,
-        Some(before) => same(before, after),
-    }
+    before.is_some_and(|before| same(before, after))
 }
 
 /// Whether the content after a job differs from the one before it, and doesn't fit into the limits of API 0.6.
@@ -106,12 +97,10 @@ pub fn makes_unfit(before: Option<&Content>, after: Option<&Content>) -> bool
 fn made_unfit(ds: &DataSet, draft: &Draft, keys: &[Key]) -> Option<Key>
     ensures { result ≡ find (λ k. makes_unfit (content_of ds.now k) (content_of (drafted draft.now ds.now) k)) keys.now }
 {
-    for key in keys {
-        if makes_unfit(content(ds.entry(*key)), content(draft.entry(ds, *key))) {
-            return Some(*key);
-        }
-    }
-    None
+    keys.iter().copied().find(|key| makes_unfit(
+        living(ds.entry(*key)),
+        living(draft.entry(ds, *key)),
+    ))
 }
 
 fn fit_test(ds: &DataSet, draft: &Draft, keys: &[Key]) -> Option<Refusal>

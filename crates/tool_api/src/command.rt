@@ -17,18 +17,15 @@ use std::alloc::AllocError;
 pub trait Command: Drop {
     ghost kind: { Verb };
 
-    /// The command.
-    fn new() -> Self;
-
     /// The verb of its jobs.
-    fn verb(&self) -> Verb
+    fn verb() -> Verb
         ensures { result ≡ kind };
 
     /// Plans a job: its outcome, and a sound table where it isn't refused.
     ///
     /// # Errors
     /// No memory was left.
-    fn plan(&self, ds: &DataSet, job: &Job, limit: u64) -> Result<Plan, AllocError>
+    fn plan(ds: &DataSet, job: &Job, limit: u64) -> Result<Plan, AllocError>
         requires sound { IsSound ds.now }
         requires verb { verb_of job.now ≡ kind }
         requires formed { IsWellFormed job.now }

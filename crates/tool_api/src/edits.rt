@@ -11,7 +11,7 @@ ghost use Rattle.tool_api.specs.Planned.{Plans};
 use crate::closing::closed;
 use crate::plan::Plan;
 use dataset::{DataSet, Draft};
-use osm_base::{Content, Key, Keys};
+use osm_base::{Content, Key, Keys, Refs};
 use osm_table::Entry;
 use std::alloc::AllocError;
 
@@ -25,6 +25,28 @@ pub trait EditContent {
     /// No memory was left.
     fn edit(&self, content: Content) -> Result<Content, AllocError>
         ensures { IfOk result (λ new. new ≡ edited self.now content) };
+}
+
+/// Gives a way other nodes. Its tags stay, and so does any other content.
+#[derive(Drop)]
+pub struct NewNodes<'a> {
+    pub refs: &'a Refs,
+}
+
+impl<'a> EditContent for NewNodes<'a> {
+    ghost use Rattle.tool_api.specs.Basic.{with_refs};
+
+    ghost edited = { λ rule. with_refs (λ _. rule.refs.now) };
+
+    fn edit(&self, content: Content) -> Result<Content, AllocError> {
+        match content {
+            Content::Way { tags, .. } => {
+                let refs = self.refs.copy()?;
+                Ok(Content::Way { tags, refs })
+            }
+            other => Ok(other),
+        }
+    }
 }
 
 fn edited_mine<E: EditContent>(

@@ -28,7 +28,6 @@ mod nodes;
 mod plan;
 mod refusal;
 mod reply;
-mod steps;
 mod tool;
 mod undoable;
 mod uses;
@@ -36,23 +35,22 @@ mod verb;
 
 pub use additions::{add_new, new_key};
 pub use checks::{
-    complete_test, is_named, list_tests, reference_test, reference_tests, target_test,
-    target_tests, twice_test,
+    complete_test, first_refusal, is_named, list_tests, reference_test, reference_tests,
+    target_test, target_tests, twice_test,
 };
 pub use closing::{closed, in_conflict, makes_unfit, room_test};
 pub use command::Command;
-pub use contents::{content_of, is_relation, refs_at};
+pub use contents::{content_of, copied, is_relation, living, push_refs_by, refs_at, way_refs};
 pub use deletion::delete_all;
-pub use edits::{EditContent, edit_all, edits_plan};
+pub use edits::{EditContent, NewNodes, edit_all, edits_plan};
 pub use job::Job;
 pub use key_set::{KeySet, distinct};
 pub use kinds::Kinds;
 pub use new_objects::{NewObject, NewObjects};
-pub use nodes::node_keys;
+pub use nodes::{first_in, last_in, node_keys};
 pub use plan::Plan;
 pub use refusal::Refusal;
 pub use reply::Reply;
-pub use steps::Steps;
 pub use tool::Tool;
 pub use undoable::Undoable;
 pub use uses::{all_users, use_test, use_tests};

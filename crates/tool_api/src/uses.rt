@@ -4,6 +4,7 @@ ghost use Rattle.std.specs.List.{find, flat_map};
 ghost use Rattle.osm_table.specs.Table.{users};
 ghost use Rattle.tool_api.specs.Checks.{is_named, use_test, first_of};
 
+use crate::checks::first_refusal;
 use crate::key_set::KeySet;
 use crate::refusal::Refusal;
 use dataset::DataSet;
@@ -20,22 +21,14 @@ fn first_other(users: &[Key], named: &KeySet) -> Option<Key>
 pub fn use_test(ds: &DataSet, named: &KeySet, key: Key) -> Option<Refusal>
     ensures { result ≡ use_test ds.now named.now key }
 {
-    match first_other(ds.users(key), named) {
-        None => None,
-        Some(by) => Some(Refusal::InUse(key, by)),
-    }
+    Some(Refusal::InUse(key, first_other(ds.users(key), named)?))
 }
 
 /// InUse for the first of the keys that has such a user.
 pub fn use_tests(ds: &DataSet, named: &KeySet, keys: &[Key]) -> Option<Refusal>
     ensures { result ≡ first_of (use_test ds.now named.now) keys.now }
 {
-    for key in keys {
-        if let Some(refusal) = use_test(ds, named, *key) {
-            return Some(refusal);
-        }
-    }
-    None
+    first_refusal(keys, |key| use_test(ds, named, key))
 }
 
 /// The users of each of the keys, one after the other. It costs them all.

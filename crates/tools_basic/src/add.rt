@@ -1,53 +1,23 @@
 //! Adds an object.
-ghost use Rattle.std.specs.Prelude.{◌≡◌, ◌+◌, ◌∷◌, [], Some, None, IfOk};
-ghost use Rattle.std.specs.FinMap as fin;
-ghost use Rattle.osm_table.specs.declared.entry.Base.TheVariants.{New};
-ghost use Rattle.osm_table.specs.declared.entry.Entry.TheVariants.{Known};
+ghost use Rattle.std.specs.Prelude.{◌≡◌, IfOk};
+ghost use Rattle.dataset.specs.Draft.{drafted};
 ghost use Rattle.dataset.specs.Sound.{IsSound};
 ghost use Rattle.tool_api.specs.Basic.{add};
-ghost use Rattle.tool_api.specs.Changes.{new_key};
+ghost use Rattle.tool_api.specs.Changes.{added};
 ghost use Rattle.tool_api.specs.Planned.{Plans};
 
 use dataset::{DataSet, Draft};
-use osm_base::{Content, Key, Keys, Kind, push_references};
-use osm_table::{Base, Entry};
-use std::alloc::{AllocError, Global};
-use tool_api::{Command, Job, Plan, Undoable, Verb, closed, reference_tests};
-
-/// The key of the next new object.
-fn next_key(ds: &DataSet, kind: Kind) -> Key
-    requires { IsSound ds.now }
-    ensures { result ≡ new_key kind ds.now.next }
-{
-    Key {
-        kind,
-        id: ds.next_id(),
-    }
-}
-
-fn one_key(alloc: Global, key: Key) -> Result<Keys, AllocError>
-    ensures { IfOk result (λ keys. keys ≡ key ∷ []) }
-{
-    let mut keys = Keys::new(alloc);
-    keys.push(key)?;
-    Ok(keys)
-}
+use osm_base::{Content, Keys, push_references};
+use std::alloc::AllocError;
+use tool_api::{Command, Job, Plan, Undoable, Verb, add_new, closed, new_key, reference_tests};
 
 /// The draft that puts a new object, and raises the number.
-fn new_draft(ds: &DataSet, key: Key, content: Content) -> Result<Draft, AllocError>
+fn new_draft(ds: &DataSet, content: Content) -> Result<Draft, AllocError>
     requires { IsSound ds.now }
-    ensures { IfOk result (λ draft. draft ≡ record { puts = fin.insert fin.empty key (Some (Known New (Some content) None)); next = ds.now.next + 1 }) }
+    ensures { IfOk result (λ draft. drafted draft ds.now ≡ added ds.now content) }
 {
     let mut draft = Draft::new(ds);
-    draft.set_next(ds.next() + 1);
-    draft.put(
-        key,
-        Some(Entry::Known {
-            base: Base::New,
-            mine: Some(content),
-            conflict: None,
-        }),
-    )?;
+    add_new(&mut draft, content)?;
     Ok(draft)
 }
 
@@ -60,9 +30,10 @@ fn add_plan(ds: &DataSet, content: Content, limit: u64) -> Result<Plan, AllocErr
     if let Some(refusal) = reference_tests(ds, &refs) {
         return Ok(Plan::Refused(refusal));
     }
-    let key = next_key(ds, content.kind());
-    let made = one_key(ds.alloc(), key)?;
-    let draft = new_draft(ds, key, content)?;
+    let key = new_key(content.kind(), ds.next());
+    let mut made = Keys::new(ds.alloc());
+    made.push(key)?;
+    let draft = new_draft(ds, content)?;
     closed(ds, draft, &[], limit, made)
 }
 
@@ -75,15 +46,11 @@ impl Command for Add {
 
     ghost kind = { verb.Add };
 
-    fn new() -> Add {
-        Add {}
-    }
-
-    fn verb(&self) -> Verb {
+    fn verb() -> Verb {
         Verb::Add
     }
 
-    fn plan(&self, ds: &DataSet, job: &Job, limit: u64) -> Result<Plan, AllocError> {
+    fn plan(ds: &DataSet, job: &Job, limit: u64) -> Result<Plan, AllocError> {
         let content = match job {
             Job::AddNode { tags, at } => Content::Node {
                 tags: tags.copy()?,

@@ -8,8 +8,8 @@ use dataset::DataSet;
 use osm_base::{Content, Coord, Key, Member, Members, Refs};
 use std::alloc::{AllocError, Global};
 use tool_api::{
-    Command, EditContent, Job, Kinds, Plan, Undoable, Verb, edits_plan, node_keys, reference_tests,
-    target_test,
+    Command, EditContent, Job, Kinds, NewNodes, Plan, Undoable, Verb, edits_plan, node_keys,
+    reference_tests, target_test,
 };
 
 /// Puts a node at another place.
@@ -26,28 +26,6 @@ impl EditContent for NewPlace {
     fn edit(&self, content: Content) -> Result<Content, AllocError> {
         match content {
             Content::Node { tags, .. } => Ok(Content::Node { tags, at: self.at }),
-            other => Ok(other),
-        }
-    }
-}
-
-/// Gives a way other nodes.
-#[derive(Drop)]
-struct NewNodes<'a> {
-    refs: &'a Refs,
-}
-
-impl<'a> EditContent for NewNodes<'a> {
-    ghost use Rattle.tool_api.specs.Basic.{with_refs};
-
-    ghost edited = { λ rule. with_refs (λ _. rule.refs.now) };
-
-    fn edit(&self, content: Content) -> Result<Content, AllocError> {
-        match content {
-            Content::Way { tags, .. } => {
-                let refs = self.refs.copy()?;
-                Ok(Content::Way { tags, refs })
-            }
             other => Ok(other),
         }
     }
@@ -128,15 +106,11 @@ impl Command for Change {
 
     ghost kind = { verb.Change };
 
-    fn new() -> Change {
-        Change {}
-    }
-
-    fn verb(&self) -> Verb {
+    fn verb() -> Verb {
         Verb::Change
     }
 
-    fn plan(&self, ds: &DataSet, job: &Job, limit: u64) -> Result<Plan, AllocError> {
+    fn plan(ds: &DataSet, job: &Job, limit: u64) -> Result<Plan, AllocError> {
         match job {
             Job::Place { key, at } => place_plan(ds, *key, *at, limit),
             Job::SetNodes { key, refs } => nodes_plan(ds, *key, refs, limit),

@@ -16,7 +16,7 @@ use osm_table::{EntryParts, SharedEntry};
 use std::alloc::AllocError;
 use tool_api::{
     Command, EditContent, Job, Kinds, Plan, Refusal, Undoable, Verb, content_of, edits_plan,
-    list_tests, node_keys,
+    first_refusal, list_tests, node_keys,
 };
 
 /// How far nodes are moved to the east and to the north, in units of 10^-7 degree.
@@ -86,10 +86,7 @@ fn moved_nodes(ds: &DataSet, keys: &[Key]) -> Result<Vec<Key>, AllocError>
 fn move_test(key: Key, found: Option<&SharedEntry>, by: &Offset) -> Option<Refusal>
     ensures { result ≡ move_entry_test by.now.dx by.now.dy key (option_copied found.entry) }
 {
-    let Some(entry) = found else {
-        return None;
-    };
-    match entry.parts() {
+    match found?.parts() {
         EntryParts::Incomplete => Some(Refusal::IncompleteObject(key)),
         EntryParts::Known {
             conflict: Some(_),
@@ -112,12 +109,7 @@ fn move_test(key: Key, found: Option<&SharedEntry>, by: &Offset) -> Option<Refus
 fn move_tests(ds: &DataSet, nodes: &[Key], by: &Offset) -> Option<Refusal>
     ensures { result ≡ first_of (λ n. move_entry_test by.now.dx by.now.dy n (entry_of ds.now n)) nodes.now }
 {
-    for key in nodes {
-        if let Some(refusal) = move_test(*key, ds.entry(*key), by) {
-            return Some(refusal);
-        }
-    }
-    None
+    first_refusal(nodes, |key| move_test(key, ds.entry(key), by))
 }
 
 fn shift_plan(ds: &DataSet, keys: &[Key], by: &Offset, limit: u64) -> Result<Plan, AllocError>
@@ -143,15 +135,11 @@ impl Command for Move {
 
     ghost kind = { verb.Move };
 
-    fn new() -> Move {
-        Move {}
-    }
-
-    fn verb(&self) -> Verb {
+    fn verb() -> Verb {
         Verb::Move
     }
 
-    fn plan(&self, ds: &DataSet, job: &Job, limit: u64) -> Result<Plan, AllocError> {
+    fn plan(ds: &DataSet, job: &Job, limit: u64) -> Result<Plan, AllocError> {
         match job {
             Job::Shift { keys, dx, dy } => {
                 let by = Offset { dx: *dx, dy: *dy };

@@ -83,15 +83,11 @@ impl Command for Tag {
 
     ghost kind = { verb.Tag };
 
-    fn new() -> Tag {
-        Tag {}
-    }
-
-    fn verb(&self) -> Verb {
+    fn verb() -> Verb {
         Verb::Tag
     }
 
-    fn plan(&self, ds: &DataSet, job: &Job, limit: u64) -> Result<Plan, AllocError> {
+    fn plan(ds: &DataSet, job: &Job, limit: u64) -> Result<Plan, AllocError> {
         match job {
             Job::SetTags { keys, tags } => tags_plan(ds, keys.as_slice(), tags, limit),
             _ => unreachable!(),

@@ -1,5 +1,5 @@
 -- What erasing touches, in words on the keys that fall and on those that go.
-use Rattle.std.specs.Prelude.{◌&&◌, Bool, true, false, not, List, [], map, Option, Some}
+use Rattle.std.specs.Prelude.{◌&&◌, Bool, false, not, List, [], map, Option, Some}
 use Rattle.std.specs.List.{list_any, list_all}
 use Rattle.std.specs.Option.{option_map_or}
 use Rattle.osm_base.specs.Content.{node}
@@ -28,11 +28,6 @@ falls_short t named k = option_map_or (is_short named) (content_of t k) false
 abbrev pub way_nodes : Option Content → List Key
 way_nodes (Some (content.Way tags refs)) = map node refs
 way_nodes c = []
-
--- a node without tags
-abbrev pub is_untagged_node : Content → Bool
-is_untagged_node (content.Node [] at) = true
-is_untagged_node c = false
 
 -- a bare node whose users all fall
 abbrev pub is_free : TableValue → List Key → Key → Bool

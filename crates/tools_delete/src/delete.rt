@@ -47,15 +47,11 @@ impl Command for Delete {
 
     ghost kind = { verb.Delete };
 
-    fn new() -> Delete {
-        Delete {}
-    }
-
-    fn verb(&self) -> Verb {
+    fn verb() -> Verb {
         Verb::Delete
     }
 
-    fn plan(&self, ds: &DataSet, job: &Job, _limit: u64) -> Result<Plan, AllocError> {
+    fn plan(ds: &DataSet, job: &Job, _limit: u64) -> Result<Plan, AllocError> {
         match job {
             Job::Delete { keys } => delete_plan(ds, keys.as_slice()),
             _ => unreachable!(),

@@ -78,15 +78,11 @@ impl Command for Erase {
 
     ghost kind = { verb.Erase };
 
-    fn new() -> Erase {
-        Erase {}
-    }
-
-    fn verb(&self) -> Verb {
+    fn verb() -> Verb {
         Verb::Erase
     }
 
-    fn plan(&self, ds: &DataSet, job: &Job, limit: u64) -> Result<Plan, AllocError> {
+    fn plan(ds: &DataSet, job: &Job, limit: u64) -> Result<Plan, AllocError> {
         match job {
             Job::Erase { keys } => erase_plan(ds, keys.as_slice(), limit),
             _ => unreachable!(),

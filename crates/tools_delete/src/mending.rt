@@ -11,18 +11,12 @@ use relation_upkeep::drop_members;
 use std::alloc::{AllocError, Global};
 use tool_api::{EditContent, KeySet};
 
-fn names_node(named: &KeySet, id: i64) -> bool
-    ensures { result ≡ is_named named.now (node id) }
-{
-    named.contains(node_key(id))
-}
-
 fn other_ids(alloc: Global, named: &KeySet, ids: &[i64]) -> Result<Vec<i64>, AllocError>
     ensures { IfOk result (λ left. left.items ≡ filter (λ n. not (is_named named.now (node n))) ids.now) }
 {
     ids.iter()
         .copied()
-        .filter(|id| !names_node(named, *id))
+        .filter(|id| !named.contains(node_key(*id)))
         .collect(alloc)
 }
 

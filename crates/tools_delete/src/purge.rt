@@ -14,7 +14,9 @@ use dataset::{DataSet, Draft};
 use osm_base::{Key, Keys};
 use osm_table::{Base, Entry, EntryParts, SharedEntry};
 use std::alloc::AllocError;
-use tool_api::{Command, Job, KeySet, Plan, Refusal, Undoable, Verb, twice_test, use_test};
+use tool_api::{
+    Command, Job, KeySet, Plan, Refusal, Undoable, Verb, first_refusal, twice_test, use_test,
+};
 
 fn purge_test(key: Key, found: Option<&SharedEntry>) -> Option<Refusal>
     ensures { result ≡ purge_entry_test key (option_copied found.entry) }
@@ -34,27 +36,16 @@ fn purge_test(key: Key, found: Option<&SharedEntry>) -> Option<Refusal>
 fn purge_tests(ds: &DataSet, keys: &[Key]) -> Option<Refusal>
     ensures { result ≡ first_of (λ k. purge_entry_test k (entry_of ds.now k)) keys.now }
 {
-    for key in keys {
-        if let Some(refusal) = purge_test(*key, ds.entry(*key)) {
-            return Some(refusal);
-        }
-    }
-    None
+    first_refusal(keys, |key| purge_test(key, ds.entry(key)))
 }
 
 fn is_new(found: Option<&SharedEntry>) -> bool
     ensures { result ≡ is_new (option_copied found.entry) }
 {
-    let Some(entry) = found else {
-        return false;
-    };
-    match entry.parts() {
-        EntryParts::Known {
-            base: Base::New,
-            ..
-        } => true,
-        _ => false,
-    }
+    found.is_some_and(|entry| match entry.base() {
+        None => false,
+        Some(base) => matches!(base, Base::New),
+    })
 }
 
 /// A new object has to leave the table whole, so that nothing may use it.
@@ -70,12 +61,7 @@ fn new_use_test(ds: &DataSet, named: &KeySet, key: Key) -> Option<Refusal>
 fn new_use_tests(ds: &DataSet, named: &KeySet, keys: &[Key]) -> Option<Refusal>
     ensures { result ≡ first_of (new_use_test ds.now named.now) keys.now }
 {
-    for key in keys {
-        if let Some(refusal) = new_use_test(ds, named, *key) {
-            return Some(refusal);
-        }
-    }
-    None
+    first_refusal(keys, |key| new_use_test(ds, named, key))
 }
 
 fn is_used(ds: &DataSet, named: &KeySet, key: Key) -> bool
@@ -133,15 +119,11 @@ impl Command for Purge {
 
     ghost kind = { verb.Purge };
 
-    fn new() -> Purge {
-        Purge {}
-    }
-
-    fn verb(&self) -> Verb {
+    fn verb() -> Verb {
         Verb::Purge
     }
 
-    fn plan(&self, ds: &DataSet, job: &Job, _limit: u64) -> Result<Plan, AllocError> {
+    fn plan(ds: &DataSet, job: &Job, _limit: u64) -> Result<Plan, AllocError> {
         match job {
             Job::Purge { keys } => purge_plan(ds, keys.as_slice()),
             _ => unreachable!(),

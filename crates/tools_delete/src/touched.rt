@@ -7,7 +7,7 @@ ghost use Rattle.tool_api.specs.Changes.{content_of};
 ghost use Rattle.tool_api.specs.Distinct.{distinct};
 ghost use Rattle.tool_api.specs.Gone.{is_bare, is_mended};
 ghost use Rattle.tool_api.specs.Checks.{is_named};
-ghost use Rattle.tools_delete.specs.Touched.{falls_short, is_free, is_left_by, is_untagged_node, lives_as_relation, lives_as_way, loses_members, way_nodes};
+ghost use Rattle.tools_delete.specs.Touched.{falls_short, is_free, is_left_by, lives_as_relation, lives_as_way, loses_members, way_nodes};
 
 use crate::mending::mended_ids;
 use dataset::DataSet;
@@ -19,10 +19,7 @@ use tool_api::{KeySet, all_users, content_of, distinct, is_relation};
 fn is_way(ds: &DataSet, key: Key) -> bool
     ensures { result ≡ lives_as_way ds.now key }
 {
-    match content_of(ds, key) {
-        Some(Content::Way { .. }) => true,
-        _ => false,
-    }
+    matches!(content_of(ds, key), Some(Content::Way { .. }))
 }
 
 fn other_ways(ds: &DataSet, named: &KeySet, keys: &[Key]) -> Result<Vec<Key>, AllocError>
@@ -111,29 +108,17 @@ fn all_nodes(ds: &DataSet, keys: &[Key]) -> Result<Vec<Key>, AllocError>
     Ok(nodes)
 }
 
-fn is_untagged_node(content: &Content) -> bool
-    ensures { result ≡ is_untagged_node content.now }
-{
-    match content {
-        Content::Node { tags, .. } => tags.is_empty(),
-        _ => false,
-    }
-}
-
 fn is_bare(found: Option<&SharedEntry>) -> bool
     ensures { result ≡ is_bare (option_copied found.entry) }
 {
-    let Some(entry) = found else {
-        return false;
-    };
-    match entry.parts() {
+    found.is_some_and(|entry| match entry.parts() {
         EntryParts::Known {
-            mine: Some(content),
+            mine: Some(Content::Node { tags, .. }),
             conflict: None,
             ..
-        } => is_untagged_node(content),
+        } => tags.is_empty(),
         _ => false,
-    }
+    })
 }
 
 fn all_fall(falling: &KeySet, users: &[Key]) -> bool

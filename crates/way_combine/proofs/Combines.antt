@@ -1,6 +1,5 @@
 -- How a job that joins ways ends: refused by its first test that fails, or by the closing tests, or done.
-use Rattle.std.proofs.Common.{◌≡◌, ℕ, ℤ, List, [], Option, Some, None, Result, Ok, Err, refl, sym, ap, ◌∙◌}
-use Rattle.osm_base.specs.Tags.{Pair}
+use Rattle.std.proofs.Common.{◌≡◌, ℕ, ℤ, List, [], Option, Some, None, Result, Ok, sym, ap, ◌∙◌}
 use Rattle.osm_base.specs.declared.key.Key.{Key}
 use Rattle.osm_table.specs.Table.{TableValue}
 use Rattle.tool_api.specs.declared.kinds.Kinds.TheVariants.{Ways}
@@ -8,8 +7,7 @@ use Rattle.tool_api.specs.declared.refusal.Refusal.{Refusal}
 use Rattle.tool_api.specs.Checks.{◌>>◌, ◌>>=◌, first_of, list_tests}
 use Rattle.tool_api.specs.Changes.{Outcome, done}
 use Rattle.tool_api.specs.Closing.{closing}
-use Rattle.tool_api.specs.Combine.{way_test, joined, all_tags, clash_test, member_test, kept_way, combined, combined_table, united, combine}
-use Rattle.way_combine.specs.Parts.{union_of}
+use Rattle.tool_api.specs.Combine.{way_test, joined, all_tags, clash_test, member_test, kept_way, combined, combined_table, combine}
 
 -- what a joining of ways to one that is kept ends as
 abbrev combine_end : TableValue → ℕ → List Key → List ℤ → Option Key → Result Outcome Refusal
@@ -27,18 +25,3 @@ module _ (t : TableValue) (limit : ℕ) (ways : List Key) where
   combine_ends u refs kept keys tests own joints clash members kept_is nil is =
       (λ i. closing t limit ways (record { keys = nil i; table = is i }))
       ∙ sym (combine_at None None None None (Ok refs) tests own joints clash members ∙ ap (combine_end t limit ways refs) kept_is)
-
--- what the union tells of the clash
-clash_case : (o : Option Refusal) (tags all : List Pair) → Ok tags ≡ (o >> Ok all) → (None ≡ o) × (tags ≡ all)
-clash_case None tags all e = (refl, (let i : tags ≡ all = cc in i))
-clash_case (Some r) tags all e = cc
-
-pub tags_joined : (tags all : List Pair) → Ok tags ≡ union_of all → (None ≡ clash_test all) × (tags ≡ united all)
-tags_joined tags all e = clash_case (clash_test all) tags (united all) e
-
-refused_case : (o : Option Refusal) (r : Refusal) (all : List Pair) → Err r ≡ (o >> Ok all) → Some r ≡ o
-refused_case None r all e = cc
-refused_case (Some s) r all e = (let i : r ≡ s = cc in ap Some i)
-
-pub tags_refused : (r : Refusal) (all : List Pair) → Err r ≡ union_of all → Some r ≡ clash_test all
-tags_refused r all e = refused_case (clash_test all) r (united all) e

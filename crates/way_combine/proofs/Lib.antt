@@ -5,4 +5,3 @@ pub mod Joints
 pub mod Runs
 pub mod Sounds
 pub mod Turns
-pub mod Unions

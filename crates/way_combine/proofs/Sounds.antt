@@ -35,7 +35,7 @@ use Rattle.tool_api.specs.Closing.{closing_tests, in_conflict}
 use Rattle.tool_api.specs.Gone.{is_relation}
 use Rattle.tool_api.specs.Upkeep.{is_among, folded}
 use Rattle.tool_api.specs.Split.{way_refs}
-use Rattle.tool_api.specs.Combine.{joined, united, all_tags, clashes, member_test, is_positive, kept_way, as_way, fold_runs, relations_among, combined}
+use Rattle.tool_api.specs.Combine.{joined, united, all_tags, clashes, member_test, kept_way, as_way, fold_runs, relations_among, combined}
 use Rattle.tool_api.proofs.Least.{has_key}
 use Rattle.tool_api.proofs.Passed.{Lives, lives, named_lives, passes, both_none, none_passes, passed_tests, none_in}
 use Rattle.way_combine.proofs.Among.{way_kind, user_is}
@@ -44,12 +44,7 @@ use Rattle.way_combine.proofs.Runs.{folds_alike, folded_stays, Stays}
 use Rattle.tool_api.proofs.Bools.{left_alone}
 use Rattle.tool_api.proofs.Sounds.{edited_there}
 use Rattle.tool_api.proofs.Changed.{entry_thrice, next_thrice, four_cases, leaves_conflict, fits_edited, sound_edited, edited_from, deleted_from}
-use Rattle.tool_api.proofs.Named.{uses_one, some_user, find_named, or_case}
-
--- The kept way is one of the ways.
-
-pub kept_named : (ways : List Key) (kept : Key) → kept_way ways ≡ Some kept → is_named ways kept ≡ true
-kept_named ways kept e = or_case ways kept (find (λ (k : Key). is_positive k.id) ways) e (find_named (λ (k : Key). is_positive k.id) ways kept)
+use Rattle.tool_api.proofs.Named.{uses_one, some_user, kept_named}
 
 -- The nodes of references.
 

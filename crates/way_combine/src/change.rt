@@ -1,14 +1,13 @@
 //! The change that joins ways, as a draft.
-ghost use Rattle.std.specs.Prelude.{◌≡◌, ◌<◌, not, length, Some, IfOk, OnOk};
-ghost use Rattle.std.specs.List.{filter, find};
-ghost use Rattle.osm_base.specs.Rank.{is_key};
+ghost use Rattle.std.specs.Prelude.{◌≡◌, OnOk};
 ghost use Rattle.dataset.specs.Draft.{drafted};
 ghost use Rattle.tool_api.specs.Changes.{changed, edit};
-ghost use Rattle.tool_api.specs.Combine.{combined, fold_runs, united, all_tags, relations_among, kept_way, is_positive};
+ghost use Rattle.tool_api.specs.Combine.{combined, fold_runs, united, all_tags, relations_among};
 
 use dataset::{DataSet, Draft};
-use osm_base::{Content, Key, Refs, Tags, same_key};
-use std::alloc::{AllocError, Global};
+use osm_base::{Content, Key, Refs, Tags};
+use relation_upkeep::other_keys;
+use std::alloc::AllocError;
 use tool_api::{EditContent, delete_all, edit_all};
 
 /// What becomes of the kept way: it has all references and tags.
@@ -31,15 +30,6 @@ impl EditContent for AsWay {
     }
 }
 
-fn other_ways(alloc: Global, ways: &[Key], kept: Key) -> Result<Vec<Key>, AllocError>
-    ensures { IfOk result (λ others. others.items ≡ filter (λ k. not (is_key kept k)) ways.now) }
-{
-    ways.iter()
-        .copied()
-        .filter(|way| !same_key(kept, *way))
-        .collect(alloc)
-}
-
 /// Deletes the other ways and gives the kept way the references and the tags, in a draft that has the relations already.
 ///
 /// # Errors
@@ -56,30 +46,7 @@ pub fn join_ways(
     requires tags { tags ≡ united (all_tags ds.now ways.now) }
     ensures { OnOk result (drafted draft.new ds.now ≡ combined ds.now ways.now refs kept) }
 {
-    let others = other_ways(ds.alloc(), ways, kept)?;
+    let others = other_keys(ds.alloc(), ways, kept)?;
     delete_all(ds, &others, draft)?;
     edit_all(ds, &[kept], &AsWay { refs, tags }, draft)
-}
-
-fn first_positive(ways: &[Key]) -> Option<Key>
-    ensures { result ≡ find (λ k. is_positive k.id) ways.now }
-{
-    ways.iter().copied().find(|way| is_positive(way.id))
-}
-
-/// The way that stays: the first with a positive id, else the first.
-pub fn kept_way(ways: &[Key]) -> Key
-    requires { 0 < length ways.now }
-    ensures { kept_way ways.now ≡ Some result }
-{
-    match first_positive(ways) {
-        Some(way) => way,
-        None => ways[0],
-    }
-}
-
-fn is_positive(id: i64) -> bool
-    ensures { result ≡ is_positive id }
-{
-    0 <= id
 }

@@ -4,13 +4,13 @@ ghost use Rattle.dataset.specs.Sound.{IsSound};
 ghost use Rattle.tool_api.specs.Combine.{combine};
 ghost use Rattle.tool_api.specs.Planned.{Plans};
 
-use crate::change::{join_ways, kept_way};
+use crate::change::join_ways;
 use crate::joining::joined;
 use crate::relations::fold_relations;
-use crate::union::united;
 use crate::ways::way_tests;
 use dataset::{DataSet, Draft};
 use osm_base::{Key, Keys};
+use relation_upkeep::{kept_key, united_tags};
 use std::alloc::AllocError;
 use tool_api::{Command, Job, Kinds, Plan, Undoable, Verb, closed, list_tests};
 
@@ -29,11 +29,11 @@ fn combine_plan(ds: &DataSet, ways: &[Key], limit: u64) -> Result<Plan, AllocErr
         Ok(refs) => refs,
         Err(refusal) => return Ok(Plan::Refused(refusal)),
     };
-    let tags = match united(ds, ways)? {
+    let tags = match united_tags(ds, ways)? {
         Ok(tags) => tags,
         Err(refusal) => return Ok(Plan::Refused(refusal)),
     };
-    let kept = kept_way(ways);
+    let kept = kept_key(ways);
     let mut draft = Draft::new(ds);
     if let Some(refusal) = fold_relations(ds, ways, kept, &mut draft)? {
         return Ok(Plan::Refused(refusal));
@@ -51,15 +51,11 @@ impl Command for Combine {
 
     ghost kind = { verb.Combine };
 
-    fn new() -> Combine {
-        Combine {}
-    }
-
-    fn verb(&self) -> Verb {
+    fn verb() -> Verb {
         Verb::Combine
     }
 
-    fn plan(&self, ds: &DataSet, job: &Job, limit: u64) -> Result<Plan, AllocError> {
+    fn plan(ds: &DataSet, job: &Job, limit: u64) -> Result<Plan, AllocError> {
         match job {
             Job::Combine { ways } => combine_plan(ds, ways.as_slice(), limit),
             _ => unreachable!(),

@@ -2,25 +2,13 @@
 ghost use Rattle.std.specs.Prelude.{◌≡◌, ◌≤◌, ◌++◌, [], drop, length, IfOk, OnOk};
 ghost use Rattle.tool_api.specs.Combine.{same_end, last_in, is_end, first_way, next_way, joined_on, joined};
 ghost use Rattle.tool_api.specs.Upkeep.{first_in};
-ghost use Rattle.way_combine.specs.Parts.{unless};
+ghost use Rattle.relation_upkeep.specs.Union.{unless};
 
 use crate::ways::turned;
 use dataset::DataSet;
 use osm_base::{Key, Refs};
 use std::alloc::AllocError;
-use tool_api::{Refusal, refs_at};
-
-fn first_in(refs: &[i64]) -> Option<i64>
-    ensures { result ≡ first_in refs.now }
-{
-    refs.first().copied()
-}
-
-fn last_in(refs: &[i64]) -> Option<i64>
-    ensures { result ≡ last_in refs.now }
-{
-    refs.last().copied()
-}
+use tool_api::{Refusal, first_in, last_in, refs_at};
 
 fn same_end(a: Option<i64>, b: Option<i64>) -> bool
     ensures { result ≡ same_end a b }

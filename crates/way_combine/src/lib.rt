@@ -14,7 +14,6 @@ mod combine;
 mod joining;
 mod relations;
 mod reverse;
-mod union;
 mod ways;
 
 pub use combine::CombineTool;

@@ -53,15 +53,11 @@ impl Command for Reverse {
 
     ghost kind = { verb.Reverse };
 
-    fn new() -> Reverse {
-        Reverse {}
-    }
-
-    fn verb(&self) -> Verb {
+    fn verb() -> Verb {
         Verb::Reverse
     }
 
-    fn plan(&self, ds: &DataSet, job: &Job, limit: u64) -> Result<Plan, AllocError> {
+    fn plan(ds: &DataSet, job: &Job, limit: u64) -> Result<Plan, AllocError> {
         match job {
             Job::Reverse { way } => reverse_plan(ds, *way, limit),
             _ => unreachable!(),

@@ -6,7 +6,7 @@ ghost use Rattle.tool_api.specs.Checks.{first_of};
 use dataset::DataSet;
 use osm_base::Key;
 use std::alloc::{AllocError, Global};
-use tool_api::{Refusal, complete_test, refs_at};
+use tool_api::{Refusal, complete_test, first_refusal, refs_at};
 
 /// The references from the last to the first.
 ///
@@ -36,10 +36,5 @@ fn way_test(ds: &DataSet, way: Key) -> Option<Refusal>
 pub fn way_tests(ds: &DataSet, ways: &[Key]) -> Option<Refusal>
     ensures { result ≡ first_of (way_test ds.now) ways.now }
 {
-    for way in ways {
-        if let Some(refusal) = way_test(ds, *way) {
-            return Some(refusal);
-        }
-    }
-    None
+    first_refusal(ways, |way| way_test(ds, way))
 }

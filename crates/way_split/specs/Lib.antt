@@ -1,2 +1,1 @@
 pub mod NodeChecks
-pub mod Tested

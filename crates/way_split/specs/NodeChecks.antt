@@ -1,5 +1,5 @@
--- The tests of a split but for the closing ones, and the test of one named node.
-use Rattle.std.specs.Prelude.{not, nat_lt, length, List, [], Option}
+-- The tests of a split but for the closing ones, what they come to, and the test of one named node.
+use Rattle.std.specs.Prelude.{◌≡◌, not, nat_lt, length, List, [], Option, Some, None}
 use Rattle.std.specs.Option.{option_or}
 use Rattle.osm_base.specs.Content.{node}
 use Rattle.osm_base.specs.declared.key.Key.{Key}
@@ -10,6 +10,8 @@ use Rattle.tool_api.specs.declared.refusal.Refusal.TheVariants.{NamedTwice, Wron
 use Rattle.tool_api.specs.Checks.{when, is_named, takes, target_test}
 use Rattle.tool_api.specs.Changes.{content_of}
 use Rattle.tool_api.specs.Split.{way_refs, node_tests, complete_test, split_pieces}
+use Rattle.way_split.specs.declared.split.Tested.{Tested}
+use Rattle.way_split.specs.declared.split.Tested.TheVariants.{Refused, Cut}
 
 -- NamedTwice, WrongKind, NotInWay: among the nodes named before it, and the nodes of the way as keys
 abbrev pub one_test : List Key → List Key → Key → Option Refusal
@@ -25,3 +27,8 @@ split_tests t way nodes =
     (option_or (node_tests (way_refs (content_of t way)) [] nodes)
     (option_or (complete_test t (way_refs (content_of t way)))
     (when (nat_lt (length (split_pieces t way nodes)) 2) (NothingToSplit way))))
+
+-- the first refusal, or the pieces where there is none
+abbrev pub IsTested : TableValue → Key → List Key → Tested → Type 0
+IsTested t way nodes (Refused refusal) = split_tests t way nodes ≡ Some refusal
+IsTested t way nodes (Cut pieces) = (split_tests t way nodes ≡ None) × (pieces.items ≡ split_pieces t way nodes)

@@ -3,9 +3,9 @@ ghost use Rattle.std.specs.Prelude.{◌≡◌, ◌≤◌, ◌^◌, map, IfOk, On
 ghost use Rattle.osm_base.specs.declared.content.Content.TheVariants.{Way};
 ghost use Rattle.dataset.specs.Draft.{drafted};
 ghost use Rattle.dataset.specs.Sound.{IsSound};
-ghost use Rattle.tool_api.specs.Basic.{with_members, with_refs};
+ghost use Rattle.tool_api.specs.Basic.{with_members};
 ghost use Rattle.tool_api.specs.Changes.{all_added};
-ghost use Rattle.tool_api.specs.Split.{kept_refs, others, relations_of, tags_at, split_table};
+ghost use Rattle.tool_api.specs.Split.{others, relations_of, tags_at, split_table};
 ghost use Rattle.tool_api.specs.Upkeep.{replaced};
 ghost use Rattle.relation_upkeep.specs.Replace.{piece_values};
 
@@ -14,7 +14,7 @@ use dataset::{DataSet, Draft};
 use osm_base::{Content, Key, Members, Refs, Tags, same_key};
 use relation_upkeep::{Piece, replace_member};
 use std::alloc::AllocError;
-use tool_api::{EditContent, add_new, content_of, edit_all, is_relation};
+use tool_api::{EditContent, NewNodes, add_new, content_of, edit_all, is_relation};
 
 fn with_members(content: Content, new: Members) -> Content
     ensures { result ≡ with_members (λ _. new) content }
@@ -23,18 +23,6 @@ fn with_members(content: Content, new: Members) -> Content
         Content::Relation { tags, .. } => Content::Relation { tags, members: new },
         other => other,
     }
-}
-
-fn take_pieces(
-    ds: &DataSet,
-    way: Key,
-    pieces: &[Piece],
-    content: Content,
-) -> Result<Content, AllocError>
-    ensures { IfOk result (λ new. new ≡ replaced ds.now way (piece_values pieces.now) content) }
-{
-    let members = replace_member(&content, way, pieces, ds)?;
-    Ok(with_members(content, members))
 }
 
 /// Relations take the pieces for the way.
@@ -49,27 +37,8 @@ impl EditContent for TakePieces<'_> {
     ghost edited = { λ r c. replaced r.ds.now r.way (piece_values r.pieces.now) c };
 
     fn edit(&self, content: Content) -> Result<Content, AllocError> {
-        take_pieces(self.ds, self.way, self.pieces, content)
-    }
-}
-
-/// A way keeps some of its nodes.
-#[derive(Drop)]
-struct KeepRefs {
-    refs: Refs,
-}
-
-impl EditContent for KeepRefs {
-    ghost edited = { λ r. with_refs (λ _. r.refs) };
-
-    fn edit(&self, content: Content) -> Result<Content, AllocError> {
-        match content {
-            Content::Way { tags, .. } => Ok(Content::Way {
-                tags,
-                refs: self.refs.copy()?,
-            }),
-            other => Ok(other),
-        }
+        let members = replace_member(&content, self.way, self.pieces, self.ds)?;
+        Ok(with_members(content, members))
     }
 }
 
@@ -136,10 +105,8 @@ pub fn split_draft(ds: &DataSet, way: Key, parts: &[(Key, Refs)]) -> Result<Draf
         pieces: &pieces,
     };
     edit_all(ds, &relations, &take, &mut draft)?;
-    let keep = KeepRefs {
-        refs: kept_refs(ds.alloc(), way, parts)?,
-    };
-    edit_all(ds, &[way], &keep, &mut draft)?;
+    let refs = kept_refs(ds.alloc(), way, parts)?;
+    edit_all(ds, &[way], &NewNodes { refs: &refs }, &mut draft)?;
     add_others(&mut draft, ds, way, parts)?;
     Ok(draft)
 }

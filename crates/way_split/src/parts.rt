@@ -73,10 +73,7 @@ pub fn kept_refs(alloc: Global, way: Key, parts: &[(Key, Refs)]) -> Result<Refs,
 fn or_zero(id: Option<&i64>) -> i64
     ensures { result ≡ unwrap_or (option_copied id.entry) (pos 0) }
 {
-    match id {
-        None => 0,
-        Some(id) => *id,
-    }
+    id.copied().unwrap_or(0)
 }
 
 fn piece_of(way: Key, part: &(Key, Refs)) -> Piece

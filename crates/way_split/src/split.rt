@@ -6,8 +6,7 @@ ghost use Rattle.tool_api.specs.Planned.{Plans};
 ghost use Rattle.tool_api.specs.Split.{node_tests, split, split_pieces, way_refs};
 ghost use Rattle.tool_api.specs.Checks.{target_test};
 ghost use Rattle.tool_api.specs.declared.kinds.Kinds.TheVariants.{Ways};
-ghost use Rattle.way_split.specs.NodeChecks.{split_tests};
-ghost use Rattle.way_split.specs.Tested.{IsTested};
+ghost use Rattle.way_split.specs.NodeChecks.{IsTested, split_tests};
 
 use crate::drafts::split_draft;
 use crate::node_checks::node_tests;
@@ -121,15 +120,11 @@ impl Command for Split {
 
     ghost kind = { verb.Split };
 
-    fn new() -> Split {
-        Split {}
-    }
-
-    fn verb(&self) -> Verb {
+    fn verb() -> Verb {
         Verb::Split
     }
 
-    fn plan(&self, ds: &DataSet, job: &Job, limit: u64) -> Result<Plan, AllocError> {
+    fn plan(ds: &DataSet, job: &Job, limit: u64) -> Result<Plan, AllocError> {
         match job {
             Job::Split { way, nodes } => split_plan(ds, *way, nodes.as_slice(), limit),
             _ => unreachable!(),

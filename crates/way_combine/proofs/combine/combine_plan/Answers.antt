@@ -8,7 +8,8 @@ use Rattle.tool_api.specs.Closing.{closing_tests}
 use Rattle.tool_api.specs.Combine.{all_tags, fold_runs, relations_among}
 use Rattle.tool_api.specs.Planned.{Plans}
 use Rattle.tool_api.proofs.Looks.{from_none}
-use Rattle.way_combine.proofs.Combines.{combine_at, combine_ends, tags_joined, tags_refused}
+use Rattle.relation_upkeep.proofs.Unions.{tags_joined, tags_refused}
+use Rattle.way_combine.proofs.Combines.{combine_at, combine_ends}
 use Rattle.way_combine.proofs.Sounds.{combined_sound}
 use Rattle.way_combine.proofs.combine.combine_plan.Goals as goal
 
@@ -30,7 +31,7 @@ pub join_ways-requires-clause-relations : goal.join_ways-requires-clause-relatio
 join_ways-requires-clause-relations c =
     let t = c.args.ds.now in
     let ways = c.args.ways.now in
-    let g = edit t (fold_runs ways c.kept_way-kept.result) in
+    let g = edit t (fold_runs ways c.kept_key-kept.result) in
     from_none t g (relations_among t ways) _ _ c.new-draft.ensures
     (subst (λ (o : Option Refusal). IfNone o (drafted c.fold_relations.new.draft t ≡ changed (drafted c.new-draft.result t) g (relations_among t ways))) c.in_default-2.is c.in_ok-refusal-2.ensures.draft)
 
@@ -40,12 +41,12 @@ closed-requires c =
     let ways = c.args.ways.now in
     let is = c.in_ok-join_ways.ensures in
     record {
-      sound = λ closed. subst IsSound (sym is) (combined_sound t c.args.limit ways c.in-Ok.refs c.kept_way-kept.result (record {
+      sound = λ closed. subst IsSound (sym is) (combined_sound t c.args.limit ways c.in-Ok.refs c.kept_key-kept.result (record {
         sound = c.requires.sound;
         tests = sym c.in_ok-refusal.ensures ∙ c.in_default.is;
         joins = sym c.in_ok-refs.ensures ∙ c.in-Ok.is;
         members = sym c.in_ok-refusal-2.ensures.test ∙ c.in_default-2.is;
-        kept_is = c.kept_way-kept.ensures;
+        kept_is = c.kept_key-kept.ensures;
         closed = ap (closing_tests t c.args.limit ways) (sym is) ∙ closed;
       }));
     }
@@ -54,7 +55,7 @@ pub returns : goal.returns
 returns c =
     let t = c.args.ds.now in
     let ways = c.args.ways.now in
-    subst (λ o. IfOk c.closed.result (Plans t o)) (combine_ends t c.args.limit ways _ c.in-Ok.refs c.kept_way-kept.result _
+    subst (λ o. IfOk c.closed.result (Plans t o)) (combine_ends t c.args.limit ways _ c.in-Ok.refs c.kept_key-kept.result _
     (sym c.in_default.is ∙ c.in_ok-refusal.ensures) c.in_default-way_tests.ensures (sym c.in-Ok.is ∙ c.in_ok-refs.ensures)
     (tags_joined c.in-Ok-2.tags (all_tags t ways) (sym c.in-Ok-2.is ∙ c.in_ok-tags.ensures)).0
-    (sym c.in_default-2.is ∙ c.in_ok-refusal-2.ensures.test) c.kept_way-kept.ensures c.new.ensures c.in_ok-join_ways.ensures) c.closed.ensures
+    (sym c.in_default-2.is ∙ c.in_ok-refusal-2.ensures.test) c.kept_key-kept.ensures c.new.ensures c.in_ok-join_ways.ensures) c.closed.ensures

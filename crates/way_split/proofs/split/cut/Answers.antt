@@ -3,7 +3,7 @@ use Rattle.std.specs.Option.{IfNone}
 use Rattle.osm_base.specs.declared.key.Key.{Key}
 use Rattle.tool_api.specs.declared.refusal.Refusal.{Refusal}
 use Rattle.tool_api.specs.Split.{node_tests}
-use Rattle.way_split.specs.Tested.{IsTested}
+use Rattle.way_split.specs.NodeChecks.{IsTested}
 use Rattle.way_split.proofs.Endings.{nodes_refuse}
 use Rattle.way_split.proofs.split.cut.Goals as goal
 

@@ -1,5 +1,5 @@
 use Rattle.std.proofs.Common.{◌∙◌, subst}
-use Rattle.way_split.specs.Tested.{IsTested}
+use Rattle.way_split.specs.NodeChecks.{IsTested}
 use Rattle.way_split.proofs.Endings.{split_refused}
 use Rattle.way_split.proofs.split.split_plan.Goals as goal
 

@@ -1,6 +1,0 @@
-use Rattle.std.proofs.Common.{◌∙◌}
-use Rattle.tool_api.proofs.Lasts.{last_got}
-use Rattle.map_checks.proofs.listing.last_in.Goals as goal
-
-pub returns : goal.returns
-returns c = c.copied.ensures ∙ c.last.ensures.value ∙ last_got c.args.refs.now
