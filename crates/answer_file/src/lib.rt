@@ -17,4 +17,4 @@ mod reading;
 
 pub use confirming::confirm_file;
 pub use fault::AnswerFault;
-pub use laws::{answers_by_line, text_is_confirmed};
+pub use laws::{answer_is_told, answers_by_line, text_is_confirmed};
