@@ -7,7 +7,7 @@ use Rattle.std.proofs.lemmas.List.{append_assoc}
 use Rattle.osm_base.specs.Number.{key_written}
 use Rattle.upload_order.specs.declared.change.Change.{Change}
 use Rattle.upload_order.specs.declared.change.Change.TheVariants.{Create, Modify, Delete}
-use Rattle.chunking.specs.Chunks.{change_text, changes_text, chunk_count, chunk_line, chunks, head_text, part, upload_line}
+use Rattle.chunking.specs.Chunks.{change_text, changes_text, chunk_count, chunk_line, chunks, head_text, part}
 use Rattle.chunking.specs.Told.{numbered, told_change, told_lines, told_text}
 
 abbrev ended : List ℕ → List ℕ
