@@ -27,7 +27,39 @@ TYPE = re.compile(r'^(?:pub(?:\([a-z]+\))? )?(?:enum|struct|trait) (\w+)\b(?:[^\
 USE = re.compile(r'^(?:pub |ghost )?use ((?:Rattle|lib)\.[\w.]+?)(?:\.\{([^}\n]*)\}| as (\w+));?$', re.M)
 
 # the definitions that a law settles, by their crates, and where the law stands in src/ with its name
-SETTLED = {('saved_session', 'saved_table'): ('law.rt', 'saved_table_is_told')}
+SETTLED = {
+    ('answer_file', 'answer_of_words'): ('laws.rt', 'answer_is_told'),
+    ('chunking', 'chunks'): ('law.rt', 'chunks_are_told'),
+    ('edit_script', 'act_of'): ('law.rt', 'act_is_told'),
+    ('edit_script', 'refusal_text'): ('law.rt', 'refusal_is_told'),
+    ('map_search', 'query_of_words'): ('law.rt', 'read_as_spelled'),
+    ('merge_cases', 'same_kind'): ('law.rt', 'same_kind_is_told'),
+    ('merge_cases', 'same_pick'): ('law.rt', 'same_pick_is_told'),
+    ('merge_cases', 'same_value'): ('law.rt', 'same_value_is_told'),
+    ('opl_file', 'lines_of'): ('law.rt', 'lines_are_told'),
+    ('opl_line', 'field_into'): ('law.rt', 'field_is_told'),
+    ('opl_text', 'time_text'): ('time.rt', 'time_is_told'),
+    ('opl_text', 'unescaped'): ('text.rt', 'read_as_spelled'),
+    ('osm_base', 'same_content'): ('law.rt', 'same_content_is_told'),
+    ('osm_base', 'same_coord'): ('law.rt', 'same_coord_is_told'),
+    ('osm_base', 'same_members'): ('law.rt', 'same_members_is_told'),
+    ('osm_base', 'same_meta'): ('law.rt', 'same_meta_is_told'),
+    ('osm_base', 'same_refs'): ('law.rt', 'same_refs_is_told'),
+    ('osm_base', 'same_text'): ('law.rt', 'same_text_is_told'),
+    ('osm_table', 'same_entry'): ('law.rt', 'same_entry_is_told'),
+    ('osm_table', 'same_mine'): ('law.rt', 'same_mine_is_told'),
+    ('osm_table', 'same_why'): ('law.rt', 'same_why_is_told'),
+    ('saved_session', 'entry_lines'): ('law.rt', 'entry_is_told'),
+    ('saved_session', 'saved'): ('law.rt', 'text_is_told'),
+    ('saved_session', 'saved_entry'): ('law.rt', 'entry_text_is_told'),
+    ('saved_session', 'saved_lines'): ('law.rt', 'lines_are_told'),
+    ('saved_session', 'saved_table'): ('law.rt', 'saved_table_is_told'),
+    ('tool_api', 'is_candidate'): ('law.rt', 'is_candidate_is_told'),
+    ('tool_api', 'is_clash'): ('law.rt', 'is_clash_is_told'),
+    ('upload_order', 'downs'): ('laws.rt', 'downs_are_told'),
+    ('upload_order', 'made'): ('laws.rt', 'made_are_told'),
+    ('upload_order', 'ups'): ('laws.rt', 'ups_are_told'),
+}
 # how it reads: variables, the definition of some of them, an answer that is another, and what is said of them
 LAW = re.compile(r'\{ ((?:\(\w+ : [^()]*(?:\([^()]*\)[^()]*)*\) )+)→ \((\w+) ((?:\w+ )*)≡ (\w+)\) ↔ (.+) \}')
 

@@ -113,8 +113,13 @@ class Files(unittest.TestCase):
         tree.check_laws()
         tree.follow(tree.specs['saved_session.specs.Resumed'], 'saved_table')
         reached = {it.name for it in tree.reached.values()}
-        self.assertLessEqual({'saved_table_is_told', 'IsTold', 'saved_lines'}, reached)
-        self.assertFalse({'saved_table', 'session_from', 'least_unsound'} & reached)
+        self.assertLessEqual({'saved_table_is_told', 'IsTold', 'lines_are_told'}, reached)
+        self.assertFalse({'saved_table', 'saved_lines', 'session_from', 'least_unsound'} & reached)
+        tree.forget()
+        tree.follow(tree.specs['edit_script.specs.Script'], 'act_of')
+        reached = {it.name for it in tree.reached.values()}
+        self.assertLessEqual({'act_is_told', 'all_lines', 'read_as_spelled'}, reached)
+        self.assertFalse({'act_of', 'read_form', 'form_of', 'query_of_words', 'same_text'} & reached)
 
 
 if __name__ == '__main__':

@@ -1,5 +1,6 @@
 pub mod ByLine
 mod Examples
+mod Grammar
 pub mod Lines
 pub mod SoFar
 pub mod ReadBack

@@ -1,4 +1,5 @@
--- The lines of a script: the first word of a line gives its form, and the form says how the words behind it are read.
+-- The lines of a script as they are read: the first word of a line gives its form, and the form says how the words behind it are
+-- read. It is for the proof of the code; what the words ask for is told by `Grammar`.
 --
 -- For example `combine w1,w2` combines these ways, and `combine w1` is outside the grammar. A form may have parts that can be
 -- left out: `resolve n1 mine` and `resolve n1 mix theirs mine` are both lines, and so are `download town.opl` and

@@ -1,7 +1,9 @@
 pub mod Answers
 pub mod Forms
+pub mod Grammar
 pub mod Items
 pub mod Order
 pub mod Place
+pub mod Refused
 pub mod Reply
 pub mod Script

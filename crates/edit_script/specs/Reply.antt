@@ -1,5 +1,7 @@
 -- The reply line of a step.
 --
+-- The texts of refusals stand in `Refused` once more, each with its number and what it carries side by side.
+--
 -- For example `7 ok w-1,w-2`, `8 refused 5 n1 w5`, `9 refused 23 2 n4` and `10 skipped`, each with its LF.
 use Rattle.std.specs.Prelude.{ℕ, List, [], ◌∷◌, ◌++◌, codes, decimal}
 use Rattle.osm_base.specs.Number.{key_written}

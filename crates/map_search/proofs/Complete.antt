@@ -1,5 +1,5 @@
 -- What spells a query is read.
-use Rattle.std.proofs.Common.{◌≡◌, ℕ, suc, ◌+◌, ◌≤◌, true, false, nat_lt, nat_le, List, [], ◌∷◌, ◌++◌, length, Option, Some, None, refl, sym, ap, ◌∙◌, arith}
+use Rattle.std.proofs.Common.{◌≡◌, ℕ, suc, ◌+◌, ◌≤◌, true, false, nat_lt, nat_le, codes, List, [], ◌∷◌, ◌++◌, length, Option, Some, None, refl, sym, ap, ◌∙◌, arith}
 use Rattle.std.proofs.lemmas.Bool.Decides.{nat_tests}
 use Rattle.std.proofs.lemmas.List.{append-nil, append_assoc}
 use Rattle.map_search.specs.declared.pending.Opening.{Opening}
@@ -14,6 +14,7 @@ use Rattle.map_search.specs.Innermost.{innermost_takes}
 use Rattle.map_search.specs.Query.{QueryValue, And}
 use Rattle.map_search.specs.Reading.{State, having, nesting, taken, joined, read_on, ended, query_of_words}
 use Rattle.map_search.specs.Words.{word_of}
+use Rattle.map_search.proofs.Saying.{and_says, asking_says, child_says, closing_says, not_says, opening_says, or_says, parent_says}
 use Rattle.map_search.proofs.Waiting.{taken_end}
 
 -- reading goes on behind a state
@@ -58,25 +59,25 @@ less : (k n : ℕ) → k + suc n ≤ 64 → suc k + n ≤ 64
 less k n h = omega (arith, h)
 
 is_read : (p : Part) (n : ℕ) (words : List (List ℕ)) (q : QueryValue) → Spells p n words q → IsRead p n words q
-is_read _ _ _ _ (one_word n w a e) = λ rest waiting h. ask_step w rest a waiting e
-is_read _ _ _ _ (by_not n ws w a e s) = λ rest waiting h.
-    open_step w opening.Not (ws ++ rest) waiting n e h ∙ is_read Factor n ws a s rest (pending.Opened opening.Not ∷ waiting) (less (nesting waiting) n h)
-is_read _ _ _ _ (by_child n ws w a e s) = λ rest waiting h.
-    open_step w opening.Child (ws ++ rest) waiting n e h ∙ is_read Factor n ws a s rest (pending.Opened opening.Child ∷ waiting) (less (nesting waiting) n h)
-is_read _ _ _ _ (by_parent n ws w a e s) = λ rest waiting h.
-    open_step w opening.Parent (ws ++ rest) waiting n e h ∙ is_read Factor n ws a s rest (pending.Opened opening.Parent ∷ waiting) (less (nesting waiting) n h)
-is_read _ _ _ _ (in_brackets n ws w v a e s f) = λ rest waiting h.
-    let inner : AtWhole ws (v ∷ rest) (pending.Opened opening.Bracket ∷ waiting) a = is_read Whole n ws a s (v ∷ rest) (pending.Opened opening.Bracket ∷ waiting) (less (nesting waiting) n h) refl refl in
-    open_step w opening.Bracket ((ws ++ v ∷ []) ++ rest) waiting n e h
-    ∙ ap (λ (xs : List (List ℕ)). read_on xs None (pending.Opened opening.Bracket ∷ waiting)) (append_assoc ws (v ∷ []) rest)
+is_read _ _ _ _ (one_word n w a e) = λ rest waiting h. ask_step w rest a waiting (asking_says w a e)
+is_read _ _ _ _ (by_not n ws a s) = λ rest waiting h.
+    open_step (codes "not") opening.Not (ws ++ rest) waiting n not_says h ∙ is_read Factor n ws a s rest (pending.Opened opening.Not ∷ waiting) (less (nesting waiting) n h)
+is_read _ _ _ _ (by_child n ws a s) = λ rest waiting h.
+    open_step (codes "child") opening.Child (ws ++ rest) waiting n child_says h ∙ is_read Factor n ws a s rest (pending.Opened opening.Child ∷ waiting) (less (nesting waiting) n h)
+is_read _ _ _ _ (by_parent n ws a s) = λ rest waiting h.
+    open_step (codes "parent") opening.Parent (ws ++ rest) waiting n parent_says h ∙ is_read Factor n ws a s rest (pending.Opened opening.Parent ∷ waiting) (less (nesting waiting) n h)
+is_read _ _ _ _ (in_brackets n ws a s) = λ rest waiting h.
+    let inner : AtWhole ws (codes ")" ∷ rest) (pending.Opened opening.Bracket ∷ waiting) a = is_read Whole n ws a s (codes ")" ∷ rest) (pending.Opened opening.Bracket ∷ waiting) (less (nesting waiting) n h) refl refl in
+    open_step (codes "(") opening.Bracket ((ws ++ codes ")" ∷ []) ++ rest) waiting n opening_says h
+    ∙ ap (λ (xs : List (List ℕ)). read_on xs None (pending.Opened opening.Bracket ∷ waiting)) (append_assoc ws (codes ")" ∷ []) rest)
     ∙ inner.reads
-    ∙ close_step v rest inner.term a inner.left waiting f inner.joins
+    ∙ close_step (codes ")") rest inner.term a inner.left waiting closing_says inner.joins
 is_read _ _ _ _ (one_factor n us a s) = λ rest waiting h t.
     is_read Factor n us a s rest waiting h ∙ ap (resumed rest) (taken_end a waiting t)
-is_read _ _ _ _ (by_and n us ws w a b s e r) = λ rest waiting h t.
-    ap (λ (xs : List (List ℕ)). read_on xs None waiting) (append_assoc us (w ∷ ws) rest)
-    ∙ is_read Term n us a s (w ∷ (ws ++ rest)) waiting h t
-    ∙ and_step w (ws ++ rest) a waiting e
+is_read _ _ _ _ (by_and n us ws a b s r) = λ rest waiting h t.
+    ap (λ (xs : List (List ℕ)). read_on xs None waiting) (append_assoc us (codes "and" ∷ ws) rest)
+    ∙ is_read Term n us a s (codes "and" ∷ (ws ++ rest)) waiting h t
+    ∙ and_step (codes "and") (ws ++ rest) a waiting and_says
     ∙ is_read Factor n ws b r rest (pending.And a ∷ waiting) h
     ∙ ap (resumed rest) (taken_end (And a b) waiting t)
 is_read _ _ _ _ (one_term n us a s) = λ rest waiting h t u. record {
@@ -85,15 +86,15 @@ is_read _ _ _ _ (one_term n us a s) = λ rest waiting h t u. record {
   joins = joined_end a waiting u;
   reads = is_read Term n us a s rest waiting h t;
 }
-is_read _ _ _ _ (by_or n us ws w a b s e r) = λ rest waiting h t u.
-    let first : AtWhole us (w ∷ (ws ++ rest)) waiting a = is_read Whole n us a s (w ∷ (ws ++ rest)) waiting h t u in
+is_read _ _ _ _ (by_or n us ws a b s r) = λ rest waiting h t u.
+    let first : AtWhole us (codes "or" ∷ (ws ++ rest)) waiting a = is_read Whole n us a s (codes "or" ∷ (ws ++ rest)) waiting h t u in
     record {
       term = b;
       left = pending.Or a ∷ waiting;
       joins = refl;
-      reads = ap (λ (xs : List (List ℕ)). read_on xs None waiting) (append_assoc us (w ∷ ws) rest)
+      reads = ap (λ (xs : List (List ℕ)). read_on xs None waiting) (append_assoc us (codes "or" ∷ ws) rest)
           ∙ first.reads
-          ∙ or_step w (ws ++ rest) first.term a first.left waiting e first.joins
+          ∙ or_step (codes "or") (ws ++ rest) first.term a first.left waiting or_says first.joins
           ∙ is_read Term n ws b r rest (pending.Or a ∷ waiting) h refl;
     }
 

@@ -11,11 +11,12 @@ use Rattle.map_search.specs.declared.pending.Pending.{Pending}
 use Rattle.map_search.specs.declared.pending.Pending.TheVariants as pending
 use Rattle.map_search.specs.declared.pending.Word.{Word}
 use Rattle.map_search.specs.declared.pending.Word.TheVariants as word
-use Rattle.map_search.specs.Grammar.{Spells, one_term, by_or, one_factor, by_and, by_not, by_child, by_parent, in_brackets, one_word, SpellsQuery}
+use Rattle.map_search.specs.Grammar.{Spells, one_term, one_factor, SpellsQuery}
 use Rattle.map_search.specs.Innermost.{innermost_takes}
 use Rattle.map_search.specs.Query.{QueryValue, Child, Parent, Not, And}
 use Rattle.map_search.specs.Reading.{State, wanting, nesting, taken, joined, closed, with_word, read_on, whole, query_of_words}
 use Rattle.map_search.specs.Words.{word_of}
+use Rattle.map_search.proofs.Saying.{by_or, by_and, by_not, by_child, by_parent, in_brackets, one_word}
 use Rattle.map_search.proofs.Waiting.{taken_end}
 
 abbrev Texts : Type 0

@@ -1,4 +1,4 @@
--- The query that words are.
+-- The query that words are, as it is read: for the proof of the code. What words mean is told by `Grammar`.
 --
 -- The words are read from the left. What waits for a factor is kept, the innermost first: openings (`not`, `child`,
 -- `parent`, a bracket), and what stands left of an `and` or an `or`.

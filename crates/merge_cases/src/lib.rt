@@ -29,7 +29,10 @@ pub use cases::{decide, is_withdrawal};
 pub use choice::{Choice, Side};
 pub use join_tests::joins;
 pub use joining::{TagRule, joined, picked, picked_by, with_body};
-pub use law::{each_tag_is_picked, parts_settle_clashes_alone};
+pub use law::{
+    each_tag_is_picked, parts_settle_clashes_alone, same_kind_is_told, same_pick_is_told,
+    same_value_is_told,
+};
 pub use pick::{Pick, body_pick, tag_pick};
 pub use tag_key::TagKey;
 pub use tag_keys::TagKeys;

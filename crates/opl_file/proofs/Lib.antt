@@ -1,5 +1,6 @@
 pub mod Batches
 pub mod Cutting
+mod LinesTold
 mod Examples
 pub mod Keys
 pub mod Rising

@@ -1,4 +1,4 @@
--- A file cut into lines.
+-- A file cut into lines. Which lines these are is told by `Lines`.
 use Rattle.std.specs.Prelude.{ℕ, Bool, ◌==◌, if◌then◌else◌, List, [], ◌∷◌, ◌++◌}
 use Rattle.std.specs.List.{list_any}
 

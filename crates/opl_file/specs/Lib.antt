@@ -1,4 +1,5 @@
 pub mod Cut
+pub mod Lines
 pub mod Objects
 pub mod Known
 pub mod Reading

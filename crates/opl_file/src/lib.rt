@@ -22,7 +22,7 @@ mod objects;
 mod reader;
 
 pub use fault::{FileAnswer, FileFault};
-pub use law::same_for_any_pieces;
+pub use law::{lines_are_told, same_for_any_pieces};
 pub use line::first_line;
 pub use objects::Objects;
 pub use reader::Reader;

@@ -11,5 +11,6 @@ pub mod Again
 pub mod Readable
 pub mod Forward
 pub mod Back
+mod Told
 mod Examples
 mod LineExamples

@@ -57,7 +57,8 @@ has_field letters.Members Relation = true
 has_field letters.Members kind = false
 has_field letter kind = true
 
--- Each field: that it came before is the first fault, that its value isn't one the second.
+-- Each field, as it is read: that it came before is the first fault, that its value isn't one the second. `Told` has them in one
+-- table, by the byte that begins each.
 unfoldable pub version_into : Fields → List ℕ → Result Fields LineFault
 version_into f text = if is_some f.version then Err faults.FieldTwice else (do
   n ← or_fault faults.BadNumber (number_to 2000000000 text)

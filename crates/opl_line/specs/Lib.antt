@@ -5,5 +5,6 @@ pub mod Field
 pub mod Line
 pub mod Reads
 pub mod Spelling
+pub mod Told
 pub mod Writable
 pub mod Written

@@ -6,7 +6,9 @@
 //! the written form of an object spells it again. docs/OPL.md says the same for mappers.
 //!
 //! Each field has one definition and one function of the same name (`version_into`). A new field
-//! wants a letter in `letter.rt`, a place in `Fields`, its function, and its value in `Spelling`.
+//! wants a letter in `letter.rt`, a place in `Fields`, its function, its line in `by_byte` of
+//! `specs/Told` (the law `field_is_told` makes that table all that has to be known of fields), and its
+//! value in `Spelling`.
 //! A line is read from the left, and no list of pieces is made. A function named for a `front` gives
 //! a value and the bytes behind the separator that ends it, so value and end are found in one pass:
 //! numbers in `front.rt`, coordinates in `degrees.rt`, times in `moments.rt`, references in
@@ -30,7 +32,7 @@ mod pieces;
 mod writing;
 
 pub use fault::{LineAnswer, LineFault};
-pub use law::read_as_spelled;
+pub use law::{field_is_told, read_as_spelled};
 pub use line::{freed, read_line};
 pub use lists::{read_members, read_refs, read_tags};
 pub use mode::Mode;

@@ -4,5 +4,6 @@ mod Bytes
 pub mod Read
 pub mod WrittenLaw
 pub mod TimeLaw
+mod TimeBack
 mod NoBytes
 mod Examples

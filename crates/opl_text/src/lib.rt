@@ -22,5 +22,5 @@ mod time;
 mod written;
 
 pub use pool::Pool;
-pub use text::{read_as_spelled, read_escaped, write_escaped};
-pub use time::{TimeFault, read_time, write_time};
+pub use text::{read_as_spelled, read_escaped, read_has_no_zero, write_escaped};
+pub use time::{TimeFault, read_time, time_is_told, write_time};

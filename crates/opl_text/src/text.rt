@@ -1,10 +1,11 @@
 //! Texts as fields have them.
 
-ghost use Rattle.std.specs.Prelude.{◌≡◌, ◌++◌, ℕ, List, OnOk, OnErr, Some, true};
+ghost use Rattle.std.specs.Prelude.{◌≡◌, ◌++◌, ◌↔◌, ℕ, List, OnOk, OnErr, Option, Some, true};
 ghost use Rattle.std.specs.List.{list_all};
 ghost use Rattle.opl_text.specs.Escape.{is_raw};
 ghost use Rattle.opl_text.specs.Written.{stays};
 ghost use Rattle.osm_base.specs.Extends.{Extends};
+ghost use Rattle.osm_base.specs.Told.{Finds};
 ghost use Rattle.opl_text.specs.Ends.{ends_nothing};
 ghost use Rattle.opl_text.specs.Text.{unescaped, escaped, GivesText, SpellsText, HasNoZero};
 
@@ -90,12 +91,16 @@ fn all_stay(text: &[u8]) -> bool
     text.iter().all(|byte| stays(*byte))
 }
 
-/// The reading of texts is their grammar: what is read is spelled so, and what is spelled is read.
+/// The reading of texts is their grammar: what is read is what the field spells, and nothing is read where it spells none.
 ///
 /// It does nothing; its contract is the law.
 pub fn read_as_spelled()
-    ensures read { (field text : List ℕ) → unescaped field ≡ Some text → SpellsText field text }
-    ensures spelled { (field text : List ℕ) → SpellsText field text → unescaped field ≡ Some text }
-    // No escape and no raw character is U+0000, so no text has it.
-    ensures no_zero { (field text : List ℕ) → unescaped field ≡ Some text → HasNoZero text }
+    ensures { (field : List ℕ) (answer : Option (List ℕ)) → (unescaped field ≡ answer) ↔ Finds (SpellsText field) answer }
+{}
+
+/// No escape and no raw character is U+0000, so no text that is read has it.
+///
+/// It does nothing; its contract is the law.
+pub fn read_has_no_zero()
+    ensures { (field text : List ℕ) → unescaped field ≡ Some text → HasNoZero text }
 {}

@@ -1,7 +1,9 @@
 //! Times as fields have them.
 
-ghost use Rattle.std.specs.Prelude.{◌≡◌, ◌++◌, ◌≤◌, OnOk, OnErr, Some, true, IfOk, IfSome, length};
+ghost use Rattle.std.specs.Prelude.{◌≡◌, ◌++◌, ◌≤◌, ◌↔◌, ℕ, List, Option, OnOk, OnErr, Some, true, IfOk, IfSome, length};
 ghost use Rattle.std.specs.List.{list_all};
+ghost use Rattle.osm_base.specs.Told.{Finds};
+ghost use Rattle.osm_base.specs.declared.meta.Stamp.{Stamp};
 ghost use Rattle.opl_text.specs.Ends.{ends_nothing};
 ghost use Rattle.opl_text.specs.Time.{time_text, stamp_text, parts_of, has_marks, is_time, is_date, time_written, last_digit, IsShort, GivesTime, IsTime};
 
@@ -167,3 +169,11 @@ fn last_digit(number: u16) -> u8
 {
     b'0' + (number % 10) as u8
 }
+
+/// The reading of times is their written form: a text is read as the time of which it is the written form, and as none where it is
+/// that of none.
+///
+/// It does nothing; its contract is the law.
+pub fn time_is_told()
+    ensures { (text : List ℕ) (answer : Option (Option Stamp)) → (time_text text ≡ answer) ↔ Finds (λ time. IsTime time × (text ≡ time_written time)) answer }
+{}

@@ -17,3 +17,4 @@ mod Examples
 mod TagPlaces
 mod ValueExamples
 pub mod SameLaws
+pub mod Told

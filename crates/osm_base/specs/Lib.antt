@@ -3,6 +3,7 @@ pub mod RankLaws
 pub mod Content
 pub mod Tags
 pub mod Same
+pub mod Told
 pub mod Meta
 pub mod Moment
 pub mod Coord

@@ -16,6 +16,7 @@ mod coord_text;
 mod key;
 mod key_text;
 mod keys;
+mod law;
 mod members;
 mod meta;
 mod moment;
@@ -35,6 +36,10 @@ pub use coord_text::{read_coord, write_coord};
 pub use key::{Key, Kind, rank, same_key};
 pub use key_text::{kind_of, read_id, read_key, write_key};
 pub use keys::Keys;
+pub use law::{
+    same_content_is_told, same_coord_is_told, same_members_is_told, same_meta_is_told,
+    same_refs_is_told, same_text_is_told,
+};
 pub use members::{Member, Members};
 pub use meta::{Meta, Stamp};
 pub use moment::Moment;

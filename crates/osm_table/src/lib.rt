@@ -15,6 +15,7 @@
 mod entry;
 mod key_map;
 mod keyed_entries;
+mod law;
 mod ordered;
 mod own_table;
 mod rising;
@@ -26,6 +27,7 @@ mod told_map;
 
 pub use entry::{Base, Conflict, Entry, Why};
 pub use keyed_entries::KeyedEntries;
+pub use law::{same_entry_is_told, same_mine_is_told, same_why_is_told};
 pub use ordered::Ordered;
 pub use own_table::OwnTable;
 pub use shared::Shared;

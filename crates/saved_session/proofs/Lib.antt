@@ -22,4 +22,6 @@ pub mod Stopping
 pub mod Standing
 pub mod LeastUnsound
 pub mod ToldExactly
+mod EntryTold
+mod SavedTold
 mod Examples

@@ -1,6 +1,7 @@
 pub mod Answers
 pub mod Words
 pub mod Saved
+pub mod EntryTold
 pub mod Pieces
 pub mod Reading
 pub mod SoundTest

@@ -25,8 +25,8 @@ use Rattle.osm_table.specs.declared.entry.Entry.TheVariants as entries
 use Rattle.opl_line.specs.Written.{written}
 use Rattle.saved_session.specs.declared.words.MineWord.{MineWord}
 use Rattle.saved_session.specs.declared.words.MineWord.TheVariants.{Same, Absent, Own}
-use Rattle.saved_session.specs.declared.words.Head.TheVariants.{Incomplete, Known, End}
-use Rattle.saved_session.specs.Words.{words_of, mine_word, head_written, header_written}
+use Rattle.saved_session.specs.declared.words.Head.TheVariants.{Incomplete, Known}
+use Rattle.saved_session.specs.Words.{words_of, mine_word, end_written, head_written, header_written}
 
 -- the metadata of a base, the empty ones where no server has the object
 abbrev pub meta_of : Base → Meta
@@ -71,7 +71,7 @@ entry_lines key (entries.Known base mine conflict) = head_written (Known key (wo
 
 -- the lines of entries, and the last line
 abbrev pub entries_lines : List (Key × Entry) → List (List ℕ)
-entries_lines [] = head_written End ∷ []
+entries_lines [] = end_written ∷ []
 entries_lines (e ∷ es) = entry_lines e.0 e.1 ++ entries_lines es
 
 -- The lines of a table: a header, the lines of each entry by rank, and the end.
@@ -98,7 +98,7 @@ unfoldable pub saved_entry : TableValue → Key → List ℕ
 saved_entry t key = shown key (entry_of t key)
 
 unfoldable pub saved_end : List ℕ
-saved_end = head_written End ++ 10 ∷ []
+saved_end = end_written ++ 10 ∷ []
 
 -- The text of a table: the first line with the number of the next new object, the entries by rank, and the last line.
 unfoldable pub saved : TableValue → List ℕ

@@ -1,17 +1,20 @@
 //! What is saved is read again, and what is read was saved.
-ghost use Rattle.std.specs.Prelude.{◌≡◌, ◌≤◌, ◌++◌, ℕ, List, Result, Ok, true, IsTrue, ◌↔◌};
-ghost use Rattle.std.specs.List.{list_all};
+ghost use Rattle.std.specs.Prelude.{◌≡◌, ◌≤◌, ◌++◌, ◌∷◌, [], ℕ, List, Result, Ok, true, IsTrue, ◌↔◌};
+ghost use Rattle.std.specs.List.{flat_map, list_all};
+ghost use Rattle.std.specs.Option.{option_map_or};
 ghost use Rattle.std.specs.FinMap as fin;
 ghost use Rattle.osm_base.specs.declared.key.Key.{Key};
-ghost use Rattle.osm_table.specs.Table.{TableValue};
+ghost use Rattle.osm_table.specs.Table.{TableValue, entry_of};
 ghost use Rattle.osm_table.specs.declared.entry.Entry.{Entry};
 ghost use Rattle.dataset.specs.Sound.{IsSound, IsSoundEntry, LivesIn};
 ghost use Rattle.opl_file.specs.Cut.{lines_of};
+ghost use Rattle.saved_session.specs.EntryTold.{told_lines};
 ghost use Rattle.saved_session.specs.Resumed.{saved_table};
 ghost use Rattle.saved_session.specs.Savable.{AreReadable, is_before};
-ghost use Rattle.saved_session.specs.Saved.{ended, saved};
+ghost use Rattle.saved_session.specs.Saved.{ended, entry_lines, saved, saved_entry, saved_lines};
 ghost use Rattle.saved_session.specs.SoundTest.{is_sound_at};
 ghost use Rattle.saved_session.specs.Told.{IsTold, StandsIn};
+ghost use Rattle.saved_session.specs.Words.{end_written, header_written};
 ghost use Rattle.saved_session.specs.declared.fault.SavedFault.{SavedFault};
 
 /// The text of a sound table gives the table again, where a reader of lines can give its objects and its entries are within
@@ -40,4 +43,24 @@ pub fn test_is_exact()
 /// of a saved session means.
 pub fn saved_table_is_told()
     ensures { (limit : ℕ) (bytes : List ℕ) (answer : Result TableValue SavedFault) → (saved_table limit bytes ≡ answer) ↔ IsTold limit (lines_of bytes) answer }
+{}
+
+/// An entry is saved in the lines that `specs/EntryTold` tells of it.
+pub fn entry_is_told()
+    ensures { (key : Key) (entry : Entry) (answer : List (List ℕ)) → (entry_lines key entry ≡ answer) ↔ (told_lines key entry ≡ answer) }
+{}
+
+/// A table is saved in a header, the lines of each entry by rank, and the last line.
+pub fn lines_are_told()
+    ensures { (t : TableValue) (answer : List (List ℕ)) → (saved_lines t ≡ answer) ↔ (header_written t.next ∷ (flat_map (λ e. entry_lines e.0 e.1) (fin.entries t.entries) ++ end_written ∷ []) ≡ answer) }
+{}
+
+/// The text of a table is its lines, each ended by LF.
+pub fn text_is_told()
+    ensures { (t : TableValue) (answer : List ℕ) → (saved t ≡ answer) ↔ (ended (saved_lines t) ≡ answer) }
+{}
+
+/// The text of the entry of a key is its lines, each ended by LF, and none where the table has no entry of it.
+pub fn entry_text_is_told()
+    ensures { (t : TableValue) (key : Key) (answer : List ℕ) → (saved_entry t key ≡ answer) ↔ (option_map_or (λ e. ended (entry_lines key e)) (entry_of t key) [] ≡ answer) }
 {}

@@ -23,6 +23,9 @@ mod words;
 mod writing;
 
 pub use fault::SavedFault;
-pub use law::{read_is_saved, saved_is_read, saved_table_is_told, test_is_exact};
+pub use law::{
+    entry_is_told, entry_text_is_told, lines_are_told, read_is_saved, saved_is_read,
+    saved_table_is_told, test_is_exact, text_is_told,
+};
 pub use reading::read_saved;
 pub use writing::{write_saved, write_saved_end, write_saved_entry, write_saved_head};

@@ -20,3 +20,4 @@ pub mod Rooms
 pub mod Seen
 pub mod Sounds
 pub mod SameVerb
+mod Cases

@@ -38,6 +38,7 @@ pub mod ClearLaw
 pub mod Accepted
 pub mod Fronts
 pub mod FreshIds
+mod Steps
 mod Examples
 mod PlanExamples
 mod WorldExamples

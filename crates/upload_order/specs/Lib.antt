@@ -5,6 +5,7 @@ pub mod Fall
 pub mod First
 pub mod Part
 pub mod Plan
+pub mod Steps
 pub mod Refused
 pub mod Marked
 pub mod Rename

@@ -29,7 +29,10 @@ mod sending;
 mod waiting;
 
 pub use change::{Change, Changes};
-pub use laws::{fresh_ids_exist, servers_stay_sound, stuck_is_greatest, taken_one_by_one};
+pub use laws::{
+    downs_are_told, fresh_ids_exist, made_are_told, servers_stay_sound, stuck_is_greatest,
+    taken_one_by_one, ups_are_told,
+};
 pub use marking::changed_keys;
 pub use planning::plan;
 pub use refusal::PlanRefusal;
