@@ -13,12 +13,13 @@ use Rattle.opl_line.specs.Line.{is_blank, freed}
 use Rattle.opl_line.specs.Written.{spaced}
 use Rattle.opl_line.proofs.Unbroken.{Unbroken, AllUnbroken, SparesAbove, unbroken_append, unbroken_spaced, cut_spaced, freed_same, decimal_unbroken, key_unbroken, unbroken_at}
 use Rattle.opl_file.specs.Cut.{has_lf}
+use Rattle.edit_script.specs.Grammar.{by_first}
 use Rattle.edit_script.specs.Items.{has_byte, words_of}
 use Rattle.edit_script.specs.Script.{is_skipped, has_outer_blank}
 use Rattle.upload_order.specs.Rename.{with_id}
 use Rattle.placeholder.specs.declared.answer.Answer.{Answer}
 use Rattle.placeholder.specs.declared.answer.Answer.TheVariants.{Create, Modify, Delete}
-use Rattle.answer_file.specs.Lines.{answer_of, answer_of_words, begins_with_0, has_kind_of, id_word, version_word}
+use Rattle.answer_file.specs.Lines.{all_answers, answer_of, begins_with_0, has_kind_of, id_word, version_word}
 use Rattle.answer_file.specs.Text.{line_of}
 
 -- its keys have ids, and its version is one of an object
@@ -163,8 +164,8 @@ version_again n least most =
     let fits : nat_lt 2000000000 n ≡ false = grind (arith, nat_tests) in
     rw (digits, first, fits) refl
 
-words_answer : (a : Answer) → IsTold a → answer_of_words (verb_of a ∷ others_of a) ≡ Some a
-unfolding answer_of_words id_word
+words_answer : (a : Answer) → IsTold a → by_first all_answers (verb_of a ∷ others_of a) ≡ Some a
+unfolding id_word
 words_answer (Create placeholder id) h =
     let kind : has_kind_of placeholder (with_id placeholder id) ≡ true = key_itself (with_id placeholder id) in
     rw (key_again placeholder h.0, key_again (with_id placeholder id) h.1, kind) refl
@@ -173,4 +174,4 @@ words_answer (Delete key version) h = rw (key_again key h.0, version_again versi
 
 -- The line of an answer gives that answer.
 pub line_again : (a : Answer) → IsTold a → answer_of (line_of a) ≡ Some a
-line_again a h = rw (no_outer_blank a) (ap answer_of_words (words_again a) ∙ words_answer a h)
+line_again a h = rw (no_outer_blank a) (ap (by_first all_answers) (words_again a) ∙ words_answer a h)

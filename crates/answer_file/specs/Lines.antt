@@ -32,9 +32,7 @@ has_kind_of placeholder key = is_key key (with_id placeholder key.id)
 
 -- the id of an object of the placeholder's kind
 unfoldable pub id_word : Key → List ℕ → Option ℤ
-id_word placeholder text = do
-  key ← key_text text
-  if has_kind_of placeholder key then Some key.id else None
+id_word placeholder text = key_text text >>= λ key. if has_kind_of placeholder key then Some key.id else None
 
 -- `v1`
 abbrev pub first_version : List ℕ → Option ℕ
@@ -48,9 +46,6 @@ all_answers =
     ∷ (codes "delete", word key_text (λ key. word version_word (λ version. alone (answer.Delete key version))))
     ∷ []
 
-unfoldable pub answer_of_words : List (List ℕ) → Option Answer
-answer_of_words words = by_first all_answers words
-
 -- The answer that a line without its CR gives; none where it is no answer.
 abbrev pub answer_of : List ℕ → Option Answer
-answer_of line = if has_outer_blank line then None else answer_of_words (words_of line)
+answer_of line = if has_outer_blank line then None else by_first all_answers (words_of line)

@@ -1,8 +1,9 @@
 //! The answer that a line gives.
 ghost use Rattle.std.specs.Prelude.{◌≡◌, ◌<◌, ◌∷◌, codes, length};
 ghost use Rattle.edit_script.specs.Answers.{Gives};
+ghost use Rattle.edit_script.specs.Grammar.{by_first};
 ghost use Rattle.edit_script.specs.Items.{words_of};
-ghost use Rattle.answer_file.specs.Lines.{answer_of, answer_of_words, begins_with_0, has_kind_of, id_word, version_word};
+ghost use Rattle.answer_file.specs.Lines.{all_answers, answer_of, begins_with_0, has_kind_of, id_word, version_word};
 
 use edit_script::{Unread, alone, first_word, has_outer_blank, key_word};
 use osm_base::{Key, read_digits, same_key};
@@ -22,9 +23,8 @@ pub fn answer_of(line: &[u8]) -> Result<Answer, Unread>
     answer_of_words(line)
 }
 
-#[tactic(auto, unfolding(crate::specs::Lines::answer_of_words))]
 fn answer_of_words(line: &[u8]) -> Result<Answer, Unread>
-    ensures { Gives result (answer_of_words (words_of line.now)) }
+    ensures { Gives result (by_first all_answers (words_of line.now)) }
 {
     let (verb, words) = first_word(line)?;
     if verb == b"create".as_slice() {
@@ -39,9 +39,8 @@ fn answer_of_words(line: &[u8]) -> Result<Answer, Unread>
 }
 
 /// `OLD NEW v1`.
-#[tactic(auto, unfolding(crate::specs::Lines::answer_of_words))]
 fn created(words: &[u8]) -> Result<Answer, Unread>
-    ensures { Gives result (answer_of_words (codes "create" ∷ words_of words.now)) }
+    ensures { Gives result (by_first all_answers (codes "create" ∷ words_of words.now)) }
 {
     let (word, rest) = first_word(words)?;
     let placeholder = key_word(word)?;
@@ -78,9 +77,8 @@ fn has_kind_of(placeholder: Key, key: Key) -> bool
 }
 
 /// `KEY vN`.
-#[tactic(auto, unfolding(crate::specs::Lines::answer_of_words))]
 fn modified(words: &[u8]) -> Result<Answer, Unread>
-    ensures { Gives result (answer_of_words (codes "modify" ∷ words_of words.now)) }
+    ensures { Gives result (by_first all_answers (codes "modify" ∷ words_of words.now)) }
 {
     let (word, rest) = first_word(words)?;
     let key = key_word(word)?;
@@ -90,9 +88,8 @@ fn modified(words: &[u8]) -> Result<Answer, Unread>
 }
 
 /// `KEY vN`.
-#[tactic(auto, unfolding(crate::specs::Lines::answer_of_words))]
 fn deleted(words: &[u8]) -> Result<Answer, Unread>
-    ensures { Gives result (answer_of_words (codes "delete" ∷ words_of words.now)) }
+    ensures { Gives result (by_first all_answers (codes "delete" ∷ words_of words.now)) }
 {
     let (word, rest) = first_word(words)?;
     let key = key_word(word)?;

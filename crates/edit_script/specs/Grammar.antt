@@ -41,10 +41,7 @@ at_place rest words = None
 
 -- `B..` and `F..`, of which each can be left out: the box and the tags of what is taken
 abbrev pub taking : (Option Area → Option (List Pair) → Act) → List (List ℕ) → Option Act
-taking act words = do
-  (area, words) ← optional 66 area_text words
-  (wanted, words) ← optional 70 wanted_text words
-  alone (act area wanted) words
+taking act words = optional 66 area_text words >>= λ area. optional 70 wanted_text area.1 >>= λ wanted. alone (act area.0 wanted.0) wanted.1
 
 -- at least two keys
 unfoldable pub two_keys : List ℕ → Option (List Key)

@@ -57,8 +57,7 @@ behind letter (byte ∷ text) = if byte == letter then Some text else None
 -- spells nothing.
 abbrev pub optional : {A : Type 0} → (letter : ℕ) → (List ℕ → Option A) → List (List ℕ) → Option (Option A × List (List ℕ))
 optional letter read [] = Some (None, [])
-optional letter read (word ∷ words) =
-    option_map_or (λ text. read text >>= λ x. Some (Some x, words)) (behind letter word) (Some (None, word ∷ words))
+optional letter read (word ∷ words) = option_map_or (λ text. read text >>= λ x. Some (Some x, words)) (behind letter word) (Some (None, word ∷ words))
 
 -- `T` and tags
 unfoldable pub tags_word : List ℕ → Option (List Pair)
