@@ -1,12 +1,8 @@
--- The verbs of all commands, and of the boxes that a session is given.
+-- The verbs of the boxes that a session is given.
 use Rattle.std.specs.Prelude.{◌≡◌, List, [], ◌∷◌, flat_map}
 use Rattle.dataset.specs.Patch.{PatchValue}
 use Rattle.tool_api.specs.declared.verb.Verb.{Verb}
-use Rattle.tool_api.specs.declared.verb.Verb.TheVariants.{Add, Tag, Move, Change, Delete, Erase, Purge, Split, Combine, Reverse, Merge, Import, Resolve, Squeeze, Fuse}
-
--- in the order of `Verb`
-abbrev pub all_verbs : List Verb
-all_verbs = Add ∷ Tag ∷ Move ∷ Change ∷ Delete ∷ Erase ∷ Purge ∷ Split ∷ Combine ∷ Reverse ∷ Merge ∷ Import ∷ Resolve ∷ Squeeze ∷ Fuse ∷ []
+use Rattle.tool_api.specs.Plain.{all_verbs}
 
 -- a verb for each of the four editors that a meeting may have
 abbrev pub four_of : Verb → List Verb

@@ -4,7 +4,7 @@ use Rattle.std.specs.Prelude.{nat_le}
 use Rattle.std.proofs.lemmas.Bool.Decides.{nat_tests}
 use Rattle.std.proofs.lemmas.List.{take_more, take_all, get_or-map, length-map, length_push, map-append}
 use Rattle.tool_api.specs.declared.verb.Verb.{Verb}
-use Rattle.tool_api.specs.Verbs.{same_verb}
+use Rattle.tool_api.specs.Plain.{same_verb}
 use Rattle.tool_api.proofs.SameVerb.{same_is}
 use Rattle.edit_history.specs.Shown.{IsThere}
 use Rattle.edit_steps.specs.Dealt.{AreDealt}

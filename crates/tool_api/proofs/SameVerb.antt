@@ -3,7 +3,7 @@ use Rattle.std.proofs.Common.{◌≡◌, true, rules}
 use denote.Enum.Bare.{same_true, true_same}
 use Rattle.tool_api.specs.contracts.verb.Verb.{the_type}
 use Rattle.tool_api.specs.declared.verb.Verb.{Verb}
-use Rattle.tool_api.specs.Verbs.{same_verb}
+use Rattle.tool_api.specs.Plain.{same_verb}
 
 pub same_is : (a b : Verb) → same_verb a b ≡ true → a ≡ b
 same_is a b same = same_true the_type (search rules) a b same

@@ -1,5 +1,3 @@
-pub mod Verbs
-pub mod Refusals
 pub mod Resolve
 pub mod Patches
 pub mod Checks

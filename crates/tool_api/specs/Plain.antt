@@ -2,9 +2,11 @@
 --
 -- For example over a table with n1 and w5 Nn1 `delete n1` replies `refused 5 n1 w5` and leaves the table, and
 -- `delete n1,w5` replies done, without keys, with a table that has neither of them living.
-use Rattle.std.specs.Prelude.{ℕ, ◌≤◌, length, Result, Ok, Err}
+use Rattle.std.specs.Prelude.{ℕ, ◌≤◌, Bool, List, [], ◌∷◌, codes, length, Result, Ok, Err}
+use denote.Enum.Bare.{sameb}
 use Rattle.osm_base.specs.declared.content.Content.TheVariants as content
 use Rattle.osm_table.specs.Table.{TableValue}
+use Rattle.tool_api.specs.contracts.verb.Verb.{the_type}
 use Rattle.tool_api.specs.declared.verb.Verb.{Verb}
 use Rattle.tool_api.specs.declared.verb.Verb.TheVariants as verb
 use Rattle.tool_api.specs.declared.job.Job.{Job}
@@ -88,3 +90,29 @@ outcome (job.Fuse nodes) t limit = fuse t limit nodes
 -- The reply and the new table of a job.
 abbrev pub plain : Job → TableValue → ℕ → Answer
 plain j t limit = answered t (outcome j t limit)
+
+-- what `==` answers at verbs
+abbrev pub same_verb : Verb → Verb → Bool
+same_verb a b = sameb the_type a b
+
+-- the name of a verb
+abbrev pub verb_name : Verb → List ℕ
+verb_name verb.Add = codes "Add"
+verb_name verb.Tag = codes "Tag"
+verb_name verb.Move = codes "Move"
+verb_name verb.Change = codes "Change"
+verb_name verb.Delete = codes "Delete"
+verb_name verb.Erase = codes "Erase"
+verb_name verb.Purge = codes "Purge"
+verb_name verb.Split = codes "Split"
+verb_name verb.Combine = codes "Combine"
+verb_name verb.Reverse = codes "Reverse"
+verb_name verb.Merge = codes "Merge"
+verb_name verb.Import = codes "Import"
+verb_name verb.Resolve = codes "Resolve"
+verb_name verb.Squeeze = codes "Squeeze"
+verb_name verb.Fuse = codes "Fuse"
+
+-- all verbs, in the order of `Verb`
+abbrev pub all_verbs : List Verb
+all_verbs = verb.Add ∷ verb.Tag ∷ verb.Move ∷ verb.Change ∷ verb.Delete ∷ verb.Erase ∷ verb.Purge ∷ verb.Split ∷ verb.Combine ∷ verb.Reverse ∷ verb.Merge ∷ verb.Import ∷ verb.Resolve ∷ verb.Squeeze ∷ verb.Fuse ∷ []

@@ -6,11 +6,10 @@
 //! means, its reply and the new table, is one small definition in `specs/`: `plain`. A command is proved to plan just that.
 //! A job has all that it needs: that of an import has the new objects of a file (`NewObjects`), by the file's own keys.
 //!
-//! To add a command: add its variant to `Job` (and to `Refusal`, with the next number, where it refuses in a new
-//! way); write its definition in a file of `specs/` from the words of `specs/Checks`, `Changes` and `Closing`, with
-//! a worked example in `proofs/Examples`; add its line to `outcome` in `specs/Plain`, and one to `outcome_kept` in
-//! `proofs/SeenJobs` of `editor_laws`: what its table has is from the old one. Then write its `Command` over the calls of this
-//! crate: the tests, a draft of the change (`edit_all`, `delete_all`, `add_new`), and `closed`.
+//! To add a command: add its variant to `Job` (and to `Refusal` where it refuses in a new way, and to `Verb` where it has a
+//! verb of its own); write its definition in a file of `specs/` from the words of `specs/Checks`, `Changes` and `Closing`, with
+//! a worked example in `proofs/Examples`; add its lines to `specs/Plain`, and its laws to `editor_laws`. Then write its `Command`
+//! over the calls of this crate: the tests, a draft of the change (`edit_all`, `delete_all`, `add_new`), and `closed`.
 #![tactic(auto)]
 
 mod additions;

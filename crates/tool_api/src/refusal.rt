@@ -1,6 +1,4 @@
 //! Why a job is refused.
-ghost use Rattle.std.specs.Prelude.{◌≡◌};
-ghost use Rattle.tool_api.specs.Refusals.{number_of};
 
 use osm_base::{Key, Text};
 
@@ -51,35 +49,4 @@ pub enum Refusal {
     NoFinding(Key),
     /// The node isn't at the place of the first one named.
     NotSamePlace(Key),
-}
-
-impl Refusal {
-    /// The number in a reply.
-    pub fn number(&self) -> u8
-        ensures { result ≡ number_of self.now }
-    {
-        match self {
-            Refusal::Absent(_) => 1,
-            Refusal::IncompleteObject(_) => 2,
-            Refusal::DeletedObject(_) => 3,
-            Refusal::InConflict(_) => 4,
-            Refusal::InUse(_, _) => 5,
-            Refusal::WrongKind(_) => 6,
-            Refusal::Unfit(_) => 7,
-            Refusal::OutOfRange(_) => 8,
-            Refusal::NamedTwice(_) => 9,
-            Refusal::NotInWay(_) => 10,
-            Refusal::NothingToSplit(_) => 11,
-            Refusal::NotJoined(_) => 12,
-            Refusal::TagClash(_) => 13,
-            Refusal::MemberClash(_) => 14,
-            Refusal::NoConflict(_) => 15,
-            Refusal::NotMixed(_) => 16,
-            Refusal::VersionClash(_, _) => 17,
-            Refusal::TableFull => 18,
-            Refusal::NotClashing(_) => 29,
-            Refusal::NoFinding(_) => 32,
-            Refusal::NotSamePlace(_) => 33,
-        }
-    }
 }

@@ -1,6 +1,6 @@
 //! The verbs of commands, one for each tool.
 ghost use Rattle.std.specs.Prelude.{◌≡◌};
-ghost use Rattle.tool_api.specs.Verbs.{verb_name};
+ghost use Rattle.tool_api.specs.Plain.{verb_name};
 
 /// What a tool does. Each job has one verb, and each verb one tool.
 #[derive(Clone, Copy, Debug, PartialEq, Eq)]
