@@ -18,16 +18,14 @@ use Rattle.tool_api.specs.Gone.{delete_all, erase, purge}
 use Rattle.tool_api.specs.Split.{split}
 use Rattle.tool_api.specs.Combine.{combine}
 use Rattle.tool_api.specs.Merged.{merge}
-use Rattle.tool_api.specs.Import.{AreNewObjects, import}
+use Rattle.tool_api.specs.Import.{import}
 use Rattle.tool_api.specs.Resolve.{resolve}
 use Rattle.tool_api.specs.Squeeze.{squeeze}
 use Rattle.tool_api.specs.Fuse.{fuse}
 
--- a job that names what it has to: at least two ways to combine or nodes to fuse, and for an import objects as a file has
--- them
+-- a job that names what it has to: at least two ways to combine or nodes to fuse
 abbrev pub IsWellFormed : Job → Type 0
 IsWellFormed (job.Combine ways) = 2 ≤ length ways
-IsWellFormed (job.Import objects) = AreNewObjects objects
 IsWellFormed (job.Fuse nodes) = 2 ≤ length nodes
 IsWellFormed j = Unit {0}
 
