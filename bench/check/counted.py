@@ -30,10 +30,8 @@ def statuses():
 
 def refusals():
     """The name of each refusal, by its number."""
-    found = {}
-    for path in (CRATES / 'tool_api' / 'specs' / 'Refusals.antt', CRATES / 'edit_script' / 'specs' / 'Reply.antt'):
-        found.update((int(number), name) for name, number in GIVEN.findall(path.read_text()))
-    return found
+    text = (CRATES / 'edit_script' / 'specs' / 'Reply.antt').read_text()
+    return {int(number): name for name, number in re.findall(r'^(?:job_)?refused \(?(\w+)[^=]*= codes "(\d+)"', text, re.M)}
 
 
 def line_faults():

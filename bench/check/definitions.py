@@ -28,10 +28,7 @@ USE = re.compile(r'^(?:pub |ghost )?use ((?:Rattle|lib)\.[\w.]+?)(?:\.\{([^}\n]*
 
 # the definitions that a law settles, by their crates, and where the law stands in src/ with its name
 SETTLED = {
-    ('answer_file', 'answer_of_words'): ('laws.rt', 'answer_is_told'),
     ('chunking', 'chunks'): ('law.rt', 'chunks_are_told'),
-    ('edit_script', 'act_of'): ('law.rt', 'act_is_told'),
-    ('edit_script', 'refusal_text'): ('law.rt', 'refusal_is_told'),
     ('map_search', 'query_of_words'): ('law.rt', 'read_as_spelled'),
     ('merge_cases', 'same_kind'): ('law.rt', 'same_kind_is_told'),
     ('merge_cases', 'same_pick'): ('law.rt', 'same_pick_is_told'),

@@ -9,36 +9,36 @@ use Rattle.upload_order.specs.declared.change.Change.TheVariants as change
 use Rattle.placeholder.specs.Confirm as placeholder
 use Rattle.placeholder.specs.declared.answer.Answer.TheVariants.{Create, Modify, Delete}
 use Rattle.answer_file.specs.Answers.{answers_of}
-use Rattle.answer_file.specs.Lines.{answer_form, answer_of, created, deleted, modified, version_word}
+use Rattle.answer_file.specs.Lines.{answer_of, id_word, version_word}
 use Rattle.answer_file.specs.Text.{text_of}
 
 -- a node was made
 made : answer_of (codes "create n-1 n50 v1") ≡ Some (Create (record { kind = kind.Node; id = negsuc 0 }) (pos 50))
-unfolding answer_form created key_text id_text kind_letter number_text
+unfolding id_word key_text id_text kind_letter number_text
 made = refl
 
 -- words may stand apart
 apart : answer_of (codes "modify \t w5  v4") ≡ Some (Modify (record { kind = kind.Way; id = pos 5 }) 4)
-unfolding answer_form modified version_word key_text id_text kind_letter number_text
+unfolding version_word key_text id_text kind_letter number_text
 apart = refl
 
 -- an id takes leading zeros, a version doesn't
 zeros_in_id : answer_of (codes "delete r09 v2") ≡ Some (Delete (record { kind = kind.Relation; id = pos 9 }) 2)
-unfolding answer_form deleted version_word key_text id_text kind_letter number_text
+unfolding version_word key_text id_text kind_letter number_text
 zeros_in_id = refl
 
 zeros_in_version : answer_of (codes "delete r9 v02") ≡ None
-unfolding answer_form deleted version_word key_text id_text kind_letter number_text
+unfolding version_word key_text id_text kind_letter number_text
 zeros_in_version = refl
 
 -- a node becomes no way
 other_kind : answer_of (codes "create n-1 w50 v1") ≡ None
-unfolding answer_form created key_text id_text kind_letter number_text
+unfolding id_word key_text id_text kind_letter number_text
 other_kind = refl
 
 -- an object is made with the version 1
 made_later : answer_of (codes "create n-1 n50 v2") ≡ None
-unfolding answer_form created key_text id_text kind_letter number_text
+unfolding id_word key_text id_text kind_letter number_text
 made_later = refl
 
 outer_blank : answer_of (codes " modify w5 v4") ≡ None
@@ -47,7 +47,7 @@ outer_blank = refl
 -- the second line answers, and the third doesn't
 file_read : answers_of (codes "# chunk 1\nmodify w5 v4\r\nmodify w5\nmodify w5 v4\n")
     ≡ record { answers = Modify (record { kind = kind.Way; id = pos 5 }) 4 ∷ []; lines = 2 ∷ []; wrong = Some 3 }
-unfolding answer_form modified version_word key_text id_text kind_letter number_text
+unfolding version_word key_text id_text kind_letter number_text
 file_read = refl
 
 -- a server made a node and changed a way of version 3: each answer is a line

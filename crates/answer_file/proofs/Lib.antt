@@ -1,6 +1,5 @@
 pub mod ByLine
 mod Examples
-mod Grammar
 pub mod Lines
 pub mod SoFar
 pub mod ReadBack

@@ -1,5 +1,5 @@
 -- The line of an answer is read back.
-use Rattle.std.proofs.Common.{◌≡◌, ℕ, ℤ, suc, ◌-◌, ◌<◌, ◌≤◌, ◌^◌, ◌==◌, Bool, true, false, List, [], ◌∷◌, ◌++◌, length, filter, Some, refl, sym, ap, subst, ◌∙◌, arith}
+use Rattle.std.proofs.Common.{◌≡◌, ℕ, suc, ◌-◌, ◌<◌, ◌≤◌, ◌^◌, ◌==◌, Bool, true, false, List, [], ◌∷◌, ◌++◌, length, filter, Some, refl, sym, ap, subst, ◌∙◌, arith}
 use Rattle.std.specs.Prelude.{codes, decimal, slice_index, nat_lt}
 use Rattle.std.specs.Fmt.{signed_decimal}
 use Rattle.std.proofs.lemmas.Fmt.{first_decimal}
@@ -13,12 +13,13 @@ use Rattle.opl_line.specs.Line.{is_blank, freed}
 use Rattle.opl_line.specs.Written.{spaced}
 use Rattle.opl_line.proofs.Unbroken.{Unbroken, AllUnbroken, SparesAbove, unbroken_append, unbroken_spaced, cut_spaced, freed_same, decimal_unbroken, key_unbroken, unbroken_at}
 use Rattle.opl_file.specs.Cut.{has_lf}
+use Rattle.edit_script.specs.Grammar.{by_first}
 use Rattle.edit_script.specs.Items.{has_byte, words_of}
 use Rattle.edit_script.specs.Script.{is_skipped, has_outer_blank}
 use Rattle.upload_order.specs.Rename.{with_id}
 use Rattle.placeholder.specs.declared.answer.Answer.{Answer}
 use Rattle.placeholder.specs.declared.answer.Answer.TheVariants.{Create, Modify, Delete}
-use Rattle.answer_file.specs.Lines.{answer_form, answer_of, answer_of_words, begins_with_0, created, deleted, has_kind_of, modified, version_word}
+use Rattle.answer_file.specs.Lines.{all_answers, answer_of, begins_with_0, has_kind_of, id_word, version_word}
 use Rattle.answer_file.specs.Text.{line_of}
 
 -- its keys have ids, and its version is one of an object
@@ -163,26 +164,14 @@ version_again n least most =
     let fits : nat_lt 2000000000 n ≡ false = grind (arith, nat_tests) in
     rw (digits, first, fits) refl
 
-created_again : (placeholder : Key) (id : ℤ) → IsId placeholder.id → IsId id → created (others_of (Create placeholder id)) ≡ Some (Create placeholder id)
-unfolding created
-created_again placeholder id old new =
+words_answer : (a : Answer) → IsTold a → by_first all_answers (verb_of a ∷ others_of a) ≡ Some a
+unfolding id_word
+words_answer (Create placeholder id) h =
     let kind : has_kind_of placeholder (with_id placeholder id) ≡ true = key_itself (with_id placeholder id) in
-    rw (key_again placeholder old, key_again (with_id placeholder id) new, kind) refl
-
-modified_again : (key : Key) (version : ℕ) → IsId key.id → 1 ≤ version → version ≤ 2000000000 → modified (others_of (Modify key version)) ≡ Some (Modify key version)
-unfolding modified
-modified_again key version id least most = rw (key_again key id, version_again version least most) refl
-
-deleted_again : (key : Key) (version : ℕ) → IsId key.id → 1 ≤ version → version ≤ 2000000000 → deleted (others_of (Delete key version)) ≡ Some (Delete key version)
-unfolding deleted
-deleted_again key version id least most = rw (key_again key id, version_again version least most) refl
-
-words_answer : (a : Answer) → IsTold a → answer_of_words (verb_of a ∷ others_of a) ≡ Some a
-unfolding answer_form
-words_answer (Create placeholder id) h = created_again placeholder id h.0 h.1
-words_answer (Modify key version) h = modified_again key version h.0 h.1 h.2
-words_answer (Delete key version) h = deleted_again key version h.0 h.1 h.2
+    rw (key_again placeholder h.0, key_again (with_id placeholder id) h.1, kind) refl
+words_answer (Modify key version) h = rw (key_again key h.0, version_again version h.1 h.2) refl
+words_answer (Delete key version) h = rw (key_again key h.0, version_again version h.1 h.2) refl
 
 -- The line of an answer gives that answer.
 pub line_again : (a : Answer) → IsTold a → answer_of (line_of a) ≡ Some a
-line_again a h = rw (no_outer_blank a) (ap answer_of_words (words_again a) ∙ words_answer a h)
+line_again a h = rw (no_outer_blank a) (ap (by_first all_answers) (words_again a) ∙ words_answer a h)

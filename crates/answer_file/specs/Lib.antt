@@ -3,4 +3,3 @@ pub mod Answers
 pub mod Text
 pub mod ByLine
 pub mod Resumed
-pub mod Grammar

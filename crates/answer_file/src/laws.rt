@@ -1,18 +1,14 @@
 //! What the definitions mean.
-ghost use Rattle.std.specs.Prelude.{◌≡◌, List, Ok, Option, ℕ, ℤ, ◌↔◌};
+ghost use Rattle.std.specs.Prelude.{◌≡◌, List, Ok, ℕ, ℤ};
 ghost use Rattle.osm_table.specs.Table.{TableValue};
 ghost use Rattle.dataset.specs.Diff.{diff};
 ghost use Rattle.upload_order.specs.declared.change.Change.{Change};
 ghost use Rattle.upload_order.specs.World.{World};
-ghost use Rattle.edit_script.specs.Grammar.{by_first};
-ghost use Rattle.placeholder.specs.declared.answer.Answer.{Answer};
 ghost use Rattle.placeholder.specs.Answered.{AreAnswered};
 ghost use Rattle.placeholder.specs.Confirm as placeholder;
 ghost use Rattle.placeholder.specs.Confirmed.{confirmed_all};
 ghost use Rattle.answer_file.specs.Answers.{answers_of, confirm_text};
 ghost use Rattle.answer_file.specs.ByLine.{IsByLine};
-ghost use Rattle.answer_file.specs.Grammar.{told_answers};
-ghost use Rattle.answer_file.specs.Lines.{answer_of_words};
 ghost use Rattle.answer_file.specs.Text.{text_of};
 
 /// The text of a server's answers to any number of first changes of a plan is taken, and gives the difference to the table after
@@ -25,9 +21,4 @@ pub fn text_is_confirmed()
 /// it is skipped or has an answer.
 pub fn answers_by_line()
     ensures { (bytes : List ℕ) → IsByLine bytes (answers_of bytes) }
-{}
-
-/// Law: the words of a line give the answer that `specs/Grammar` tells, and no other.
-pub fn answer_is_told()
-    ensures { (words : List (List ℕ)) (answer : Option Answer) → (answer_of_words words ≡ answer) ↔ (by_first told_answers words ≡ answer) }
 {}

@@ -15,4 +15,4 @@ mod line;
 mod reading;
 
 pub use confirming::confirm_file;
-pub use laws::{answer_is_told, answers_by_line, text_is_confirmed};
+pub use laws::{answers_by_line, text_is_confirmed};

@@ -1,10 +1,11 @@
 //! The answer that a line gives.
-ghost use Rattle.std.specs.Prelude.{◌≡◌, ◌<◌, length};
+ghost use Rattle.std.specs.Prelude.{◌≡◌, ◌<◌, ◌∷◌, codes, length};
 ghost use Rattle.edit_script.specs.Answers.{Gives};
+ghost use Rattle.edit_script.specs.Grammar.{by_first};
 ghost use Rattle.edit_script.specs.Items.{words_of};
-ghost use Rattle.answer_file.specs.Lines.{answer_form, answer_of, answer_of_words, begins_with_0, created, deleted, has_kind_of, modified, version_word};
+ghost use Rattle.answer_file.specs.Lines.{all_answers, answer_of, begins_with_0, has_kind_of, id_word, version_word};
 
-use edit_script::{Unread, has_outer_blank, key_word, next_word, three_words, two_words};
+use edit_script::{Unread, alone, first_word, has_outer_blank, key_word};
 use osm_base::{Key, read_digits, same_key};
 use placeholder::Answer;
 
@@ -23,19 +24,9 @@ pub fn answer_of(line: &[u8]) -> Result<Answer, Unread>
 }
 
 fn answer_of_words(line: &[u8]) -> Result<Answer, Unread>
-    ensures { Gives result (answer_of_words (words_of line.now)) }
+    ensures { Gives result (by_first all_answers (words_of line.now)) }
 {
-    match next_word(line) {
-        None => Err(Unread::Outside),
-        Some((verb, words)) => answer_form(verb, words),
-    }
-}
-
-/// An answer by its first word.
-#[tactic(auto, unfolding(crate::specs::Lines::answer_form))]
-fn answer_form(verb: &[u8], words: &[u8]) -> Result<Answer, Unread>
-    ensures { Gives result (answer_form verb.now (words_of words.now)) }
-{
+    let (verb, words) = first_word(line)?;
     if verb == b"create".as_slice() {
         created(words)
     } else if verb == b"modify".as_slice() {
@@ -48,18 +39,28 @@ fn answer_form(verb: &[u8], words: &[u8]) -> Result<Answer, Unread>
 }
 
 /// `OLD NEW v1`.
-#[tactic(auto, unfolding(crate::specs::Lines::created))]
 fn created(words: &[u8]) -> Result<Answer, Unread>
-    ensures { Gives result (created (words_of words.now)) }
+    ensures { Gives result (by_first all_answers (codes "create" ∷ words_of words.now)) }
 {
-    let (first, second, third) = three_words(words)?;
-    let placeholder = key_word(first)?;
-    let key = key_word(second)?;
-    if has_kind_of(placeholder, key) && third == b"v1".as_slice() {
-        Ok(Answer::Create {
-            placeholder,
-            id: key.id,
-        })
+    let (word, rest) = first_word(words)?;
+    let placeholder = key_word(word)?;
+    let (word, rest) = first_word(rest)?;
+    let id = id_word(placeholder, word)?;
+    let (word, rest) = first_word(rest)?;
+    if word != b"v1".as_slice() {
+        return Err(Unread::Outside);
+    }
+    alone(Answer::Create { placeholder, id }, rest)
+}
+
+/// The id of an object of the placeholder's kind.
+#[tactic(auto, unfolding(crate::specs::Lines::id_word))]
+fn id_word(placeholder: Key, word: &[u8]) -> Result<i64, Unread>
+    ensures { Gives result (id_word placeholder word.now) }
+{
+    let key = key_word(word)?;
+    if has_kind_of(placeholder, key) {
+        Ok(key.id)
     } else {
         Err(Unread::Outside)
     }
@@ -76,25 +77,25 @@ fn has_kind_of(placeholder: Key, key: Key) -> bool
 }
 
 /// `KEY vN`.
-#[tactic(auto, unfolding(crate::specs::Lines::modified))]
 fn modified(words: &[u8]) -> Result<Answer, Unread>
-    ensures { Gives result (modified (words_of words.now)) }
+    ensures { Gives result (by_first all_answers (codes "modify" ∷ words_of words.now)) }
 {
-    let (first, second) = two_words(words)?;
-    let key = key_word(first)?;
-    let version = version_word(second)?;
-    Ok(Answer::Modify { key, version })
+    let (word, rest) = first_word(words)?;
+    let key = key_word(word)?;
+    let (word, rest) = first_word(rest)?;
+    let version = version_word(word)?;
+    alone(Answer::Modify { key, version }, rest)
 }
 
 /// `KEY vN`.
-#[tactic(auto, unfolding(crate::specs::Lines::deleted))]
 fn deleted(words: &[u8]) -> Result<Answer, Unread>
-    ensures { Gives result (deleted (words_of words.now)) }
+    ensures { Gives result (by_first all_answers (codes "delete" ∷ words_of words.now)) }
 {
-    let (first, second) = two_words(words)?;
-    let key = key_word(first)?;
-    let version = version_word(second)?;
-    Ok(Answer::Delete { key, version })
+    let (word, rest) = first_word(words)?;
+    let key = key_word(word)?;
+    let (word, rest) = first_word(rest)?;
+    let version = version_word(word)?;
+    alone(Answer::Delete { key, version }, rest)
 }
 
 /// `v` and a number without leading zeros.

@@ -3,7 +3,4 @@ pub mod Lists
 pub mod Lookup
 mod MeetingExamples
 pub mod Orderly
-mod Refused
 pub mod TagKeys
-pub mod Told
-pub mod Words

@@ -1,5 +1,5 @@
 -- A word, and the words with which lines begin, which rise.
-use Rattle.std.proofs.Common.{◌≡◌, ◌≢◌, ℕ, zero, suc, ◌+◌, ◌<◌, Bool, true, false, not, ◌&&◌, Bor, List, [], ◌∷◌, length, get_or, map, nat_lt, Some, None, refl, sym, ap, ◌∙◌, subst, arith}
+use Rattle.std.proofs.Common.{◌≡◌, ◌≢◌, ℕ, zero, suc, ◌+◌, ◌<◌, Bool, true, false, not, ◌&&◌, Bor, List, [], ◌∷◌, length, get_or, map, nat_lt, Option, None, refl, sym, ap, ◌∙◌, subst, arith}
 use Rattle.std.specs.Cmp.Lexicographic.{slice_cmp}
 use Rattle.std.specs.List.{AllByRecursion}
 use Rattle.std.specs.List.Sorted.{IsNonDecreasingBy, IsPartitionPoint, IsSortedBy}
@@ -14,14 +14,13 @@ use Rattle.std.proofs.lemmas.List.Sorted.{searchable_from_sorted}
 use Rattle.std.proofs.lemmas.Map.Text.{is_eq-slice_cmp}
 use Rattle.std.proofs.lemmas.Slice.Eq.{bytes_eq-Decides}
 use Rattle.edit_script.specs.declared.forms.Form.{Form}
-use Rattle.edit_script.specs.Forms.{all_forms, form_of, listed_form}
+use Rattle.edit_script.specs.declared.step.Act.{Act}
+use Rattle.edit_script.specs.Forms.{form_word}
+use Rattle.edit_script.specs.Grammar.{act_of, all_lines, by_first}
 
 -- a word and the form of the lines that begin with it
 abbrev pub Listed : Type 0
 Listed = Bor (List ℕ) × Form
-
-abbrev pub plain : Listed → List ℕ × Form
-plain at = (at.0.now, at.1)
 
 abbrev pub by_word : List ℕ → Listed → Ordering
 by_word word at = slice_cmp nat_cmp at.0.now word
@@ -53,37 +52,47 @@ other_words a b o e other = by_test (bytes_eq b a) refl where
   by_test false is = refl
   by_test true is = absurd (other (sym e ∙ ap (slice_cmp nat_cmp a) ((bytes_eq-Decides b a).0 is) ∙ tied_itself nat_list_cmp_total a))
 
--- each word is found with its form
-all_found : AllByRecursion (λ (at : List ℕ × Form). form_of at.0 ≡ Some at.1) all_forms
-unfolding form_of
-all_found = (refl, (refl, (refl, (refl, (refl, (refl, (refl, (refl, (refl, (refl, (refl, (refl, (refl, (refl, (refl, (refl, (refl, (refl, (refl, (refl, (refl, (refl, (refl, (refl, (refl, (refl, (refl, (refl, (refl, (refl, (refl, (refl, (refl, (refl, (refl, (refl, (refl, (refl, (refl, (refl, tt))))))))))))))))))))))))))))))))))))))))
+-- whether each form is listed with the word of its lines
+abbrev pub are_named : List Listed → Bool
+are_named [] = true
+are_named (at ∷ more) = bytes_eq (form_word at.1) at.0.now && are_named more
 
-found_among : (forms : List (List ℕ × Form)) (table : List Listed) (i : ℕ) (d : Listed) → map plain table ≡ forms → i < length table → AllByRecursion (λ (at : List ℕ × Form). form_of at.0 ≡ Some at.1) forms
-    → form_of (get_or table i d).0.now ≡ Some (get_or table i d).1
-found_among forms table i d same h all = by_place table i h (subst (AllByRecursion (λ (at : List ℕ × Form). form_of at.0 ≡ Some at.1)) (sym same) all) where
-  by_place : (table : List Listed) (i : ℕ) → i < length table → AllByRecursion (λ (at : List ℕ × Form). form_of at.0 ≡ Some at.1) (map plain table) → form_of (get_or table i d).0.now ≡ Some (get_or table i d).1
-  by_place [] i h all = absurd (omega (arith, h))
-  by_place (at ∷ more) zero h all = all.0
-  by_place (at ∷ more) (suc i) h all = by_place more i (omega (arith, h)) all.1
+named_at : (table : List Listed) (i : ℕ) (d : Listed) → are_named table ≡ true → i < length table → form_word (get_or table i d).1 ≡ (get_or table i d).0.now
+named_at [] i d named h = absurd (omega (arith, h))
+named_at (at ∷ more) zero d named h = (bytes_eq-Decides (form_word at.1) at.0.now).0 (and_parts _ _ named).0
+named_at (at ∷ more) (suc i) d named h = named_at more i d (and_parts _ _ named).1 (omega (arith, h))
 
 -- a word that is none of them
-unlisted : (word : List ℕ) (table : List Listed) → ((i : ℕ) (d : Listed) → i < length table → bytes_eq word (get_or table i d).0.now ≡ false) → listed_form word (map plain table) ≡ None
-unlisted word [] none = refl
-unlisted word (at ∷ more) none = rw (none 0 at (omega arith)) (unlisted word more (λ i d h. none (suc i) d (omega (arith, h))))
+abbrev pub words_listed : List Listed → List (List ℕ)
+words_listed table = map (λ (at : Listed). at.0.now) table
 
-module _ (word : List ℕ) (table : List Listed) (same : map plain table ≡ all_forms) where
+abbrev pub all_words : List (List ℕ)
+all_words = map (λ (line : List ℕ × (List (List ℕ) → Option Act)). line.0) all_lines
+
+abbrev IsNone : List ℕ → List (List ℕ) → Type 0
+IsNone word listed = AllByRecursion (λ at. bytes_eq word at ≡ false) listed
+
+none_of : (word : List ℕ) (table : List Listed) → ((i : ℕ) (d : Listed) → i < length table → bytes_eq word (get_or table i d).0.now ≡ false) → IsNone word (words_listed table)
+none_of word [] none = tt
+none_of word (at ∷ more) none = (none 0 at (omega arith), none_of word more (λ i d h. none (suc i) d (omega (arith, h))))
+
+begins_no_line : (word : List ℕ) (words : List (List ℕ)) (lines : List (List ℕ × (List (List ℕ) → Option Act))) → IsNone word (map (λ (line : List ℕ × (List (List ℕ) → Option Act)). line.0) lines) → by_first lines (word ∷ words) ≡ None
+begins_no_line word words [] none = refl
+begins_no_line word words (line ∷ lines) none = rw none.0 (begins_no_line word words lines none.1)
+
+module _ (word : List ℕ) (table : List Listed) where
   -- What a search finds is the form of the word,
-  pub found_at : (i : ℕ) (d : Listed) → i < length table → by_word word (get_or table i d) ≡ Equal → Some (get_or table i d).1 ≡ form_of word
-  found_at i d h e = sym (found_among all_forms table i d same h all_found) ∙ ap form_of (same_words (get_or table i d).0.now word e)
+  pub found_at : (i : ℕ) (d : Listed) → are_named table ≡ true → i < length table → by_word word (get_or table i d) ≡ Equal → form_word (get_or table i d).1 ≡ word
+  found_at i d named h e = named_at table i d named h ∙ same_words (get_or table i d).0.now word e
 
   -- since the comparisons with it rise along them,
   pub comparisons_rise : rise table ≡ true → IsNonDecreasingBy (λ (at : Listed). ordering_index (by_word word at)) table
   comparisons_rise up = searchable_from_sorted nat_list_cmp_total (λ (at : Listed). at.0.now) table word (sorted table up)
 
-  -- and where it finds none, there is none.
-  pub found_nowhere : (i : ℕ) → IsPartitionPoint (λ (at : Listed). by_word word at ≡ Less) (λ (at : Listed). by_word word at ≡ Greater) table i → None ≡ form_of word
-  unfolding form_of
-  found_nowhere i parts = sym (ap (listed_form word) (sym same) ∙ unlisted word table (λ k d h. at_either k d h (nat_lt k i) refl))
+  -- and where it finds none, no line begins with the word.
+  pub found_nowhere : (i : ℕ) → words_listed table ≡ all_words → IsPartitionPoint (λ (at : Listed). by_word word at ≡ Less) (λ (at : Listed). by_word word at ≡ Greater) table i → (words : List (List ℕ)) → act_of (word ∷ words) ≡ None
+  unfolding act_of
+  found_nowhere i same parts words = begins_no_line word words all_lines (subst (IsNone word) same (none_of word table (λ k d h. at_either k d h (nat_lt k i) refl)))
     where
       at_either : (k : ℕ) (d : Listed) → k < length table → (before : Bool) → nat_lt k i ≡ before → bytes_eq word (get_or table k d).0.now ≡ false
       at_either k d h true before = other_words (get_or table k d).0.now word Less (parts.0 k d (omega arith) (grind (arith, nat_tests, before))) (λ e. cc)

@@ -1,5 +1,5 @@
 -- What is answered of what was read.
-use Rattle.std.specs.Prelude.{◌≡◌, ℕ, List, Result, Ok, Err, Option, Some, None}
+use Rattle.std.specs.Prelude.{◌≡◌, ℕ, List, [], Result, Ok, Err, Option, Some, None}
 use Rattle.map_search.specs.declared.fault.QueryFault.{QueryFault}
 use Rattle.map_search.specs.declared.fault.QueryFault.TheVariants as queries
 use Rattle.opl_line.specs.declared.fault.LineAnswer.{LineAnswer}
@@ -22,6 +22,11 @@ Gives (Err unread.Memory) read = Unit {0}
 abbrev pub IsRefused : {A : Type 0} → Option A → Unread → Type 0
 IsRefused read unread.Outside = read ≡ None
 IsRefused read unread.Memory = Unit {0}
+
+-- no word is left, unless memory ran out
+abbrev pub IsOver : List (List ℕ) → Unread → Type 0
+IsOver words unread.Outside = words ≡ []
+IsOver words unread.Memory = Unit {0}
 
 -- a field with a fault is outside the grammar
 abbrev pub unread_field : LineAnswer → Unread

@@ -3,11 +3,7 @@
 -- For example `combine w1,w2` combines these ways, and `combine w1` is outside the grammar. Some lines have parts that can be
 -- left out: `resolve n1 mine` and `resolve n1 mix theirs mine` are both lines, and so are `download town.opl` and
 -- `download town.opl Famenity=bench`.
---
--- The law `act_is_told` says that `act_of` gives what is told here, and nothing else: so this says all that the words of a line
--- ask for, and how they are read needn't be known.
 use Rattle.std.specs.Prelude.{ℕ, nat_le, if◌then◌else◌, codes, List, [], ◌∷◌, length, Option, Some, None}
-use Rattle.std.specs.Option.{option_map_or}
 use Rattle.std.specs.Str.{bytes_eq}
 use Rattle.osm_base.specs.Coord.{coord_text}
 use Rattle.osm_base.specs.Number.{key_text, number_text}
@@ -27,27 +23,25 @@ use Rattle.edit_script.specs.declared.step.HistoryStep.TheVariants as history
 use Rattle.edit_script.specs.declared.step.Look.TheVariants as look
 use Rattle.edit_script.specs.declared.step.MeetStep.TheVariants as meet
 use Rattle.edit_script.specs.declared.step.Purpose.TheVariants as purpose
-use Rattle.edit_script.specs.Items.{alone, area_text, behind, wanted_text, keys_word, tags_word, refs_word, members_word, number_word, place_words, side_word, tag_keys_word}
+use Rattle.edit_script.specs.Items.{alone, area_text, keys_word, members_word, number_word, optional, place_words, refs_word, side_word, tag_keys_word, tags_word, wanted_text}
 
 -- a word that is read so, and what the others ask for then
 abbrev pub word : {A B : Type 0} → (List ℕ → Option A) → (A → List (List ℕ) → Option B) → List (List ℕ) → Option B
 word read rest [] = None
 word read rest (first ∷ words) = read first >>= λ x. rest x words
 
--- the same, of a word that begins with the letter and can be left out
-abbrev pub part : {A B : Type 0} → (letter : ℕ) → (List ℕ → Option A) → (Option A → List (List ℕ) → Option B) → List (List ℕ) → Option B
-part letter read rest [] = rest None []
-part letter read rest (first ∷ words) =
-    option_map_or (λ text. read text >>= λ x. rest (Some x) words) (behind letter first) (rest None (first ∷ words))
+-- a word that is read so, and no other
+abbrev pub only : {A B : Type 0} → (List ℕ → Option A) → (A → B) → List (List ℕ) → Option B
+only read made words = word read alone words >>= λ x. Some (made x)
 
--- the same, of the two words of a place
+-- the two words of a place, and what the others ask for then
 abbrev pub at_place : {B : Type 0} → (Coord → List (List ℕ) → Option B) → List (List ℕ) → Option B
 at_place rest (x ∷ y ∷ words) = place_words x y >>= λ at. rest at words
 at_place rest words = None
 
 -- `B..` and `F..`, of which each can be left out: the box and the tags of what is taken
 abbrev pub taking : (Option Area → Option (List Pair) → Act) → List (List ℕ) → Option Act
-taking act = part 66 area_text (λ area. part 70 wanted_text (λ wanted. alone (act area wanted)))
+taking act words = optional 66 area_text words >>= λ area. optional 70 wanted_text area.1 >>= λ wanted. alone (act area.0 wanted.0) wanted.1
 
 -- at least two keys
 unfoldable pub two_keys : List ℕ → Option (List Key)
@@ -78,20 +72,20 @@ all_lines =
     (codes "answer", alone (act.Meet meet.Answer))
     ∷ (codes "begin", alone (act.History history.Begin))
     ∷ (codes "check", alone (act.Look look.Check))
-    ∷ (codes "combine", word two_keys (λ ways. alone (act.Job (job.Combine ways))))
-    ∷ (codes "confirm", word unescaped (λ name. alone (act.File name purpose.Confirm)))
+    ∷ (codes "combine", only two_keys (λ ways. act.Job (job.Combine ways)))
+    ∷ (codes "confirm", only unescaped (λ name. act.File name purpose.Confirm))
     ∷ (codes "conflicts", alone (act.Look look.Conflicts))
     ∷ (codes "count", alone (act.Look look.Count))
-    ∷ (codes "delete", word keys_word (λ keys. alone (act.Job (job.Delete keys))))
+    ∷ (codes "delete", only keys_word (λ keys. act.Job (job.Delete keys)))
     ∷ (codes "download", word unescaped (λ name. taking (λ area wanted. act.File name (purpose.Download area wanted))))
-    ∷ (codes "editor", word (number_word 4) (λ n. alone (act.Editor n)))
+    ∷ (codes "editor", only (number_word 4) (λ n. act.Editor n))
     ∷ (codes "end", alone (act.History history.End))
-    ∷ (codes "erase", word keys_word (λ keys. alone (act.Job (job.Erase keys))))
+    ∷ (codes "erase", only keys_word (λ keys. act.Job (job.Erase keys)))
     ∷ (codes "fetch", word (number_text 7) (λ back. taking (λ area wanted. act.Meet (meet.Fetch back area wanted))))
     ∷ (codes "find", λ words. query_of_words words >>= λ query. Some (act.Look (look.Find query)))
-    ∷ (codes "fuse", word two_keys (λ nodes. alone (act.Job (job.Fuse nodes))))
-    ∷ (codes "generate", word (number_word 100000) (λ streets. alone (act.Generate streets)))
-    ∷ (codes "import", word unescaped (λ name. alone (act.File name purpose.Import)))
+    ∷ (codes "fuse", only two_keys (λ nodes. act.Job (job.Fuse nodes)))
+    ∷ (codes "generate", only (number_word 100000) (λ streets. act.Generate streets))
+    ∷ (codes "import", only unescaped (λ name. act.File name purpose.Import))
     ∷ (codes "lost", alone (act.Meet meet.Lost))
     ∷ (codes "members", word key_text (λ key. word members_word (λ members. alone (act.Job (job.SetMembers key members)))))
     ∷ (codes "move", word keys_word (λ keys. word coord_text (λ dx. word coord_text (λ dy. alone (act.Job (job.Shift keys dx dy))))))
@@ -99,24 +93,24 @@ all_lines =
     ∷ (codes "nodes", word key_text (λ key. word refs_word (λ refs. alone (act.Job (job.SetNodes key refs)))))
     ∷ (codes "place", word key_text (λ key. at_place (λ at. alone (act.Job (job.Place key at)))))
     ∷ (codes "print", alone (act.Look look.Print))
-    ∷ (codes "purge", word keys_word (λ keys. alone (act.Job (job.Purge keys))))
-    ∷ (codes "redo", word (number_word 1000000) (λ n. alone (act.History (history.Redo n))))
+    ∷ (codes "purge", only keys_word (λ keys. act.Job (job.Purge keys)))
+    ∷ (codes "redo", only (number_word 1000000) (λ n. act.History (history.Redo n)))
     ∷ (codes "rehearse", alone (act.Look look.Rehearse))
     ∷ (codes "relation", word tags_word (λ tags. word members_word (λ members. alone (act.Job (job.AddRelation tags members)))))
     ∷ (codes "resolve", word key_text (λ key words. by_first choices words >>= λ choice. Some (act.Job (job.Resolve key choice))))
-    ∷ (codes "resume", word unescaped (λ name. alone (act.File name purpose.Resume)))
-    ∷ (codes "reverse", word key_text (λ way. alone (act.Job (job.Reverse way))))
+    ∷ (codes "resume", only unescaped (λ name. act.File name purpose.Resume))
+    ∷ (codes "reverse", only key_text (λ way. act.Job (job.Reverse way)))
     ∷ (codes "save", alone (act.Look look.Save))
-    ∷ (codes "send", word (number_word 10000) (λ count. alone (act.Meet (meet.Send count))))
-    ∷ (codes "serve", word unescaped (λ name. alone (act.Serve name)))
+    ∷ (codes "send", only (number_word 10000) (λ count. act.Meet (meet.Send count)))
+    ∷ (codes "serve", only unescaped (λ name. act.Serve name))
     ∷ (codes "split", word key_text (λ way. word keys_word (λ nodes. alone (act.Job (job.Split way nodes)))))
-    ∷ (codes "squeeze", word keys_word (λ keys. alone (act.Job (job.Squeeze keys))))
+    ∷ (codes "squeeze", only keys_word (λ keys. act.Job (job.Squeeze keys)))
     ∷ (codes "tag", word keys_word (λ keys. word tags_word (λ tags. alone (act.Job (job.SetTags keys tags)))))
-    ∷ (codes "undo", word (number_word 1000000) (λ n. alone (act.History (history.Undo n))))
-    ∷ (codes "upload", word (number_word 10000) (λ size. alone (act.Look (look.Upload size))))
+    ∷ (codes "undo", only (number_word 1000000) (λ n. act.History (history.Undo n)))
+    ∷ (codes "upload", only (number_word 10000) (λ size. act.Look (look.Upload size)))
     ∷ (codes "way", word tags_word (λ tags. word refs_word (λ refs. alone (act.Job (job.AddWay tags refs)))))
     ∷ []
 
 -- What the words of a line ask for; none where they are no line of the grammar.
-abbrev pub told : List (List ℕ) → Option Act
-told words = by_first all_lines words
+unfoldable pub act_of : List (List ℕ) → Option Act
+act_of words = by_first all_lines words

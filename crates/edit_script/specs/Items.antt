@@ -5,6 +5,7 @@
 -- west, south, east and north, and `B13.4,52.5,13.3,52.6` is none, since its west lies beyond its east.
 use Rattle.std.specs.Prelude.{ℕ, ℤ, Bool, ◌==◌, ◌&&◌, nat_le, nat_lt, int_le, if◌then◌else◌, codes, List, [], ◌∷◌, length, Option, Some, None}
 use Rattle.std.specs.List.{list_any}
+use Rattle.std.specs.Option.{option_map_or}
 use Rattle.std.specs.Str.{bytes_eq}
 use Rattle.osm_base.specs.Coord.{coord_text}
 use Rattle.osm_base.specs.Number.{key_text, number_text}
@@ -30,25 +31,6 @@ abbrev pub alone : {A : Type 0} → A → List (List ℕ) → Option A
 alone thing [] = Some thing
 alone thing (word ∷ words) = None
 
--- the words, where they are one, two or three
-abbrev pub one_word : List (List ℕ) → Option (List ℕ)
-one_word (first ∷ []) = Some first
-one_word words = None
-
-abbrev pub two_words : List (List ℕ) → Option (List ℕ × List ℕ)
-two_words (first ∷ second ∷ []) = Some (first, second)
-two_words words = None
-
-abbrev pub three_words : List (List ℕ) → Option (List ℕ × List ℕ × List ℕ)
-three_words (first ∷ second ∷ third ∷ []) = Some (first, second, third)
-three_words words = None
-
--- the name of a file, alone: no word is empty, and so no name that one spells
-unfoldable pub file_word : List (List ℕ) → Option (List ℕ)
-file_word words = do
-  file ← one_word words
-  unescaped file
-
 -- the texts, where they are four
 abbrev pub four_texts : List (List ℕ) → Option (List ℕ × List ℕ × List ℕ × List ℕ)
 four_texts (first ∷ second ∷ third ∷ fourth ∷ []) = Some (first, second, third, fourth)
@@ -71,20 +53,11 @@ abbrev pub behind : ℕ → List ℕ → Option (List ℕ)
 behind letter [] = None
 behind letter (byte ∷ text) = if byte == letter then Some text else None
 
-abbrev pub with_part : {A : Type 0} → List (List ℕ) → Option A → Option (Option A × List (List ℕ))
-with_part words read = do
-  x ← read
-  Some (Some x, words)
-
-abbrev pub optional_first : {A : Type 0} → Option (List ℕ) → (List ℕ → Option A) → List (List ℕ) → List (List ℕ) → Option (Option A × List (List ℕ))
-optional_first None read words rest = Some (None, words)
-optional_first (Some text) read words rest = with_part rest (read text)
-
 -- What the first word spells, where it begins with the letter, and the words that are left; none where it begins so and
 -- spells nothing.
 abbrev pub optional : {A : Type 0} → (letter : ℕ) → (List ℕ → Option A) → List (List ℕ) → Option (Option A × List (List ℕ))
 optional letter read [] = Some (None, [])
-optional letter read (word ∷ words) = optional_first (behind letter word) read (word ∷ words) words
+optional letter read (word ∷ words) = option_map_or (λ text. read text >>= λ x. Some (Some x, words)) (behind letter word) (Some (None, word ∷ words))
 
 -- `T` and tags
 unfoldable pub tags_word : List ℕ → Option (List Pair)
@@ -147,26 +120,6 @@ unfoldable pub number_word : (most : ℕ) → List ℕ → Option ℕ
 number_word most word = do
   n ← number_text 7 word
   if nat_le 1 n && nat_le n most then Some n else None
-
--- how often something is undone or redone
-abbrev pub count_word : List ℕ → Option ℕ
-count_word word = number_word 1000000 word
-
--- how many streets a city has
-abbrev pub streets_word : List ℕ → Option ℕ
-streets_word word = number_word 100000 word
-
--- how many changes a chunk has, or are sent
-abbrev pub size_word : List ℕ → Option ℕ
-size_word word = number_word 10000 word
-
--- the number of an editor
-abbrev pub editor_word : List ℕ → Option ℕ
-editor_word word = number_word 4 word
-
--- 1 to 7 digits of how many states of a server something lies back
-abbrev pub back_word : List ℕ → Option ℕ
-back_word word = number_text 7 word
 
 -- `mine` or `theirs`
 unfoldable pub side_word : List ℕ → Option Side

@@ -4,6 +4,5 @@ pub mod Grammar
 pub mod Items
 pub mod Order
 pub mod Place
-pub mod Refused
 pub mod Reply
 pub mod Script

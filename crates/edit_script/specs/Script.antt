@@ -2,25 +2,28 @@
 --
 -- For example the lines `# a way`, `way T Nn1,n2` and `undo 0` are skipped, a step, and outside the grammar:
 -- the script that they are has no steps, and its first bad line is 3.
-use Rattle.std.specs.Prelude.{ℕ, ◌+◌, List, [], ◌∷◌, Bool, ◌||◌, ◌==◌, Option, None, Some, Result, Ok, Err, slice_index, if◌then◌else◌}
+use Rattle.std.specs.Prelude.{ℕ, ◌+◌, ◌-◌, List, [], ◌∷◌, length, Bool, ◌||◌, ◌==◌, Option, None, Some, Result, Ok, Err, slice_index, if◌then◌else◌}
 use Rattle.std.specs.List.{list_all}
 use Rattle.std.specs.Option.{option_map}
 use Rattle.opl_line.specs.Line.{is_blank, freed}
 use Rattle.opl_file.specs.Cut.{lines_of}
 use Rattle.map_search.specs.Words.{words_of}
-pub use Rattle.map_search.specs.Words.{has_outer_blank}
 use Rattle.edit_script.specs.declared.line.ScriptLine.{ScriptLine}
 use Rattle.edit_script.specs.declared.line.ScriptLine.TheVariants.{Skipped, Asks}
 use Rattle.edit_script.specs.declared.place.Place.{Place}
 use Rattle.edit_script.specs.declared.place.Place.TheVariants.{Start}
 use Rattle.edit_script.specs.declared.step.Act.{Act}
 use Rattle.edit_script.specs.declared.step.Step.{Step}
-use Rattle.edit_script.specs.Forms.{act_of}
+use Rattle.edit_script.specs.Grammar.{act_of}
 use Rattle.edit_script.specs.Place.{may_stand_at, place_after}
 
 -- nothing but blanks, or a comment
 abbrev pub is_skipped : List ℕ → Bool
 is_skipped line = list_all is_blank line || slice_index line 0 == 35
+
+-- a blank before the first word or behind the last
+abbrev pub has_outer_blank : List ℕ → Bool
+has_outer_blank line = is_blank (slice_index line 0) || is_blank (slice_index line (length line - 1))
 
 -- what the line without its CR is
 unfoldable pub kind_of_line : List ℕ → Option ScriptLine

@@ -1,23 +1,24 @@
 //! The lines of a script: the first word of a line gives its form, and the form reads the words behind it.
-ghost use Rattle.std.specs.Prelude.{◌≡◌, IfOk};
+ghost use Rattle.std.specs.Prelude.{◌≡◌, ◌∷◌, codes, IfOk};
 ghost use Rattle.map_search.specs.Words.{words_of};
 ghost use Rattle.edit_script.specs.Answers.{Gives};
-ghost use Rattle.edit_script.specs.Forms.{download, fetch, add_node, add_way, add_relation, set_tags, shift, place, set_nodes, set_members, split, combine, fuse, mix, parts, choice_form, choice_of, resolve, form_of, read_form, act_of};
+ghost use Rattle.edit_script.specs.Forms.{form_word, IsFormOf};
+ghost use Rattle.edit_script.specs.Grammar.{act_of, by_first, choices};
 ghost use Rattle.edit_script.specs.Order.{IsMeant};
 
 use crate::fault::Unread;
 use crate::items::{
-    alone, area_part, coord_word, file_word, key_word, keys_word, members_word, next_word,
-    one_word, place_words, query_words, refs_word, side_word, tag_keys_word, tags_word,
-    three_words, two_words, wanted_part,
+    alone, area_part, coord_word, first_word, key_word, keys_word, members_word, only_keys,
+    only_name, only_number, place_words, query_words, refs_word, side_word, tag_keys_word,
+    tags_word, two_keys, wanted_part,
 };
-use crate::numbers::{back_word, count_word, editor_word, size_word, streets_word};
 use crate::step::{Act, HistoryStep, Look, MeetStep, Purpose};
 use merge_cases::Choice;
 use opl_text::{Pool, read_escaped};
+use osm_base::read_digits;
 use tool_api::Job;
 
-/// How the words of a line behind the first are read.
+/// How the words of a line behind the first are read. The forms have the order of their words.
 #[derive(Clone, Copy)]
 pub enum Form {
     Answer,
@@ -108,7 +109,7 @@ const FORMS: [(&[u8], Form); 40] = [
 
 /// The form of the lines that begin with the word. It is looked up: six comparisons of words at most.
 fn form_of(word: &[u8]) -> Option<Form>
-    ensures { result ≡ form_of word.now }
+    ensures { IsFormOf word.now result }
 {
     let forms = FORMS.as_slice();
     match forms.binary_search_by_key(&word, |listed| listed.0) {
@@ -118,14 +119,12 @@ fn form_of(word: &[u8]) -> Option<Form>
 }
 
 /// What the words of a line ask for.
-#[tactic(auto, unfolding(crate::specs::Forms::act_of))]
+#[tactic(auto, unfolding(crate::specs::Grammar::act_of))]
 pub fn act_of(pool: &mut Pool, line: &[u8]) -> Result<Act, Unread>
     ensures value { Gives result (act_of (words_of line.now)) }
     ensures meant { IfOk result IsMeant }
 {
-    let Some((word, words)) = next_word(line) else {
-        return Err(Unread::Outside);
-    };
+    let (word, words) = first_word(line)?;
     match form_of(word) {
         None => Err(Unread::Outside),
         Some(form) => read_form(pool, form, words),
@@ -133,40 +132,45 @@ pub fn act_of(pool: &mut Pool, line: &[u8]) -> Result<Act, Unread>
 }
 
 /// What the words behind the first ask for.
+#[tactic(auto, unfolding(crate::specs::Grammar::act_of))]
 fn read_form(pool: &mut Pool, form: Form, words: &[u8]) -> Result<Act, Unread>
-    ensures value { Gives result (read_form form (words_of words.now)) }
+    ensures value { Gives result (act_of (form_word form ∷ words_of words.now)) }
     ensures meant { IfOk result IsMeant }
 {
     match form {
         Form::Answer => alone(Act::Meet(MeetStep::Answer), words),
         Form::Begin => alone(Act::History(HistoryStep::Begin), words),
         Form::Check => alone(Act::Look(Look::Check), words),
-        Form::Combine => combine(pool, words),
+        Form::Combine => Ok(Act::Job(Job::Combine {
+            ways: two_keys(pool, words)?,
+        })),
         Form::Confirm => Ok(Act::File {
-            name: file_word(pool, words)?,
+            name: only_name(pool, words)?,
             purpose: Purpose::Confirm,
         }),
         Form::Conflicts => alone(Act::Look(Look::Conflicts), words),
         Form::Count => alone(Act::Look(Look::Count), words),
         Form::Delete => Ok(Act::Job(Job::Delete {
-            keys: keys_word(pool, one_word(words)?)?,
+            keys: only_keys(pool, words)?,
         })),
         Form::Download => download(pool, words),
         Form::Editor => Ok(Act::Editor {
-            n: editor_word(one_word(words)?)?,
+            n: only_number(words, 4)?,
         }),
         Form::End => alone(Act::History(HistoryStep::End), words),
         Form::Erase => Ok(Act::Job(Job::Erase {
-            keys: keys_word(pool, one_word(words)?)?,
+            keys: only_keys(pool, words)?,
         })),
         Form::Fetch => fetch(pool, words),
         Form::Find => Ok(Act::Look(Look::Find(query_words(pool, words)?))),
-        Form::Fuse => fuse(pool, words),
+        Form::Fuse => Ok(Act::Job(Job::Fuse {
+            nodes: two_keys(pool, words)?,
+        })),
         Form::Generate => Ok(Act::Generate {
-            streets: streets_word(one_word(words)?)?,
+            streets: only_number(words, 100_000)?,
         }),
         Form::Import => Ok(Act::File {
-            name: file_word(pool, words)?,
+            name: only_name(pool, words)?,
             purpose: Purpose::Import,
         }),
         Form::Lost => alone(Act::Meet(MeetStep::Lost), words),
@@ -177,53 +181,49 @@ fn read_form(pool: &mut Pool, form: Form, words: &[u8]) -> Result<Act, Unread>
         Form::Place => place(words),
         Form::Print => alone(Act::Look(Look::Print), words),
         Form::Purge => Ok(Act::Job(Job::Purge {
-            keys: keys_word(pool, one_word(words)?)?,
+            keys: only_keys(pool, words)?,
         })),
         Form::Redo => Ok(Act::History(HistoryStep::Redo {
-            n: count_word(one_word(words)?)?,
+            n: u64::from(only_number(words, 1_000_000)?),
         })),
         Form::Rehearse => alone(Act::Look(Look::Rehearse), words),
         Form::Relation => add_relation(pool, words),
         Form::Resolve => resolve(pool, words),
         Form::Resume => Ok(Act::File {
-            name: file_word(pool, words)?,
+            name: only_name(pool, words)?,
             purpose: Purpose::Resume,
         }),
-        Form::Reverse => Ok(Act::Job(Job::Reverse {
-            way: key_word(one_word(words)?)?,
-        })),
+        Form::Reverse => reverse(words),
         Form::Save => alone(Act::Look(Look::Save), words),
         Form::Send => Ok(Act::Meet(MeetStep::Send {
-            count: size_word(one_word(words)?)?,
+            count: only_number(words, 10_000)?,
         })),
         Form::Serve => Ok(Act::Serve {
-            name: file_word(pool, words)?,
+            name: only_name(pool, words)?,
         }),
         Form::Split => split(pool, words),
         Form::Squeeze => Ok(Act::Job(Job::Squeeze {
-            keys: keys_word(pool, one_word(words)?)?,
+            keys: only_keys(pool, words)?,
         })),
         Form::Tag => set_tags(pool, words),
         Form::Undo => Ok(Act::History(HistoryStep::Undo {
-            n: count_word(one_word(words)?)?,
+            n: u64::from(only_number(words, 1_000_000)?),
         })),
         Form::Upload => Ok(Act::Look(Look::Upload {
-            size: size_word(one_word(words)?)?,
+            size: only_number(words, 10_000)?,
         })),
         Form::Way => add_way(pool, words),
     }
 }
 
 /// `download FILE`, and then `B..` and `F..`, of which each can be left out.
-#[tactic(auto, unfolding(crate::specs::Forms::download))]
+#[tactic(auto, unfolding(crate::specs::Grammar::act_of))]
 fn download(pool: &mut Pool, words: &[u8]) -> Result<Act, Unread>
-    ensures value { Gives result (download (words_of words.now)) }
+    ensures value { Gives result (act_of (codes "download" ∷ words_of words.now)) }
     ensures meant { IfOk result IsMeant }
 {
-    let Some((file, rest)) = next_word(words) else {
-        return Err(Unread::Outside);
-    };
-    let name = read_escaped(pool, file)?;
+    let (word, rest) = first_word(words)?;
+    let name = read_escaped(pool, word)?;
     let (area, rest) = area_part(rest)?;
     let (wanted, rest) = wanted_part(pool, rest)?;
     let purpose = Purpose::Download { area, wanted };
@@ -231,15 +231,13 @@ fn download(pool: &mut Pool, words: &[u8]) -> Result<Act, Unread>
 }
 
 /// `fetch M`, and then `B..` and `F..` as of a `download`.
-#[tactic(auto, unfolding(crate::specs::Forms::fetch))]
+#[tactic(auto, unfolding(crate::specs::Grammar::act_of))]
 fn fetch(pool: &mut Pool, words: &[u8]) -> Result<Act, Unread>
-    ensures value { Gives result (fetch (words_of words.now)) }
+    ensures value { Gives result (act_of (codes "fetch" ∷ words_of words.now)) }
     ensures meant { IfOk result IsMeant }
 {
-    let Some((first, rest)) = next_word(words) else {
-        return Err(Unread::Outside);
-    };
-    let back = back_word(first)?;
+    let (word, rest) = first_word(words)?;
+    let back = read_digits(word, 7).ok_or(Unread::Outside)?;
     let (area, rest) = area_part(rest)?;
     let (wanted, rest) = wanted_part(pool, rest)?;
     let step = MeetStep::Fetch { back, area, wanted };
@@ -247,202 +245,185 @@ fn fetch(pool: &mut Pool, words: &[u8]) -> Result<Act, Unread>
 }
 
 /// `node x.. y.. T..`.
-#[tactic(auto, unfolding(crate::specs::Forms::add_node))]
+#[tactic(auto, unfolding(crate::specs::Grammar::act_of))]
 fn add_node(pool: &mut Pool, words: &[u8]) -> Result<Act, Unread>
-    ensures value { Gives result (add_node (words_of words.now)) }
+    ensures value { Gives result (act_of (codes "node" ∷ words_of words.now)) }
     ensures meant { IfOk result IsMeant }
 {
-    let (x, y, third) = three_words(words)?;
+    let (x, rest) = first_word(words)?;
+    let (y, rest) = first_word(rest)?;
     let at = place_words(x, y)?;
-    let tags = tags_word(pool, third)?;
-    Ok(Act::Job(Job::AddNode { tags, at }))
+    let (word, rest) = first_word(rest)?;
+    let tags = tags_word(pool, word)?;
+    alone(Act::Job(Job::AddNode { tags, at }), rest)
 }
 
 /// `way T.. N..`.
-#[tactic(auto, unfolding(crate::specs::Forms::add_way))]
+#[tactic(auto, unfolding(crate::specs::Grammar::act_of))]
 fn add_way(pool: &mut Pool, words: &[u8]) -> Result<Act, Unread>
-    ensures value { Gives result (add_way (words_of words.now)) }
+    ensures value { Gives result (act_of (codes "way" ∷ words_of words.now)) }
     ensures meant { IfOk result IsMeant }
 {
-    let (first, second) = two_words(words)?;
-    let tags = tags_word(pool, first)?;
-    let refs = refs_word(pool, second)?;
-    Ok(Act::Job(Job::AddWay { tags, refs }))
+    let (word, rest) = first_word(words)?;
+    let tags = tags_word(pool, word)?;
+    let (word, rest) = first_word(rest)?;
+    let refs = refs_word(pool, word)?;
+    alone(Act::Job(Job::AddWay { tags, refs }), rest)
 }
 
 /// `relation T.. M..`.
-#[tactic(auto, unfolding(crate::specs::Forms::add_relation))]
+#[tactic(auto, unfolding(crate::specs::Grammar::act_of))]
 fn add_relation(pool: &mut Pool, words: &[u8]) -> Result<Act, Unread>
-    ensures value { Gives result (add_relation (words_of words.now)) }
+    ensures value { Gives result (act_of (codes "relation" ∷ words_of words.now)) }
     ensures meant { IfOk result IsMeant }
 {
-    let (first, second) = two_words(words)?;
-    let tags = tags_word(pool, first)?;
-    let members = members_word(pool, second)?;
-    Ok(Act::Job(Job::AddRelation { tags, members }))
+    let (word, rest) = first_word(words)?;
+    let tags = tags_word(pool, word)?;
+    let (word, rest) = first_word(rest)?;
+    let members = members_word(pool, word)?;
+    alone(Act::Job(Job::AddRelation { tags, members }), rest)
 }
 
 /// `tag KEYS T..`.
-#[tactic(auto, unfolding(crate::specs::Forms::set_tags))]
+#[tactic(auto, unfolding(crate::specs::Grammar::act_of))]
 fn set_tags(pool: &mut Pool, words: &[u8]) -> Result<Act, Unread>
-    ensures value { Gives result (set_tags (words_of words.now)) }
+    ensures value { Gives result (act_of (codes "tag" ∷ words_of words.now)) }
     ensures meant { IfOk result IsMeant }
 {
-    let (first, second) = two_words(words)?;
-    let keys = keys_word(pool, first)?;
-    let tags = tags_word(pool, second)?;
-    Ok(Act::Job(Job::SetTags { keys, tags }))
+    let (word, rest) = first_word(words)?;
+    let keys = keys_word(pool, word)?;
+    let (word, rest) = first_word(rest)?;
+    let tags = tags_word(pool, word)?;
+    alone(Act::Job(Job::SetTags { keys, tags }), rest)
 }
 
 /// `move KEYS DX DY`.
-#[tactic(auto, unfolding(crate::specs::Forms::shift))]
+#[tactic(auto, unfolding(crate::specs::Grammar::act_of))]
 fn shift(pool: &Pool, words: &[u8]) -> Result<Act, Unread>
-    ensures value { Gives result (shift (words_of words.now)) }
+    ensures value { Gives result (act_of (codes "move" ∷ words_of words.now)) }
     ensures meant { IfOk result IsMeant }
 {
-    let (first, second, third) = three_words(words)?;
-    let keys = keys_word(pool, first)?;
-    let dx = coord_word(second)?;
-    let dy = coord_word(third)?;
-    Ok(Act::Job(Job::Shift { keys, dx, dy }))
+    let (word, rest) = first_word(words)?;
+    let keys = keys_word(pool, word)?;
+    let (word, rest) = first_word(rest)?;
+    let dx = coord_word(word)?;
+    let (word, rest) = first_word(rest)?;
+    let dy = coord_word(word)?;
+    alone(Act::Job(Job::Shift { keys, dx, dy }), rest)
 }
 
 /// `place KEY x.. y..`.
-#[tactic(auto, unfolding(crate::specs::Forms::place))]
+#[tactic(auto, unfolding(crate::specs::Grammar::act_of))]
 fn place(words: &[u8]) -> Result<Act, Unread>
-    ensures value { Gives result (place (words_of words.now)) }
+    ensures value { Gives result (act_of (codes "place" ∷ words_of words.now)) }
     ensures meant { IfOk result IsMeant }
 {
-    let (first, x, y) = three_words(words)?;
-    let key = key_word(first)?;
+    let (word, rest) = first_word(words)?;
+    let key = key_word(word)?;
+    let (x, rest) = first_word(rest)?;
+    let (y, rest) = first_word(rest)?;
     let at = place_words(x, y)?;
-    Ok(Act::Job(Job::Place { key, at }))
+    alone(Act::Job(Job::Place { key, at }), rest)
 }
 
 /// `nodes KEY N..`.
-#[tactic(auto, unfolding(crate::specs::Forms::set_nodes))]
+#[tactic(auto, unfolding(crate::specs::Grammar::act_of))]
 fn set_nodes(pool: &mut Pool, words: &[u8]) -> Result<Act, Unread>
-    ensures value { Gives result (set_nodes (words_of words.now)) }
+    ensures value { Gives result (act_of (codes "nodes" ∷ words_of words.now)) }
     ensures meant { IfOk result IsMeant }
 {
-    let (first, second) = two_words(words)?;
-    let key = key_word(first)?;
-    let refs = refs_word(pool, second)?;
-    Ok(Act::Job(Job::SetNodes { key, refs }))
+    let (word, rest) = first_word(words)?;
+    let key = key_word(word)?;
+    let (word, rest) = first_word(rest)?;
+    let refs = refs_word(pool, word)?;
+    alone(Act::Job(Job::SetNodes { key, refs }), rest)
 }
 
 /// `members KEY M..`.
-#[tactic(auto, unfolding(crate::specs::Forms::set_members))]
+#[tactic(auto, unfolding(crate::specs::Grammar::act_of))]
 fn set_members(pool: &mut Pool, words: &[u8]) -> Result<Act, Unread>
-    ensures value { Gives result (set_members (words_of words.now)) }
+    ensures value { Gives result (act_of (codes "members" ∷ words_of words.now)) }
     ensures meant { IfOk result IsMeant }
 {
-    let (first, second) = two_words(words)?;
-    let key = key_word(first)?;
-    let members = members_word(pool, second)?;
-    Ok(Act::Job(Job::SetMembers { key, members }))
+    let (word, rest) = first_word(words)?;
+    let key = key_word(word)?;
+    let (word, rest) = first_word(rest)?;
+    let members = members_word(pool, word)?;
+    alone(Act::Job(Job::SetMembers { key, members }), rest)
+}
+
+/// `reverse KEY`.
+#[tactic(auto, unfolding(crate::specs::Grammar::act_of))]
+fn reverse(words: &[u8]) -> Result<Act, Unread>
+    ensures value { Gives result (act_of (codes "reverse" ∷ words_of words.now)) }
+    ensures meant { IfOk result IsMeant }
+{
+    let (word, rest) = first_word(words)?;
+    let way = key_word(word)?;
+    alone(Act::Job(Job::Reverse { way }), rest)
+}
+
+/// `split KEY KEYS`.
+#[tactic(auto, unfolding(crate::specs::Grammar::act_of))]
+fn split(pool: &Pool, words: &[u8]) -> Result<Act, Unread>
+    ensures value { Gives result (act_of (codes "split" ∷ words_of words.now)) }
+    ensures meant { IfOk result IsMeant }
+{
+    let (word, rest) = first_word(words)?;
+    let way = key_word(word)?;
+    let (word, rest) = first_word(rest)?;
+    let nodes = keys_word(pool, word)?;
+    alone(Act::Job(Job::Split { way, nodes }), rest)
 }
 
 /// `resolve KEY` and a choice.
-#[tactic(auto, unfolding(crate::specs::Forms::resolve))]
+#[tactic(auto, unfolding(crate::specs::Grammar::act_of))]
 fn resolve(pool: &mut Pool, words: &[u8]) -> Result<Act, Unread>
-    ensures value { Gives result (resolve (words_of words.now)) }
+    ensures value { Gives result (act_of (codes "resolve" ∷ words_of words.now)) }
     ensures meant { IfOk result IsMeant }
 {
-    let Some((first, rest)) = next_word(words) else {
-        return Err(Unread::Outside);
-    };
-    let key = key_word(first)?;
+    let (word, rest) = first_word(words)?;
+    let key = key_word(word)?;
     let choice = choice_of(pool, rest)?;
     Ok(Act::Job(Job::Resolve { key, choice }))
 }
 
 /// What the words choose.
 fn choice_of(pool: &mut Pool, words: &[u8]) -> Result<Choice, Unread>
-    ensures { Gives result (choice_of (words_of words.now)) }
+    ensures { Gives result (by_first choices (words_of words.now)) }
 {
-    match next_word(words) {
-        None => Err(Unread::Outside),
-        Some((first, rest)) => choice_form(pool, first, rest),
-    }
-}
-
-/// A choice by its first word.
-#[tactic(auto, unfolding(crate::specs::Forms::choice_form))]
-fn choice_form(pool: &mut Pool, word: &[u8], words: &[u8]) -> Result<Choice, Unread>
-    ensures { Gives result (choice_form word.now (words_of words.now)) }
-{
-    if word == b"mine".as_slice() {
-        alone(Choice::Mine, words)
-    } else if word == b"theirs".as_slice() {
-        alone(Choice::Theirs, words)
-    } else if word == b"mix".as_slice() {
-        mix(words)
-    } else if word == b"parts".as_slice() {
-        parts(pool, words)
+    let (how, rest) = first_word(words)?;
+    if how == b"mine".as_slice() {
+        alone(Choice::Mine, rest)
+    } else if how == b"theirs".as_slice() {
+        alone(Choice::Theirs, rest)
+    } else if how == b"mix".as_slice() {
+        mix(rest)
+    } else if how == b"parts".as_slice() {
+        parts(pool, rest)
     } else {
         Err(Unread::Outside)
     }
 }
 
-/// `mix S S`.
-#[tactic(auto, unfolding(crate::specs::Forms::mix))]
+/// `mix S S`: whose tags, then whose body.
 fn mix(words: &[u8]) -> Result<Choice, Unread>
-    ensures { Gives result (mix (words_of words.now)) }
+    ensures { Gives result (by_first choices (codes "mix" ∷ words_of words.now)) }
 {
-    let (first, second) = two_words(words)?;
-    let tags = side_word(first)?;
-    let body = side_word(second)?;
-    Ok(Choice::Mix { tags, body })
+    let (word, rest) = first_word(words)?;
+    let tags = side_word(word)?;
+    let (word, rest) = first_word(rest)?;
+    let body = side_word(word)?;
+    alone(Choice::Mix { tags, body }, rest)
 }
 
-/// `parts S K..`.
-#[tactic(auto, unfolding(crate::specs::Forms::parts))]
+/// `parts S K..`: whose body, then the keys of the tags that are theirs.
 fn parts(pool: &mut Pool, words: &[u8]) -> Result<Choice, Unread>
-    ensures { Gives result (parts (words_of words.now)) }
+    ensures { Gives result (by_first choices (codes "parts" ∷ words_of words.now)) }
 {
-    let (first, second) = two_words(words)?;
-    let body = side_word(first)?;
-    let theirs = tag_keys_word(pool, second)?;
-    Ok(Choice::Parts { body, theirs })
-}
-
-/// `split KEY KEYS`.
-#[tactic(auto, unfolding(crate::specs::Forms::split))]
-fn split(pool: &Pool, words: &[u8]) -> Result<Act, Unread>
-    ensures value { Gives result (split (words_of words.now)) }
-    ensures meant { IfOk result IsMeant }
-{
-    let (first, second) = two_words(words)?;
-    let way = key_word(first)?;
-    let nodes = keys_word(pool, second)?;
-    Ok(Act::Job(Job::Split { way, nodes }))
-}
-
-/// `combine KEYS`, at least two.
-#[tactic(auto, unfolding(crate::specs::Forms::combine))]
-fn combine(pool: &Pool, words: &[u8]) -> Result<Act, Unread>
-    ensures value { Gives result (combine (words_of words.now)) }
-    ensures meant { IfOk result IsMeant }
-{
-    let first = one_word(words)?;
-    let ways = keys_word(pool, first)?;
-    if ways.len() < 2 {
-        return Err(Unread::Outside);
-    }
-    Ok(Act::Job(Job::Combine { ways }))
-}
-
-/// `fuse KEYS`, at least two.
-#[tactic(auto, unfolding(crate::specs::Forms::fuse))]
-fn fuse(pool: &Pool, words: &[u8]) -> Result<Act, Unread>
-    ensures value { Gives result (fuse (words_of words.now)) }
-    ensures meant { IfOk result IsMeant }
-{
-    let first = one_word(words)?;
-    let nodes = keys_word(pool, first)?;
-    if nodes.len() < 2 {
-        return Err(Unread::Outside);
-    }
-    Ok(Act::Job(Job::Fuse { nodes }))
+    let (word, rest) = first_word(words)?;
+    let body = side_word(word)?;
+    let (word, rest) = first_word(rest)?;
+    let theirs = tag_keys_word(pool, word)?;
+    alone(Choice::Parts { body, theirs }, rest)
 }

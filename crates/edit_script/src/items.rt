@@ -1,37 +1,32 @@
 //! The words of a line, and what each of them spells.
-ghost use Rattle.std.specs.Prelude.{◌≡◌, ◌∷◌, ◌<◌, ◌≤◌, ◌==◌, ◌||◌, [], length, Some, MatchOption, MatchResult, IfOk, false};
+ghost use Rattle.std.specs.Prelude.{◌≡◌, ◌∷◌, ◌≤◌, ◌==◌, ◌||◌, length, Some, MatchResult, IfOk};
 ghost use Rattle.map_search.specs.Query.{depth};
 ghost use Rattle.map_search.specs.Reading.{query_of_words};
-ghost use Rattle.map_search.specs.Words.{words_of, without_blanks, has_outer_blank};
+ghost use Rattle.map_search.specs.Words.{words_of};
 ghost use Rattle.opl_line.specs.Cut.{split};
 ghost use Rattle.opl_line.specs.Field.{is};
-ghost use Rattle.opl_line.specs.Line.{is_blank};
+ghost use Rattle.opl_text.specs.Text.{unescaped};
 ghost use Rattle.osm_base.specs.Number.{key_text};
 ghost use Rattle.osm_base.specs.Coord.{coord_text};
 ghost use Rattle.merge_cases.specs.Keys.{is_listed};
-ghost use Rattle.edit_script.specs.Answers.{Gives, IsRefused};
-ghost use Rattle.edit_script.specs.Items.{alone, one_word, two_words, three_words, file_word, four_texts, optional, has_location, keys_word, tags_word, refs_word, members_word, place_texts, place_words, box_between, area_text, wanted_text, side_word, texts_of, tag_keys_of, tag_keys_word};
+ghost use Rattle.edit_script.specs.Answers.{Gives, IsOver, IsRefused};
+ghost use Rattle.edit_script.specs.Grammar.{two_keys, word};
+ghost use Rattle.edit_script.specs.Items.{alone, four_texts, optional, has_location, keys_word, tags_word, refs_word, members_word, number_word, place_texts, place_words, box_between, area_text, wanted_text, side_word, texts_of, tag_keys_of, tag_keys_word};
 
 use crate::fault::Unread;
-use map_search::{Query, read_query};
+use map_search::{Query, next_word, read_query};
 use merge_cases::{Side, TagKeys};
-use opl_line::{cut, is_blank, read_members, read_refs, read_tags};
+use opl_line::{cut, read_members, read_refs, read_tags};
 use opl_text::{Pool, read_escaped};
-use osm_base::{Area, Coord, Key, Keys, Members, Refs, Tags, Text, coord_of, read_coord, read_key};
+use osm_base::{
+    Area, Coord, Key, Keys, Members, Refs, Tags, Text, coord_of, read_coord, read_digits, read_key,
+};
 
-/// The first word of the bytes, and what stands behind it.
-pub fn next_word(bytes: &[u8]) -> Option<(&[u8], &[u8])>
-    ensures { MatchOption result (words_of bytes.now ≡ []) (λ found. words_of bytes.now ≡ found.0.now ∷ words_of found.1.now) }
+/// The first word, and what stands behind it.
+pub fn first_word(words: &[u8]) -> Result<(&[u8], &[u8]), Unread>
+    ensures { MatchResult result (λ found. words_of words.now ≡ found.0.now ∷ words_of found.1.now) (IsOver (words_of words.now)) }
 {
-    let rest = without_blanks(bytes);
-    if rest.is_empty() {
-        return None;
-    }
-    let (word, after) = cut(rest, b' ', b'\t');
-    match after {
-        None => Some((word, &[])),
-        Some(behind) => Some((word, behind)),
-    }
+    next_word(words).ok_or(Unread::Outside)
 }
 
 /// The thing, where no word is left.
@@ -45,61 +40,48 @@ pub fn alone<T: Drop>(thing: T, words: &[u8]) -> Result<T, Unread>
     }
 }
 
-/// The word, where there is one and no more.
-pub fn one_word(words: &[u8]) -> Result<&[u8], Unread>
-    ensures { MatchResult result (λ first. one_word (words_of words.now) ≡ Some first.now) (IsRefused (one_word (words_of words.now))) }
-{
-    let Some((first, rest)) = next_word(words) else {
-        return Err(Unread::Outside);
-    };
-    match next_word(rest) {
-        None => Ok(first),
-        Some(_) => Err(Unread::Outside),
-    }
-}
-
-/// The words, where there are two and no more.
-pub fn two_words(words: &[u8]) -> Result<(&[u8], &[u8]), Unread>
-    ensures { MatchResult result (λ two. two_words (words_of words.now) ≡ Some (two.0.now, two.1.now)) (IsRefused (two_words (words_of words.now))) }
-{
-    let Some((first, rest)) = next_word(words) else {
-        return Err(Unread::Outside);
-    };
-    let Some((second, rest)) = next_word(rest) else {
-        return Err(Unread::Outside);
-    };
-    match next_word(rest) {
-        None => Ok((first, second)),
-        Some(_) => Err(Unread::Outside),
-    }
-}
-
-/// The words, where there are three and no more.
-pub fn three_words(words: &[u8]) -> Result<(&[u8], &[u8], &[u8]), Unread>
-    ensures { MatchResult result (λ three. three_words (words_of words.now) ≡ Some (three.0.now, three.1.now, three.2.now)) (IsRefused (three_words (words_of words.now))) }
-{
-    let Some((first, rest)) = next_word(words) else {
-        return Err(Unread::Outside);
-    };
-    let Some((second, rest)) = next_word(rest) else {
-        return Err(Unread::Outside);
-    };
-    let Some((third, rest)) = next_word(rest) else {
-        return Err(Unread::Outside);
-    };
-    match next_word(rest) {
-        None => Ok((first, second, third)),
-        Some(_) => Err(Unread::Outside),
-    }
-}
-
 /// The name of a file, alone.
-#[tactic(auto, unfolding(crate::specs::Items::file_word))]
-pub fn file_word(pool: &mut Pool, words: &[u8]) -> Result<Text, Unread>
-    ensures { Gives result (file_word (words_of words.now)) }
+pub fn only_name(pool: &mut Pool, words: &[u8]) -> Result<Text, Unread>
+    ensures { Gives result (word unescaped alone (words_of words.now)) }
 {
-    let file = one_word(words)?;
-    Ok(read_escaped(pool, file)?)
+    let (word, rest) = first_word(words)?;
+    alone(read_escaped(pool, word)?, rest)
+}
+
+/// One or more keys, alone.
+pub fn only_keys(pool: &Pool, words: &[u8]) -> Result<Keys, Unread>
+    ensures { Gives result (word keys_word alone (words_of words.now)) }
+{
+    let (word, rest) = first_word(words)?;
+    alone(keys_word(pool, word)?, rest)
+}
+
+/// Two or more keys, alone.
+#[tactic(auto, unfolding(crate::specs::Grammar::two_keys))]
+pub fn two_keys(pool: &Pool, words: &[u8]) -> Result<Keys, Unread>
+    ensures value { Gives result (word two_keys alone (words_of words.now)) }
+    ensures two { IfOk result (λ keys. 2 ≤ length keys) }
+{
+    let (word, rest) = first_word(words)?;
+    let keys = keys_word(pool, word)?;
+    if keys.len() < 2 {
+        return Err(Unread::Outside);
+    }
+    alone(keys, rest)
+}
+
+/// A number from 1 to the most, alone.
+#[tactic(auto, unfolding(crate::specs::Items::number_word))]
+pub fn only_number(words: &[u8], most: u32) -> Result<u32, Unread>
+    ensures value { Gives result (word (number_word most) alone (words_of words.now)) }
+    ensures some { IfOk result (λ n. 1 ≤ n) }
+    ensures fits { IfOk result (λ n. n ≤ most) }
+{
+    let (word, rest) = first_word(words)?;
+    match read_digits(word, 7) {
+        Some(n) if 1 <= n && n <= u64::from(most) => alone(n as u32, rest),
+        _ => Err(Unread::Outside),
+    }
 }
 
 /// The texts between commas, where there are four and no more.
@@ -122,30 +104,6 @@ fn four_texts(text: &[u8]) -> Result<(&[u8], &[u8], &[u8], &[u8]), Unread>
         (fourth, None) => Ok((first, second, third, fourth)),
         (_, Some(_)) => Err(Unread::Outside),
     }
-}
-
-/// What stands behind the blanks at the front.
-fn without_blanks(bytes: &[u8]) -> &[u8]
-    ensures { result.now ≡ without_blanks bytes.now }
-{
-    let mut rest = bytes;
-    while !rest.is_empty() && is_blank(rest[0]) {
-        rest = rest.split_at(1).1;
-    }
-    rest
-}
-
-/// The bytes without the blanks at both of their ends, which are in no word.
-#[tactic(auto, using(crate::proofs::Words::words_before_blank, crate::proofs::Words::bare_front))]
-fn without_outer_blanks(bytes: &[u8]) -> &[u8]
-    ensures words { words_of result.now ≡ words_of bytes.now }
-    ensures bare { has_outer_blank result.now ≡ false }
-{
-    let mut rest = without_blanks(bytes);
-    while !rest.is_empty() && is_blank(rest[rest.len() - 1]) {
-        rest = rest.split_at(rest.len() - 1).0;
-    }
-    rest
 }
 
 pub fn key_word(word: &[u8]) -> Result<Key, Unread>
@@ -323,12 +281,11 @@ pub fn side_word(word: &[u8]) -> Result<Side, Unread>
 }
 
 /// The query that all of the words are.
-#[tactic(auto, unfolding(map_search::specs::Reading::query_of))]
 pub fn query_words(pool: &mut Pool, words: &[u8]) -> Result<Query, Unread>
     ensures value { Gives result (query_of_words (words_of words.now)) }
     ensures shallow { IfOk result (λ query. depth query ≤ 1100) }
 {
-    Ok(read_query(pool, without_outer_blanks(words))?)
+    Ok(read_query(pool, words)?)
 }
 
 /// Whether the text may not stand behind these keys: it is empty, or one of them.

@@ -9,13 +9,12 @@
 //! of a conflict, and on `tool_api` for jobs and their refusals.
 //!
 //! The first word of a line gives its form, and the form says how the words behind it are read. A
-//! new line wants a variant of `Form` with its word in `FORMS`, and in `all_forms` of
-//! `specs/Forms`, and its line in `read_form` of both; where it has several words behind the first, a
-//! definition there and a function of that name in `forms.rt`; its line in `all_lines` of
-//! `specs/Grammar`, which says what it asks for in one place, and in `all_read` of `proofs/Told`;
-//! and an example in `proofs/Examples` or `MeetingExamples`. `act_is_told` and `refusal_is_told` are
-//! the laws that make the grammar, and the texts of `specs/Refused`, all that has to be known. A word that can be left out begins with a letter of its own, and is read by
-//! `optional` of `specs/Items`.
+//! new line wants a variant of `Form` with its word in `FORMS` and its arm in `read_form`
+//! (`forms.rt`), in the order of the words; its line in `all_lines` of `specs/Grammar`, which says
+//! what it asks for; and an example in `proofs/Examples` or `MeetingExamples`. A line with several
+//! words behind the first has a function in `forms.rt`. A word that can be left out begins with a
+//! letter of its own, and is read by `optional` of `specs/Items`. A new refusal has its number and
+//! what it carries in `refused` or `job_refused` of `specs/Reply`, and its arm in `reply.rt`.
 //!
 //! What a line asks for is an `Act`, by families: a job, a step on the history, a look at the table,
 //! a file with what it is read for, and what only meetings have.
@@ -24,17 +23,14 @@
 mod fault;
 mod forms;
 mod items;
-mod law;
 mod line;
-mod numbers;
 mod place;
 mod reply;
 mod script;
 mod step;
 
 pub use fault::{ScriptFault, Unread};
-pub use items::{key_word, next_word, three_words, two_words};
-pub use law::{act_is_told, refusal_is_told};
+pub use items::{alone, first_word, key_word};
 pub use line::{has_outer_blank, is_skipped, next_line};
 pub use place::is_meeting;
 pub use reply::{StepRefusal, StepReply, write_reply};

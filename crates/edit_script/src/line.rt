@@ -3,10 +3,9 @@ ghost use Rattle.std.specs.Prelude.{◌≡◌, ◌∷◌, ◌<◌, length, false
 ghost use Rattle.std.specs.List.{list_all};
 ghost use Rattle.opl_line.specs.Line.{is_blank};
 ghost use Rattle.opl_file.specs.Cut.{lines_of};
-ghost use Rattle.map_search.specs.Words.{has_outer_blank};
 ghost use Rattle.edit_script.specs.Answers.{Gives};
 ghost use Rattle.edit_script.specs.Order.{IsMeantLine};
-ghost use Rattle.edit_script.specs.Script.{is_skipped, kind_of_line, line_of};
+ghost use Rattle.edit_script.specs.Script.{has_outer_blank, is_skipped, kind_of_line, line_of};
 
 use crate::fault::Unread;
 use crate::forms::act_of;

@@ -3,7 +3,7 @@ ghost use Rattle.std.specs.Prelude.{◌≡◌, ◌++◌, ◌∷◌, OnOk, OnErr,
 ghost use Rattle.std.specs.List.{flat_map};
 ghost use Rattle.osm_base.specs.Extends.{Extends};
 ghost use Rattle.osm_base.specs.Number.{key_written};
-ghost use Rattle.edit_script.specs.Reply.{number_of, number_behind, key_behind, text_behind, keys_behind, job_carried, fault_text, carried, refusal_text, reply_text, reply_line};
+ghost use Rattle.edit_script.specs.Reply.{number_behind, key_behind, text_behind, keys_behind, fault_text, job_refused, refused, reply_text, reply_line};
 
 use opl_file::FileFault;
 use opl_text::write_escaped;
@@ -61,33 +61,6 @@ pub enum StepReply {
     Skipped,
 }
 
-impl StepRefusal {
-    /// The number by which the refusal is told to a user. It never changes.
-    pub fn number(&self) -> u8
-        ensures { result ≡ number_of self.now }
-    {
-        match self {
-            StepRefusal::Tool(refusal) => refusal.number(),
-            StepRefusal::NoFile => 19,
-            StepRefusal::BadFile(_) => 20,
-            StepRefusal::NothingToUndo => 21,
-            StepRefusal::NothingToRedo => 22,
-            StepRefusal::OpenConflicts { .. } => 23,
-            StepRefusal::IncompleteRef { .. } => 24,
-            StepRefusal::CyclicNew(_) => 25,
-            StepRefusal::WrongAnswer(_) => 26,
-            StepRefusal::IdTaken(_) => 27,
-            StepRefusal::BadSaved(_) => 30,
-            StepRefusal::Unsound(_) => 31,
-            StepRefusal::BadWorld(_) => 34,
-            StepRefusal::NoState(_) => 35,
-            StepRefusal::NotWaiting => 36,
-            StepRefusal::Waiting => 37,
-            StepRefusal::VersionEnd(_) => 38,
-        }
-    }
-}
-
 /// Appends the reply line of the step in that line of the script, with its LF.
 ///
 /// # Errors
@@ -113,7 +86,10 @@ fn write_text(reply: &StepReply, out: &mut Vec<u8>) -> Result<(), AllocError>
             out.extend_from_slice(b" ok")?;
             write_keys_behind(made.as_slice(), out)
         }
-        StepReply::Refused(why) => write_refusal(why, out),
+        StepReply::Refused(why) => {
+            out.extend_from_slice(b" refused ")?;
+            write_refusal(why, out)
+        }
         StepReply::Skipped => {
             out.extend_from_slice(b" skipped")?;
             Ok(())
@@ -156,15 +132,6 @@ fn write_key_behind(key: Key, out: &mut Vec<u8>) -> Result<(), AllocError>
 }
 
 #[tactic(auto, using(osm_base::proofs::ExtendLaws::extends_steps))]
-fn write_two_keys(first: Key, second: Key, out: &mut Vec<u8>) -> Result<(), AllocError>
-    ensures written { OnOk result (out.new.items ≡ out.old.items ++ (key_behind first ++ key_behind second)) }
-    ensures kept { OnErr result (Extends out.old.items out.new.items) }
-{
-    write_key_behind(first, out)?;
-    write_key_behind(second, out)
-}
-
-#[tactic(auto, using(osm_base::proofs::ExtendLaws::extends_steps))]
 fn write_number_behind(number: u64, out: &mut Vec<u8>) -> Result<(), AllocError>
     ensures written { OnOk result (out.new.items ≡ out.old.items ++ number_behind number) }
     ensures kept { OnErr result (Extends out.old.items out.new.items) }
@@ -183,74 +150,114 @@ fn write_text_behind(text: &Text, out: &mut Vec<u8>) -> Result<(), AllocError>
 }
 
 #[tactic(auto, using(osm_base::proofs::ExtendLaws::extends_steps))]
-fn write_refusal(why: &StepRefusal, out: &mut Vec<u8>) -> Result<(), AllocError>
-    ensures written { OnOk result (out.new.items ≡ out.old.items ++ refusal_text why.now) }
+fn write_bytes(bytes: &[u8], out: &mut Vec<u8>) -> Result<(), AllocError>
+    ensures written { OnOk result (out.new.items ≡ out.old.items ++ bytes.now) }
     ensures kept { OnErr result (Extends out.old.items out.new.items) }
 {
-    write_numbered(b" refused ", u64::from(why.number()), out)?;
-    write_carried(why, out)
+    out.extend_from_slice(bytes)?;
+    Ok(())
 }
 
-/// Appends what the refusal carries.
 #[tactic(auto, using(osm_base::proofs::ExtendLaws::extends_steps))]
-fn write_carried(why: &StepRefusal, out: &mut Vec<u8>) -> Result<(), AllocError>
-    ensures written { OnOk result (out.new.items ≡ out.old.items ++ carried why.now) }
+fn write_with_key(number: &[u8], key: Key, out: &mut Vec<u8>) -> Result<(), AllocError>
+    ensures written { OnOk result (out.new.items ≡ out.old.items ++ (number.now ++ key_behind key)) }
+    ensures kept { OnErr result (Extends out.old.items out.new.items) }
+{
+    out.extend_from_slice(number)?;
+    write_key_behind(key, out)
+}
+
+#[tactic(auto, using(osm_base::proofs::ExtendLaws::extends_steps))]
+fn write_with_text(number: &[u8], text: &Text, out: &mut Vec<u8>) -> Result<(), AllocError>
+    ensures written { OnOk result (out.new.items ≡ out.old.items ++ (number.now ++ text_behind text.now)) }
+    ensures kept { OnErr result (Extends out.old.items out.new.items) }
+{
+    out.extend_from_slice(number)?;
+    write_text_behind(text, out)
+}
+
+#[tactic(auto, using(osm_base::proofs::ExtendLaws::extends_steps))]
+fn write_with_number(number: &[u8], carried: u64, out: &mut Vec<u8>) -> Result<(), AllocError>
+    ensures written { OnOk result (out.new.items ≡ out.old.items ++ (number.now ++ number_behind carried)) }
+    ensures kept { OnErr result (Extends out.old.items out.new.items) }
+{
+    out.extend_from_slice(number)?;
+    write_number_behind(carried, out)
+}
+
+/// Appends the number of the refusal, which never changes, and what it carries.
+#[tactic(auto, using(osm_base::proofs::ExtendLaws::extends_steps))]
+fn write_refusal(why: &StepRefusal, out: &mut Vec<u8>) -> Result<(), AllocError>
+    ensures written { OnOk result (out.new.items ≡ out.old.items ++ refused why.now) }
     ensures kept { OnErr result (Extends out.old.items out.new.items) }
 {
     match why {
         StepRefusal::Tool(refusal) => write_job_refusal(refusal, out),
-        StepRefusal::BadFile(fault) => write_fault(*fault, out),
+        StepRefusal::NoFile => write_bytes(b"19", out),
+        StepRefusal::BadFile(fault) => {
+            write_bytes(b"20", out)?;
+            write_fault(*fault, out)
+        }
+        StepRefusal::NothingToUndo => write_bytes(b"21", out),
+        StepRefusal::NothingToRedo => write_bytes(b"22", out),
         StepRefusal::OpenConflicts { count, first } => {
-            write_number_behind(*count, out)?;
+            write_with_number(b"23", *count, out)?;
             write_key_behind(*first, out)
         }
-        StepRefusal::IncompleteRef { key, of } => write_two_keys(*key, *of, out),
-        StepRefusal::CyclicNew(keys) => write_keys_behind(keys.as_slice(), out),
-        StepRefusal::WrongAnswer(number)
-        | StepRefusal::BadSaved(number)
-        | StepRefusal::NoState(number) => write_number_behind(*number, out),
-        StepRefusal::IdTaken(key)
-        | StepRefusal::Unsound(key)
-        | StepRefusal::BadWorld(key)
-        | StepRefusal::VersionEnd(key) => write_key_behind(*key, out),
-        StepRefusal::NoFile
-        | StepRefusal::NothingToUndo
-        | StepRefusal::NothingToRedo
-        | StepRefusal::NotWaiting
-        | StepRefusal::Waiting => Ok(()),
+        StepRefusal::IncompleteRef { key, of } => {
+            write_with_key(b"24", *key, out)?;
+            write_key_behind(*of, out)
+        }
+        StepRefusal::CyclicNew(keys) => {
+            write_bytes(b"25", out)?;
+            write_keys_behind(keys.as_slice(), out)
+        }
+        StepRefusal::WrongAnswer(number) => write_with_number(b"26", *number, out),
+        StepRefusal::IdTaken(key) => write_with_key(b"27", *key, out),
+        StepRefusal::BadSaved(number) => write_with_number(b"30", *number, out),
+        StepRefusal::Unsound(key) => write_with_key(b"31", *key, out),
+        StepRefusal::BadWorld(key) => write_with_key(b"34", *key, out),
+        StepRefusal::NoState(number) => write_with_number(b"35", *number, out),
+        StepRefusal::NotWaiting => write_bytes(b"36", out),
+        StepRefusal::Waiting => write_bytes(b"37", out),
+        StepRefusal::VersionEnd(key) => write_with_key(b"38", *key, out),
     }
 }
 
-/// Appends the objects that the refusal of a job is about, the key of the tag, or the object and its version.
+/// Appends the number of the refusal of a job, and the objects that it is about, the key of the tag, or the object and its version.
 #[tactic(auto, using(osm_base::proofs::ExtendLaws::extends_steps))]
 fn write_job_refusal(refusal: &Refusal, out: &mut Vec<u8>) -> Result<(), AllocError>
-    ensures written { OnOk result (out.new.items ≡ out.old.items ++ job_carried refusal.now) }
+    ensures written { OnOk result (out.new.items ≡ out.old.items ++ job_refused refusal.now) }
     ensures kept { OnErr result (Extends out.old.items out.new.items) }
 {
     match refusal {
-        Refusal::Absent(key)
-        | Refusal::IncompleteObject(key)
-        | Refusal::DeletedObject(key)
-        | Refusal::InConflict(key)
-        | Refusal::WrongKind(key)
-        | Refusal::Unfit(key)
-        | Refusal::OutOfRange(key)
-        | Refusal::NamedTwice(key)
-        | Refusal::NotInWay(key)
-        | Refusal::NothingToSplit(key)
-        | Refusal::NotJoined(key)
-        | Refusal::MemberClash(key)
-        | Refusal::NoConflict(key)
-        | Refusal::NotMixed(key)
-        | Refusal::NoFinding(key)
-        | Refusal::NotSamePlace(key) => write_key_behind(*key, out),
-        Refusal::InUse(key, user) => write_two_keys(*key, *user, out),
-        Refusal::TagClash(text) | Refusal::NotClashing(text) => write_text_behind(text, out),
+        Refusal::Absent(key) => write_with_key(b"1", *key, out),
+        Refusal::IncompleteObject(key) => write_with_key(b"2", *key, out),
+        Refusal::DeletedObject(key) => write_with_key(b"3", *key, out),
+        Refusal::InConflict(key) => write_with_key(b"4", *key, out),
+        Refusal::InUse(key, user) => {
+            write_with_key(b"5", *key, out)?;
+            write_key_behind(*user, out)
+        }
+        Refusal::WrongKind(key) => write_with_key(b"6", *key, out),
+        Refusal::Unfit(key) => write_with_key(b"7", *key, out),
+        Refusal::OutOfRange(key) => write_with_key(b"8", *key, out),
+        Refusal::NamedTwice(key) => write_with_key(b"9", *key, out),
+        Refusal::NotInWay(key) => write_with_key(b"10", *key, out),
+        Refusal::NothingToSplit(key) => write_with_key(b"11", *key, out),
+        Refusal::NotJoined(key) => write_with_key(b"12", *key, out),
+        Refusal::TagClash(text) => write_with_text(b"13", text, out),
+        Refusal::MemberClash(key) => write_with_key(b"14", *key, out),
+        Refusal::NoConflict(key) => write_with_key(b"15", *key, out),
+        Refusal::NotMixed(key) => write_with_key(b"16", *key, out),
         Refusal::VersionClash(key, version) => {
-            write_key_behind(*key, out)?;
+            write_with_key(b"17", *key, out)?;
             write_number_behind(u64::from(*version), out)
         }
-        Refusal::TableFull => Ok(()),
+        Refusal::TableFull => write_bytes(b"18", out),
+        Refusal::NotClashing(text) => write_with_text(b"29", text, out),
+        Refusal::NoFinding(key) => write_with_key(b"32", *key, out),
+        Refusal::NotSamePlace(key) => write_with_key(b"33", *key, out),
     }
 }
 

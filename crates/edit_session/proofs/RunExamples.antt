@@ -54,7 +54,7 @@ use Rattle.upload_order.specs.Kinds.{held_of}
 use Rattle.upload_order.specs.Refused as plans
 use Rattle.upload_order.specs.Run.{run_from, Ended, AreFresh}
 use Rattle.upload_order.specs.World.{World, WorldEntry, content_at, content_in, refusal, stands, Alone, Holds, IsEdited, IsSoundWorld}
-use Rattle.edit_script.specs.Forms.{act_of, add_node, download, form_of, place}
+use Rattle.edit_script.specs.Grammar.{act_of}
 use Rattle.edit_script.specs.Items.{keys_word, number_word, place_texts, place_words, tags_word}
 use Rattle.edit_script.specs.Script.{kind_of_line, steps_of}
 use Rattle.edit_script.specs.declared.step.Act.TheVariants.{File, Job, Look, Meet}
@@ -150,7 +150,7 @@ steps =
     ∷ []
 
 script_read : steps_of script ≡ Ok steps
-unfolding kind_of_line act_of form_of download place add_node keys_word number_word place_words place_texts tags_word tags_text unescaped is_utf8 chars encode key_text id_text kind_letter number_text coord_text size_text whole_text pointed_text part_text place_at
+unfolding kind_of_line act_of keys_word number_word place_words place_texts tags_word tags_text unescaped is_utf8 chars encode key_text id_text kind_letter number_text coord_text size_text whole_text pointed_text part_text place_at
 script_read = refl
 
 abbrev stood : Key → Content → OplObject

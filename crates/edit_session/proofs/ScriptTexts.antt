@@ -1,12 +1,13 @@
 -- What the lines of a script bring.
-use Rattle.std.proofs.Common.{◌≡◌, ℕ, ◌+◌, Bool, true, false, cond, T, List, [], ◌∷◌, ◌++◌, length, nat_lt, Option, Some, None, Result, Ok, Err, refl, sym, subst, arith}
+use Rattle.std.proofs.Common.{◌≡◌, ℕ, ◌+◌, Bool, true, false, cond, T, List, [], ◌∷◌, ◌++◌, length, nat_lt, Option, Some, None, Result, Ok, Err, refl, sym, subst, arith, rules}
 use Rattle.std.specs.Prelude.{◌==◌, is_some}
 use Rattle.std.specs.List.{AllByRecursion}
 use Rattle.std.specs.Option.{option_map}
+use Rattle.std.specs.Str.{bytes_eq}
 use Rattle.std.proofs.lemmas.Bool.Decides.{nat_tests}
-use Rattle.osm_base.specs.Coord.{coord_text}
-use Rattle.osm_base.specs.Number.{key_text, kind_letter, id_text}
+use Rattle.osm_base.specs.Number.{kind_letter, id_text}
 use Rattle.osm_base.specs.Tags.{Pair, has_tag, with_tag}
+use Rattle.osm_base.specs.declared.coord.Coord.{Coord}
 use Rattle.osm_base.specs.declared.members.Member.{Member}
 use Rattle.osm_base.proofs.Lists.{all_joined}
 use Rattle.opl_text.specs.Text.{unescaped}
@@ -22,24 +23,15 @@ use Rattle.opl_line.specs.Line.{freed}
 use Rattle.opl_line.specs.Writable.{IsText}
 use Rattle.opl_line.proofs.Forward.{bind_ok, ok_is, some_ok, test_ok}
 use Rattle.opl_file.specs.Cut.{lines_of}
-use Rattle.map_search.specs.Reading.{query_of_words}
-use Rattle.tool_api.specs.declared.job.Job.TheVariants as job
 use Rattle.edit_script.specs.declared.line.ScriptLine.{ScriptLine}
 use Rattle.edit_script.specs.declared.line.ScriptLine.TheVariants.{Asks, Skipped}
 use Rattle.edit_script.specs.declared.place.Place.{Place}
 use Rattle.edit_script.specs.declared.place.Place.TheVariants.{Start}
 use Rattle.edit_script.specs.declared.step.Act.{Act}
 use Rattle.edit_script.specs.declared.step.Act.TheVariants as act
-use Rattle.edit_script.specs.declared.step.HistoryStep.TheVariants as history
-use Rattle.edit_script.specs.declared.step.Look.TheVariants as look
-use Rattle.edit_script.specs.declared.step.MeetStep.TheVariants as meet
-use Rattle.edit_script.specs.declared.step.Purpose.TheVariants as purpose
-use Rattle.edit_script.specs.declared.forms.Form.{Form}
-use Rattle.edit_script.specs.declared.forms.Form.TheVariants.{Answer, Begin, Check, Combine, Confirm, Conflicts, Count, Delete, Download, Editor, End, Erase, Fetch, Find, Fuse, Generate, Import, Lost, Members, Move, Node, Nodes, Place as PlaceForm, Print, Purge, Redo, Rehearse, Relation, Resolve, Resume, Reverse, Save, Send, Serve, Split, Squeeze, Tag, Undo, Upload, Way}
 use Rattle.edit_script.specs.declared.step.Step.{Step}
-use Rattle.edit_script.specs.Forms.{act_of, add_node, add_relation, add_way, choice_of, combine, download, fetch, form_of, fuse, place, read_form, resolve, set_members, set_nodes, set_tags, shift}
-use Rattle.edit_script.specs.Forms as form
-use Rattle.edit_script.specs.Items.{alone, area_text, back_word, behind, count_word, editor_word, file_word, keys_word, members_word, one_word, optional, place_words, refs_word, size_word, streets_word, tags_word, three_words, two_words, wanted_text, words_of}
+use Rattle.edit_script.specs.Grammar.{act_of, all_lines, at_place, by_first, word}
+use Rattle.edit_script.specs.Items.{alone, behind, members_word, place_words, tags_word, words_of}
 use Rattle.edit_script.specs.Place.{may_stand_at, place_after}
 use Rattle.edit_script.specs.Script.{after_line, has_outer_blank, is_skipped, kind_of_line, line_of, onto_steps, steps_from, steps_of}
 use Rattle.editor_laws.proofs.SeenLists.{IfSome}
@@ -133,69 +125,48 @@ members_word_texts word = bind_any AreRoles (behind 77 word) _ (λ text. ok_if A
 abbrev Brings : Option Act → Type 0
 Brings o = IfSome ActBringsTexts o
 
-any_of : {A : Type 0} (o : Option A) (f : A → Option Act) → ((a : A) → Brings (f a)) → Brings (o >>= f)
-any_of o f i = bind_any ActBringsTexts o f i
+-- Readings of the words of a line.
 
 alone_brings : (a : Act) (words : List (List ℕ)) → ActBringsTexts a → Brings (alone a words)
 alone_brings a [] h = h
-alone_brings a (w ∷ ws) h = tt
+alone_brings a (w ∷ words) h = tt
 
-test_brings : (b : Bool) (a : Act) → ActBringsTexts a → Brings (cond b (Some a) None)
-test_brings true a h = h
-test_brings false a h = tt
+word_brings : {A : Type 0} (P : A → Type 0) (read : List ℕ → Option A) → ((text : List ℕ) → IfSome P (read text))
+    → (rest : A → List (List ℕ) → Option Act) (words : List (List ℕ)) → ((x : A) (others : List (List ℕ)) → P x → Brings (rest x others)) → Brings (word read rest words)
+word_brings P read reads rest [] h = tt
+word_brings P read reads rest (w ∷ words) h = bind_if P ActBringsTexts (read w) _ (reads w) (λ x i. h x words i)
 
--- The lines.
+tags_bring : (rest : List Pair → List (List ℕ) → Option Act) (words : List (List ℕ)) → ((tags : List Pair) (others : List (List ℕ)) → AreTexts tags → Brings (rest tags others)) → Brings (word tags_word rest words)
+tags_bring rest words h = word_brings AreTexts tags_word tags_word_texts rest words h
 
-form_brings : (f : Form) (words : List (List ℕ)) → Brings (read_form f words)
-unfolding download fetch add_node add_way add_relation set_tags shift place set_nodes set_members form.split combine fuse resolve
-form_brings Answer words = alone_brings (act.Meet meet.Answer) words tt
-form_brings Begin words = alone_brings (act.History history.Begin) words tt
-form_brings Check words = alone_brings (act.Look look.Check) words tt
-form_brings Combine words = any_of (one_word words) _ (λ w. any_of (keys_word w) _ (λ ks. test_brings _ (act.Job (job.Combine ks)) tt))
-form_brings Confirm words = any_of (file_word words) _ (λ name. tt)
-form_brings Conflicts words = alone_brings (act.Look look.Conflicts) words tt
-form_brings Count words = alone_brings (act.Look look.Count) words tt
-form_brings Delete words = any_of (one_word words) _ (λ w. any_of (keys_word w) _ (λ x. tt))
-form_brings Download [] = tt
-form_brings Download (file ∷ words) = any_of (unescaped file) _ (λ x. any_of (optional 66 area_text words) _ (λ a. any_of (optional 70 wanted_text a.1) _ (λ f. alone_brings (act.File x (purpose.Download a.0 f.0)) f.1 tt)))
-form_brings Editor words = any_of (one_word words) _ (λ w. any_of (editor_word w) _ (λ x. tt))
-form_brings End words = alone_brings (act.History history.End) words tt
-form_brings Erase words = any_of (one_word words) _ (λ w. any_of (keys_word w) _ (λ x. tt))
-form_brings Fetch [] = tt
-form_brings Fetch (number ∷ words) = any_of (back_word number) _ (λ x. any_of (optional 66 area_text words) _ (λ a. any_of (optional 70 wanted_text a.1) _ (λ f. alone_brings (act.Meet (meet.Fetch x a.0 f.0)) f.1 tt)))
-form_brings Find words = any_of (query_of_words words) _ (λ query. tt)
-form_brings Fuse words = any_of (one_word words) _ (λ w. any_of (keys_word w) _ (λ ks. test_brings _ (act.Job (job.Fuse ks)) tt))
-form_brings Generate words = any_of (one_word words) _ (λ w. any_of (streets_word w) _ (λ x. tt))
-form_brings Import words = any_of (file_word words) _ (λ name. tt)
-form_brings Lost words = alone_brings (act.Meet meet.Lost) words tt
-form_brings Members words = any_of (two_words words) _ (λ w. any_of (key_text w.0) _ (λ k. bind_if AreRoles ActBringsTexts (members_word w.1) _ (members_word_texts w.1) (λ members i. i)))
-form_brings Move words = any_of (three_words words) _ (λ w. any_of (keys_word w.0) _ (λ k. any_of (coord_text w.1) _ (λ dx. any_of (coord_text w.2) _ (λ dy. tt))))
-form_brings Node words = any_of (three_words words) _ (λ w. any_of (place_words w.0 w.1) _ (λ at. bind_if AreTexts ActBringsTexts (tags_word w.2) _ (tags_word_texts w.2) (λ tags i. i)))
-form_brings Nodes words = any_of (two_words words) _ (λ w. any_of (key_text w.0) _ (λ x. any_of (refs_word w.1) _ (λ y. tt)))
-form_brings PlaceForm words = any_of (three_words words) _ (λ w. any_of (key_text w.0) _ (λ k. any_of (place_words w.1 w.2) _ (λ at. tt)))
-form_brings Print words = alone_brings (act.Look look.Print) words tt
-form_brings Purge words = any_of (one_word words) _ (λ w. any_of (keys_word w) _ (λ x. tt))
-form_brings Redo words = any_of (one_word words) _ (λ w. any_of (count_word w) _ (λ x. tt))
-form_brings Rehearse words = alone_brings (act.Look look.Rehearse) words tt
-form_brings Relation words = any_of (two_words words) _ (λ w. bind_if AreTexts ActBringsTexts (tags_word w.0) _ (tags_word_texts w.0) (λ tags i. bind_if AreRoles ActBringsTexts (members_word w.1) _ (members_word_texts w.1) (λ members j. (i, j))))
-form_brings Resolve [] = tt
-form_brings Resolve (named ∷ words) = any_of (key_text named) _ (λ k. any_of (choice_of words) _ (λ c. tt))
-form_brings Resume words = any_of (file_word words) _ (λ name. tt)
-form_brings Reverse words = any_of (one_word words) _ (λ w. any_of (key_text w) _ (λ x. tt))
-form_brings Save words = alone_brings (act.Look look.Save) words tt
-form_brings Send words = any_of (one_word words) _ (λ w. any_of (size_word w) _ (λ x. tt))
-form_brings Serve words = any_of (file_word words) _ (λ name. tt)
-form_brings Split words = any_of (two_words words) _ (λ w. any_of (key_text w.0) _ (λ x. any_of (keys_word w.1) _ (λ y. tt)))
-form_brings Squeeze words = any_of (one_word words) _ (λ w. any_of (keys_word w) _ (λ x. tt))
-form_brings Tag words = any_of (two_words words) _ (λ w. any_of (keys_word w.0) _ (λ keys. bind_if AreTexts ActBringsTexts (tags_word w.1) _ (tags_word_texts w.1) (λ tags i. i)))
-form_brings Undo words = any_of (one_word words) _ (λ w. any_of (count_word w) _ (λ x. tt))
-form_brings Upload words = any_of (one_word words) _ (λ w. any_of (size_word w) _ (λ x. tt))
-form_brings Way words = any_of (two_words words) _ (λ w. bind_if AreTexts ActBringsTexts (tags_word w.0) _ (tags_word_texts w.0) (λ tags i. any_of (refs_word w.1) _ (λ refs. i)))
+members_bring : (rest : List Member → List (List ℕ) → Option Act) (words : List (List ℕ)) → ((members : List Member) (others : List (List ℕ)) → AreRoles members → Brings (rest members others)) → Brings (word members_word rest words)
+members_bring rest words h = word_brings AreRoles members_word members_word_texts rest words h
+
+others_bring : {A : Type 0} (read : List ℕ → Option A) (rest : A → List (List ℕ) → Option Act) (words : List (List ℕ)) → ((x : A) (others : List (List ℕ)) → Brings (rest x others)) → Brings (word read rest words)
+others_bring read rest [] h = tt
+others_bring read rest (w ∷ words) h = bind_any ActBringsTexts (read w) _ (λ x. h x words)
+
+place_brings : (rest : Coord → List (List ℕ) → Option Act) (words : List (List ℕ)) → ((at : Coord) (others : List (List ℕ)) → Brings (rest at others)) → Brings (at_place rest words)
+place_brings rest [] h = tt
+place_brings rest (x ∷ []) h = tt
+place_brings rest (x ∷ y ∷ words) h = bind_any ActBringsTexts (place_words x y) _ (λ at. h at words)
+
+-- What is read of the words of any line can be written: only tags and members bring texts.
+all_bring : AllByRecursion (λ (line : List ℕ × (List (List ℕ) → Option Act)). (words : List (List ℕ)) → Brings (line.1 words)) all_lines
+all_bring = search (rules, alone_brings, tags_bring, members_bring, others_bring, place_brings, bind_any)
+
+by_first_brings : (lines : List (List ℕ × (List (List ℕ) → Option Act))) (words : List (List ℕ)) → AllByRecursion (λ (line : List ℕ × (List (List ℕ) → Option Act)). (words : List (List ℕ)) → Brings (line.1 words)) lines → Brings (by_first lines words)
+by_first_brings [] words h = tt
+by_first_brings (line ∷ lines) [] h = tt
+by_first_brings (line ∷ lines) (first ∷ words) h = either_brings (bytes_eq first line.0) (line.1 words) (by_first lines (first ∷ words)) (h.0 words) (by_first_brings lines (first ∷ words) h.1)
+  where
+    either_brings : (b : Bool) (here there : Option Act) → Brings here → Brings there → Brings (cond b here there)
+    either_brings true here there h i = h
+    either_brings false here there h i = i
 
 act_brings : (words : List (List ℕ)) → Brings (act_of words)
 unfolding act_of
-act_brings [] = tt
-act_brings (word ∷ words) = any_of (form_of word) _ (λ f. form_brings f words)
+act_brings words = by_first_brings all_lines words all_bring
 
 -- The steps.
 

@@ -36,8 +36,7 @@ use Rattle.tool_api.proofs.Added.{added_at}
 use Rattle.tool_api.proofs.Looks.{entry_changed, next_changed}
 use Rattle.editor_laws.specs.Editing.{is_merge}
 use Rattle.editor_laws.proofs.SeenContents.{IfOk}
-use Rattle.editor_laws.specs.Listed.{lists}
-use Rattle.editor_laws.specs.Named.{names, IsOwn, KeepsOwn}
+use Rattle.editor_laws.specs.Listed.{lists, names, IsOwn, KeepsOwn}
 use Rattle.editor_laws.proofs.KeptJobs.{filter_passes, filter_within, one_named, kept_named, bound, not_new, job_leaves}
 
 -- Edits that keep the tags.
@@ -165,19 +164,10 @@ module _ (t : TableValue) (k : Key) (e : Entry) (is : entry_of t k ≡ Some e) (
   other j limit n free = own (entry_of (plain j t limit).table k) (job_leaves t k e is sound j limit n free)
 
   pub job_owns : (j : Job) (limit : ℕ) → is_merge j ≡ false → names j t k ≡ false → Has (plain j t limit).table
-  job_owns (job.AddNode tags at) limit n free = other (job.AddNode tags at) limit n free
-  job_owns (job.AddWay tags refs) limit n free = other (job.AddWay tags refs) limit n free
-  job_owns (job.AddRelation tags members) limit n free = other (job.AddRelation tags members) limit n free
-  job_owns (job.SetTags keys tags) limit n free = other (job.SetTags keys tags) limit n free
   job_owns (job.Shift keys dx dy) limit n free = answered_has (outcome (job.Shift keys dx dy) t limit)
       (tested (list_tests t NodesAndWays keys) _ (tested (first_of (λ m. move_entry_test dx dy m (entry_of t m)) (moved_nodes t keys)) _
       (closed limit keys (done (changed t (edit t (with_place (moved dx dy))) (moved_nodes t keys))) (edited_has t (with_place (moved dx dy)) (moved_nodes t keys) (place_keeps (moved dx dy)) (own (entry_of t k) is)))))
-  job_owns (job.Place key at) limit n free = other (job.Place key at) limit n free
-  job_owns (job.SetNodes key refs) limit n free = other (job.SetNodes key refs) limit n free
-  job_owns (job.SetMembers key members) limit n free = other (job.SetMembers key members) limit n free
-  job_owns (job.Delete keys) limit n free = other (job.Delete keys) limit n free
   job_owns (job.Erase keys) limit n free = answered_has (outcome (job.Erase keys) t limit) (tested (list_tests t Any keys) _ (closed limit keys (done (erased t keys)) (erased_has keys free)))
-  job_owns (job.Purge keys) limit n free = other (job.Purge keys) limit n free
   job_owns (job.Split way nodes) limit n free =
       let ps = keyed way (kept_number (split_pieces t way nodes)) 0 t.next (split_pieces t way nodes) in
       answered_has (outcome (job.Split way nodes) t limit)
@@ -187,11 +177,8 @@ module _ (t : TableValue) (k : Key) (e : Entry) (is : entry_of t k ≡ Some e) (
       (tested (list_tests t Ways ways) _ (tested (first_of (way_test t) ways) _ (bound (λ new. Has new.table) (joined t ways) _ (λ refs.
       tested (clash_test (all_tags t ways)) _ (tested (member_test t ways) _
       (closed limit ways (done (combined_table t ways refs (kept_way ways))) (combined_has ways refs (kept_way ways) (kept_named ways) free)))))))
-  job_owns (job.Reverse way) limit n free = other (job.Reverse way) limit n free
   job_owns (job.Merge told) limit n free = absurd (true≢false n)
-  job_owns (job.Import objects) limit n free = other (job.Import objects) limit n free
-  job_owns (job.Resolve key choice) limit n free = other (job.Resolve key choice) limit n free
-  job_owns (job.Squeeze keys) limit n free = other (job.Squeeze keys) limit n free
   job_owns (job.Fuse nodes) limit n free = answered_has (outcome (job.Fuse nodes) t limit)
       (tested (list_tests t Nodes nodes) _ (tested (place_test t nodes) _ (tested (clash_test (all_tags t nodes)) _
       (closed limit nodes (done (fused_table t nodes (kept_node nodes))) (fused_has nodes (kept_node nodes) (kept_named nodes) free)))))
+  job_owns j limit n free = other j limit n free

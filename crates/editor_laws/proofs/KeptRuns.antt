@@ -32,25 +32,8 @@ module _ (t : TableValue) (limit : ℕ) (k : Key) (e : Entry) (is : entry_of t k
   other j n free = same_kept e (entry_of (plain j t limit).table k) (job_leaves t k e is sound j limit n free)
 
   pub job_keeps : (j : Job) → lists j t k ≡ false → IsKept j
-  job_keeps (job.AddNode tags at) free = other (job.AddNode tags at) refl free
-  job_keeps (job.AddWay tags refs) free = other (job.AddWay tags refs) refl free
-  job_keeps (job.AddRelation tags members) free = other (job.AddRelation tags members) refl free
-  job_keeps (job.SetTags keys tags) free = other (job.SetTags keys tags) refl free
-  job_keeps (job.Shift keys dx dy) free = other (job.Shift keys dx dy) refl free
-  job_keeps (job.Place key at) free = other (job.Place key at) refl free
-  job_keeps (job.SetNodes key refs) free = other (job.SetNodes key refs) refl free
-  job_keeps (job.SetMembers key members) free = other (job.SetMembers key members) refl free
-  job_keeps (job.Delete keys) free = other (job.Delete keys) refl free
-  job_keeps (job.Erase keys) free = other (job.Erase keys) refl free
-  job_keeps (job.Purge keys) free = other (job.Purge keys) refl free
-  job_keeps (job.Split way nodes) free = other (job.Split way nodes) refl free
-  job_keeps (job.Combine ways) free = other (job.Combine ways) refl free
-  job_keeps (job.Reverse way) free = other (job.Reverse way) refl free
   job_keeps (job.Merge told) free = merge_keeps t k e is told limit edits
-  job_keeps (job.Import objects) free = other (job.Import objects) refl free
-  job_keeps (job.Resolve key choice) free = other (job.Resolve key choice) refl free
-  job_keeps (job.Squeeze keys) free = other (job.Squeeze keys) refl free
-  job_keeps (job.Fuse nodes) free = other (job.Fuse nodes) refl free
+  job_keeps j free = other j refl free
 
 -- a reply
 module _ (k : Key) (e : Entry) where

@@ -4,7 +4,6 @@ pub mod Telling
 pub mod Answered
 pub mod Kept
 pub mod Listed
-pub mod Named
 pub mod Parts
 pub mod Sent
 pub mod Steps

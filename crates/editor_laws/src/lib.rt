@@ -25,7 +25,7 @@
 //! Advice for who changes it: a job that is added to `tool_api` gets its line in `proofs/SeenJobs`, which says that all its table
 //! has under a key is from the old table (`IsFrom` in `proofs/SeenKeeping`), and in `proofs/TextJobs`; what its contents refer to
 //! goes to `proofs/SeenContents`, which texts they have to `proofs/TextContents`. What it changes it lists in `specs/Listed`, and
-//! where it lists more than it names, in `specs/Named`; their proofs are lines of `proofs/KeptJobs` and `proofs/KeptOwns`.
+//! there, where it lists more than that, what it names; their proofs are lines of `proofs/KeptJobs` and `proofs/KeptOwns`.
 #![tactic(auto)]
 
 mod bases;

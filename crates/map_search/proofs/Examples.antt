@@ -1,5 +1,5 @@
 -- Worked examples, on which the definitions compute.
-use Rattle.std.proofs.Common.{◌≡◌, ℕ, pos, true, is_some, List, [], ◌∷◌, ◌++◌, replicate, length, Some, None, refl, sym, ◌∙◌, arith}
+use Rattle.std.proofs.Common.{◌≡◌, ℕ, pos, true, is_some, List, [], ◌∷◌, ◌++◌, replicate, length, Option, Some, None, refl, sym, ◌∙◌, arith}
 use Rattle.std.specs.Prelude.{codes}
 use Rattle.std.specs.Str.{is_utf8, chars}
 use Rattle.std.specs.FinMap as fin
@@ -17,96 +17,91 @@ use Rattle.osm_table.specs.declared.entry.Entry.TheVariants.{Incomplete, Known}
 use Rattle.opl_text.specs.Text.{unescaped}
 use Rattle.opl_line.specs.Field.{tags_text, tag_into}
 use Rattle.map_search.specs.Meets.{found}
-use Rattle.map_search.specs.Query.{OfKind, Tag, IsNew, IsChanged, IsDeleted, IsIncomplete, HasConflict, Child, Parent, Not, And, Or}
-use Rattle.map_search.specs.Reading.{query_of, query_of_words}
-use Rattle.map_search.specs.Words.{word_of, joining_word, kind_word, state_word, tag_word}
+use Rattle.map_search.specs.Query.{QueryValue, OfKind, Tag, IsNew, IsChanged, IsDeleted, IsIncomplete, HasConflict, Child, Parent, Not, And, Or}
+use Rattle.map_search.specs.Reading.{query_of_words}
+use Rattle.map_search.specs.Words.{words_of, word_of, joining_word, kind_word, state_word, tag_word}
+
+-- the query that a line is
+abbrev query_of : List ℕ → Option QueryValue
+query_of line = query_of_words (words_of line)
 
 -- `not` and `child` take a factor, and `and` joins factors.
 children_read : query_of (codes "child way and not Tk=*") ≡ Some (And (Child (OfKind Way)) (Not (Tag (codes "k") None)))
-unfolding query_of word_of joining_word kind_word state_word tag_word tags_text tag_into unescaped is_utf8 chars encode
+unfolding word_of joining_word kind_word state_word tag_word tags_text tag_into unescaped is_utf8 chars encode
 children_read = refl
 
 -- `and` binds before `or`.
 and_first : query_of (codes "node or way and new") ≡ Some (Or (OfKind Node) (And (OfKind Way) IsNew))
-unfolding query_of word_of joining_word kind_word state_word
+unfolding word_of joining_word kind_word state_word
 and_first = refl
 
 and_first_left : query_of (codes "node and way or new") ≡ Some (Or (And (OfKind Node) (OfKind Way)) IsNew)
-unfolding query_of word_of joining_word kind_word state_word
+unfolding word_of joining_word kind_word state_word
 and_first_left = refl
 
 -- Both are taken from the left.
 from_left : query_of (codes "new or changed or deleted") ≡ Some (Or (Or IsNew IsChanged) IsDeleted)
-unfolding query_of word_of joining_word kind_word state_word
+unfolding word_of joining_word kind_word state_word
 from_left = refl
 
 from_left_and : query_of (codes "new and changed and conflict") ≡ Some (And (And IsNew IsChanged) HasConflict)
-unfolding query_of word_of joining_word kind_word state_word
+unfolding word_of joining_word kind_word state_word
 from_left_and = refl
 
 -- Brackets hold a query together, and blanks may be more than one.
 bracket_read : query_of (codes "parent  ( node or incomplete )\tand relation") ≡ Some (And (Parent (Or (OfKind Node) IsIncomplete)) (OfKind Relation))
-unfolding query_of word_of joining_word kind_word state_word
+unfolding word_of joining_word kind_word state_word
 bracket_read = refl
 
 -- The value `*` is compared after its escapes are read; beside another byte it is a text.
 any_escaped : query_of (codes "Tk=%2a%") ≡ Some (Tag (codes "k") None)
-unfolding query_of word_of joining_word kind_word state_word tag_word tags_text tag_into unescaped is_utf8 chars encode
+unfolding word_of joining_word kind_word state_word tag_word tags_text tag_into unescaped is_utf8 chars encode
 any_escaped = refl
 
 star_in_text : query_of (codes "Tk=**") ≡ Some (Tag (codes "k") (Some (codes "**")))
-unfolding query_of word_of joining_word kind_word state_word tag_word tags_text tag_into unescaped is_utf8 chars encode
+unfolding word_of joining_word kind_word state_word tag_word tags_text tag_into unescaped is_utf8 chars encode
 star_in_text = refl
 
 empty_value : query_of (codes "Tk=") ≡ Some (Tag (codes "k") (Some []))
-unfolding query_of word_of joining_word kind_word state_word tag_word tags_text tag_into unescaped is_utf8 chars encode
+unfolding word_of joining_word kind_word state_word tag_word tags_text tag_into unescaped is_utf8 chars encode
 empty_value = refl
 
 -- A `T` has one tag, and no less and no more.
 two_tags : query_of (codes "Ta=1,b=2") ≡ None
-unfolding query_of word_of joining_word kind_word state_word tag_word tags_text tag_into unescaped is_utf8 chars encode
+unfolding word_of joining_word kind_word state_word tag_word tags_text tag_into unescaped is_utf8 chars encode
 two_tags = refl
 
 no_tag : query_of (codes "T") ≡ None
-unfolding query_of word_of joining_word kind_word state_word tag_word tags_text
+unfolding word_of joining_word kind_word state_word tag_word tags_text
 no_tag = refl
 
 -- What is no query.
 open_bracket : query_of (codes "( way") ≡ None
-unfolding query_of word_of joining_word kind_word state_word
+unfolding word_of joining_word kind_word state_word
 open_bracket = refl
 
 closed_twice : query_of (codes "( way ) )") ≡ None
-unfolding query_of word_of joining_word kind_word state_word
+unfolding word_of joining_word kind_word state_word
 closed_twice = refl
 
 empty_bracket : query_of (codes "( )") ≡ None
-unfolding query_of word_of joining_word
+unfolding word_of joining_word
 empty_bracket = refl
 
 no_join : query_of (codes "node way") ≡ None
-unfolding query_of word_of joining_word kind_word
+unfolding word_of joining_word kind_word
 no_join = refl
 
 no_right_side : query_of (codes "node and") ≡ None
-unfolding query_of word_of joining_word kind_word
+unfolding word_of joining_word kind_word
 no_right_side = refl
 
 other_word : query_of (codes "area") ≡ None
-unfolding query_of word_of joining_word kind_word state_word tag_word
+unfolding word_of joining_word kind_word state_word tag_word
 other_word = refl
 
 no_word : query_of [] ≡ None
-unfolding query_of
 no_word = refl
-
-blank_before : query_of (codes " way") ≡ None
-unfolding query_of
-blank_before = refl
-
-blank_behind : query_of (codes "way\t") ≡ None
-unfolding query_of
-blank_behind = refl
 
 -- 64 openings may stand round a word, and 65 may not.
 deep : is_some (query_of_words (replicate 64 (codes "not") ++ codes "way" ∷ [])) ≡ true

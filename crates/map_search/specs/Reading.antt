@@ -15,7 +15,7 @@ use Rattle.map_search.specs.declared.pending.Pending.TheVariants as pending
 use Rattle.map_search.specs.declared.pending.Word.{Word}
 use Rattle.map_search.specs.declared.pending.Word.TheVariants as word
 use Rattle.map_search.specs.Query.{QueryValue, Child, Parent, Not, And, Or}
-use Rattle.map_search.specs.Words.{words_of, word_of, has_outer_blank}
+use Rattle.map_search.specs.Words.{word_of}
 
 -- what has been read: the query behind the last word, or none where a factor is wanted; and what waits
 pub record State : Type 0 where
@@ -108,10 +108,6 @@ abbrev pub read_on : List (List ℕ) → Option QueryValue → List Pending → 
 read_on [] q waiting = ended q waiting
 read_on (text ∷ texts) q waiting = option_and_then (λ w. option_and_then (λ s. read_on texts s.query s.waiting) (with_word q w waiting)) (word_of text)
 
--- the query that at most 1,000 words are
+-- The query that at most 1,000 words are.
 abbrev pub query_of_words : List (List ℕ) → Option QueryValue
 query_of_words texts = if nat_le (length texts) 1000 then read_on texts None [] else None
-
--- The query that a line is, whose first and last bytes aren't blank.
-unfoldable pub query_of : List ℕ → Option QueryValue
-query_of line = if has_outer_blank line then None else query_of_words (words_of line)

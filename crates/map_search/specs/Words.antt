@@ -1,7 +1,7 @@
 -- The words of a query.
 --
 -- For example the line `child way and not Tk=*` has the words `child`, `way`, `and`, `not` and `Tk=*`.
-use Rattle.std.specs.Prelude.{ℕ, Bool, ◌==◌, ◌||◌, ◌-◌, nat_lt, if◌then◌else◌, codes, List, [], ◌∷◌, length, slice_index, Option, Some, None}
+use Rattle.std.specs.Prelude.{ℕ, Bool, ◌==◌, nat_lt, if◌then◌else◌, codes, List, [], ◌∷◌, length, Option, Some, None}
 use Rattle.std.specs.List.{filter}
 use Rattle.std.specs.Option.{option_and_then, option_map}
 use Rattle.std.specs.Str.{bytes_eq}
@@ -27,10 +27,6 @@ words_of line = filter has_byte (split is_blank line)
 abbrev pub without_blanks : List ℕ → List ℕ
 without_blanks [] = []
 without_blanks (byte ∷ bytes) = if is_blank byte then without_blanks bytes else byte ∷ bytes
-
--- a blank before the first word or behind the last
-abbrev pub has_outer_blank : List ℕ → Bool
-has_outer_blank line = is_blank (slice_index line 0) || is_blank (slice_index line (length line - 1))
 
 -- the wanted value, or any where it is `*`
 abbrev pub wanted_of : List ℕ → Option (List ℕ)

@@ -29,3 +29,4 @@ pub use finding::find;
 pub use law::read_as_spelled;
 pub use query::{Form, Query};
 pub use reading::read_query;
+pub use words::next_word;

@@ -2,35 +2,30 @@
 ghost use Rattle.std.specs.Prelude.{◌≡◌, ◌≤◌, IfOk, reverse};
 ghost use Rattle.map_search.specs.Answers.{Gives, Reads};
 ghost use Rattle.map_search.specs.Query.{depth};
-ghost use Rattle.map_search.specs.Reading.{query_of, query_of_words, with_word, opened, followed, closed, ended};
+ghost use Rattle.map_search.specs.Reading.{query_of_words, with_word, opened, followed, closed, ended};
 ghost use Rattle.map_search.specs.Words.{words_of};
 
 use crate::fault::QueryFault;
 use crate::pending::{Part, Pending, Word, completed, joined, nesting, pop_taker, taken};
 use crate::query::Query;
-use crate::words::{has_outer_blank, next_word, word_of};
+use crate::words::{next_word, word_of};
 use opl_text::Pool;
 use std::alloc::Global;
 
-/// The query that the words of a line are.
+/// The query that the words are.
 ///
 /// Terms are joined by `or`, factors by `and`, both from the left. A factor is `not`, `child` or `parent` and a factor; or
 /// `(`, a query and `)`; or `node`, `way`, `relation`, `new`, `changed`, `deleted`, `incomplete`, `conflict`; or `T` and one
 /// tag, as a line of OPL has it, whose value `*` stands for any. A query has at most 1,000 words, and at most 64 of `not`,
-/// `child`, `parent` and `(` stand round any of them. Words are separated by spaces or tabs, and none of these stands before
-/// the first word or behind the last. The words are walked once.
+/// `child`, `parent` and `(` stand round any of them. Words are separated by spaces or tabs. They are walked once.
 ///
 /// # Errors
 /// `BadQuery` exactly where the words aren't a query, `Memory` where no memory was left.
-#[tactic(auto, unfolding(crate::specs::Reading::query_of))]
-pub fn read_query(pool: &mut Pool, line: &[u8]) -> Result<Query, QueryFault>
-    ensures value { Gives result (query_of line.now) }
+pub fn read_query(pool: &mut Pool, words: &[u8]) -> Result<Query, QueryFault>
+    ensures value { Gives result (query_of_words (words_of words.now)) }
     ensures shallow { IfOk result (λ query. depth query ≤ 1100) }
 {
-    if has_outer_blank(line) {
-        return Err(QueryFault::BadQuery);
-    }
-    read_words(pool, line)
+    read_words(pool, words)
 }
 
 fn read_words(pool: &mut Pool, words: &[u8]) -> Result<Query, QueryFault>

@@ -1,7 +1,7 @@
 //! Words of a line, and what each of them says.
 ghost use Rattle.std.specs.Prelude.{◌≡◌, ◌∷◌, [], IfOk, MatchOption};
 ghost use Rattle.map_search.specs.Answers.{Gives};
-ghost use Rattle.map_search.specs.Words.{words_of, without_blanks, has_outer_blank, wanted_of, one_tag, tag_word, state_word, kind_word, joining_word, word_of};
+ghost use Rattle.map_search.specs.Words.{words_of, without_blanks, wanted_of, one_tag, tag_word, state_word, kind_word, joining_word, word_of};
 
 use crate::fault::QueryFault;
 use crate::pending::{Opening, Word};
@@ -34,16 +34,6 @@ fn without_blanks(bytes: &[u8]) -> &[u8]
         rest = rest.split_at(1).1;
     }
     rest
-}
-
-/// Whether a blank stands before the first word or behind the last.
-pub fn has_outer_blank(line: &[u8]) -> bool
-    ensures { result ≡ has_outer_blank line.now }
-{
-    match line {
-        [] => false,
-        line => is_blank(line[0]) || is_blank(line[line.len() - 1]),
-    }
 }
 
 /// What a word says.
