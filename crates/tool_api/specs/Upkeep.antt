@@ -76,8 +76,7 @@ is_backward before_a before_b after_a after_b = after_a && not after_b
 
 -- along the way, or backward
 abbrev pub in_order : Bool → List PieceValue → List PieceValue
-in_order true pieces = reverse pieces
-in_order false pieces = pieces
+in_order backward pieces = if backward then reverse pieces else pieces
 
 -- the pieces in the order in which they stand between the neighbours
 abbrev pub pieces_between : TableValue → Key → List PieceValue → ℤ → ℤ → Option Member → Option Member → List PieceValue
@@ -90,8 +89,7 @@ is_turn role = same_text role (codes "from") || same_text role (codes "to")
 
 -- the first node of the first piece
 abbrev pub first_node : List PieceValue → ℤ
-first_node [] = pos 0
-first_node (p ∷ ps) = p.first
+first_node ps = option_map_or (λ (p : PieceValue). p.first) (first_in ps) (pos 0)
 
 -- the last node of the last piece
 abbrev pub last_node : List PieceValue → ℤ
@@ -134,9 +132,7 @@ folded_from ways kept skip [] = Some []
 folded_from ways kept (suc n) (m ∷ ms) = folded_from ways kept n ms
 folded_from ways kept zero (m ∷ ms) =
     if is_named ways m.key
-    then (if is_run ways (take (length ways) (m ∷ ms))
-    then option_map (λ out. record { key = kept; role = m.role } ∷ out) (folded_from ways kept (length ways - 1) ms)
-    else None)
+    then (if is_run ways (take (length ways) (m ∷ ms)) then option_map (λ out. record { key = kept; role = m.role } ∷ out) (folded_from ways kept (length ways - 1) ms) else None)
     else option_map (λ out. m ∷ out) (folded_from ways kept 0 ms)
 
 -- The members after a joining, or none where they don't meet the run rule.
