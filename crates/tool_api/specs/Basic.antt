@@ -25,7 +25,9 @@ use Rattle.tool_api.specs.Closing.{closing}
 
 -- A new object: reference tests, closing tests. The reply has its key.
 abbrev pub add : TableValue → ℕ → Content → Result Outcome Refusal
-add t limit c = ref_tests t (refs_of c) >> closing t limit [] (record { keys = new_key (kind_of_content c) t.next ∷ []; table = added t c })
+add t limit c = do
+  ref_tests t (refs_of c)
+  closing t limit [] (record { keys = new_key (kind_of_content c) t.next ∷ []; table = added t c })
 
 -- a pair with a value is set, a key with an empty value removed
 abbrev pub retag_one : List Pair → Pair → List Pair
@@ -46,7 +48,9 @@ with_tags f (content.Relation tags members) = content.Relation (f tags) members
 
 -- Tags set in each of the objects: list tests (any kind), closing tests.
 abbrev pub set_tags : TableValue → ℕ → List Key → List Pair → Result Outcome Refusal
-set_tags t limit keys pairs = list_tests t Any keys >> closing t limit keys (done (changed t (edit t (with_tags (λ tags. retagged tags pairs))) keys))
+set_tags t limit keys pairs = do
+  list_tests t Any keys
+  closing t limit keys (done (changed t (edit t (with_tags (λ tags. retagged tags pairs))) keys))
 
 -- a node at another place
 abbrev pub with_place : (Coord → Coord) → Content → Content
@@ -95,7 +99,9 @@ shift t limit keys dx dy = do
 
 -- Another place: target tests (nodes), closing tests. The tags stay.
 abbrev pub place : TableValue → ℕ → Key → Coord → Result Outcome Refusal
-place t limit key at = target_test t Nodes key >> closing t limit (key ∷ []) (done (changed t (edit t (with_place (λ _. at))) (key ∷ [])))
+place t limit key at = do
+  target_test t Nodes key
+  closing t limit (key ∷ []) (done (changed t (edit t (with_place (λ _. at))) (key ∷ [])))
 
 -- Other nodes: target tests (ways), reference tests, closing tests. The tags stay.
 abbrev pub set_nodes : TableValue → ℕ → Key → List ℤ → Result Outcome Refusal
@@ -113,4 +119,6 @@ set_members t limit key members = do
 
 -- A way turned round: target tests (ways), closing tests. Its references are reversed, its tags stay.
 abbrev pub reversed : TableValue → ℕ → Key → Result Outcome Refusal
-reversed t limit way = target_test t Ways way >> closing t limit (way ∷ []) (done (changed t (edit t (with_refs reverse)) (way ∷ [])))
+reversed t limit way = do
+  target_test t Ways way
+  closing t limit (way ∷ []) (done (changed t (edit t (with_refs reverse)) (way ∷ [])))

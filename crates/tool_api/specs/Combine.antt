@@ -48,7 +48,9 @@ is_end n refs = same_end n (first_in refs) || same_end n (last_in refs)
 
 -- the first way forward where its last node is an end of the second, else backward
 abbrev pub first_way : Key → List ℤ → List ℤ → Result (List ℤ) Refusal
-first_way second refs next = if is_end (last_in refs) next then Ok refs else (if is_end (first_in refs) next then Ok (reverse refs) else Err (NotJoined second))
+first_way second refs next =
+    if is_end (last_in refs) next then Ok refs
+    else (if is_end (first_in refs) next then Ok (reverse refs) else Err (NotJoined second))
 
 -- a next way forward where its first node is the end so far, else backward
 abbrev pub next_way : Key → List ℤ → List ℤ → Result (List ℤ) Refusal

@@ -112,4 +112,6 @@ erased t named =
 
 -- list tests, closing tests
 abbrev pub erase : TableValue → ℕ → List Key → Result Outcome Refusal
-erase t limit keys = list_tests t Any keys >> closing t limit keys (done (erased t keys))
+erase t limit keys = do
+  list_tests t Any keys
+  closing t limit keys (done (erased t keys))

@@ -69,4 +69,6 @@ settle t limit k e = do
 
 -- A conflict is resolved: Absent, NoConflict, NotMixed, NotClashing, then what the entry is refused for.
 abbrev pub resolve : TableValue → ℕ → Key → Choice → Result Outcome Refusal
-resolve t limit k choice = choice_test choice k (entry_of t k) >> settle t limit k (option_map (resolved choice) (entry_of t k))
+resolve t limit k choice = do
+  choice_test choice k (entry_of t k)
+  settle t limit k (option_map (resolved choice) (entry_of t k))

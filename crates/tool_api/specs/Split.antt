@@ -57,7 +57,10 @@ complete_test t refs = option_map (λ n. IncompleteObject (node n)) (find (λ n.
 -- the pieces of references between the cuts inside, which share the nodes there; a piece is begun, and these are left
 abbrev pub pieces_from : (ℤ → Bool) → List ℤ → List ℤ → List (List ℤ)
 pieces_from cut piece [] = piece ∷ []
-pieces_from cut piece (x ∷ xs) = if nat_lt 0 (length xs) && cut x then (piece ++ x ∷ []) ∷ pieces_from cut (x ∷ []) xs else pieces_from cut (piece ++ x ∷ []) xs
+pieces_from cut piece (x ∷ xs) =
+    if nat_lt 0 (length xs) && cut x
+    then (piece ++ x ∷ []) ∷ pieces_from cut (x ∷ []) xs
+    else pieces_from cut (piece ++ x ∷ []) xs
 
 -- the pieces of references, cut at the nodes inside
 abbrev pub pieces : (ℤ → Bool) → List ℤ → List (List ℤ)
@@ -74,7 +77,10 @@ turned cut circle = let p = position_or_len cut circle in drop p circle ++ take 
 
 -- the pieces of an open or a closed way
 abbrev pub all_pieces : (ℤ → Bool) → List ℤ → List (List ℤ)
-all_pieces cut refs = if is_closed refs then pieces cut (turned cut (take (length refs - 1) refs)) else pieces cut refs
+all_pieces cut refs =
+    if is_closed refs
+    then pieces cut (turned cut (take (length refs - 1) refs))
+    else pieces cut refs
 
 -- the number of the longest piece, the first of equals
 abbrev pub longest_from : ℕ → ℕ → ℕ → List (List ℤ) → ℕ

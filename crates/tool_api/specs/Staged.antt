@@ -99,7 +99,11 @@ pub record Staged : Type 0 where
 
 -- the stage of a key
 abbrev pub stage_of : TableValue → ToldEntries → Key → Staged
-stage_of t m k = record { entry = staged (verdict_at t m k) (entry_of t k) (theirs_at m k); candidate = is_candidate (verdict_at t m k); theirs = theirs_at m k }
+stage_of t m k = record {
+  entry = staged (verdict_at t m k) (entry_of t k) (theirs_at m k);
+  candidate = is_candidate (verdict_at t m k);
+  theirs = theirs_at m k;
+}
 
 -- what the known side holds, where the entry doesn't live: an object that was lost here
 abbrev pub lost_of : Option Entry → Option Content

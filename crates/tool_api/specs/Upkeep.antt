@@ -132,7 +132,9 @@ folded_from ways kept skip [] = Some []
 folded_from ways kept (suc n) (m ∷ ms) = folded_from ways kept n ms
 folded_from ways kept zero (m ∷ ms) =
     if is_named ways m.key
-    then (if is_run ways (take (length ways) (m ∷ ms)) then option_map (λ out. record { key = kept; role = m.role } ∷ out) (folded_from ways kept (length ways - 1) ms) else None)
+    then (if is_run ways (take (length ways) (m ∷ ms))
+    then option_map (λ out. record { key = kept; role = m.role } ∷ out) (folded_from ways kept (length ways - 1) ms)
+    else None)
     else option_map (λ out. m ∷ out) (folded_from ways kept 0 ms)
 
 -- The members after a joining, or none where they don't meet the run rule.

@@ -64,10 +64,12 @@ abbrev pub on_content : World → Content → Option Refusal
 on_content w c = if fits c then option_map BadRef (bad_ref w c) else Some Unfit
 
 abbrev pub on_modify : World → ℕ → Content → Option WorldEntry → Option Refusal
-on_modify w v c e = option_map_or (λ e. if nat_eq e.version v then on_content w c else Some (OldVersion e.version)) e (Some Missing)
+on_modify w v c None = Some Missing
+on_modify w v c (Some e) = if nat_eq e.version v then on_content w c else Some (OldVersion e.version)
 
 abbrev pub on_delete : World → Key → ℕ → Option WorldEntry → Option Refusal
-on_delete w k v e = option_map_or (λ e. if is_some e.content then (if nat_eq e.version v then option_map Used (user_of w k) else Some (OldVersion e.version)) else Some Missing) e (Some Missing)
+on_delete w k v None = Some Missing
+on_delete w k v (Some e) = if is_some e.content then (if nat_eq e.version v then option_map Used (user_of w k) else Some (OldVersion e.version)) else Some Missing
 
 -- why the world refuses a change
 abbrev pub refusal : World → Change → ℤ → Option Refusal
