@@ -1,56 +1,29 @@
 -- The text of `count`.
-use Rattle.std.specs.Prelude.{ℕ, ◌+◌, ◌<◌, ◌^◌, Bool, true, false, ◌&&◌, is_some, is_none, if◌then◌else◌, List, [], ◌∷◌, ◌++◌, Option, None, Some, codes, decimal}
+use Rattle.std.specs.Prelude.{ℕ, ◌+◌, ◌<◌, ◌^◌, Bool, false, ◌&&◌, if◌then◌else◌, List, [], ◌∷◌, ◌++◌, Option, None, Some, codes, decimal}
 use Rattle.std.specs.List.{count_by}
+use Rattle.std.specs.Option.{option_map_or}
 use Rattle.osm_base.specs.declared.key.Kind.{Kind}
 use Rattle.osm_base.specs.declared.key.Kind.TheVariants.{Node, Way, Relation}
 use Rattle.osm_base.specs.declared.key.Key.{Key}
 use Rattle.osm_table.specs.Table.{TableValue, entry_of, keys_by_rank, is_incomplete, is_living, is_changed}
 use Rattle.osm_table.specs.declared.entry.Entry.{Entry}
-use Rattle.osm_table.specs.declared.entry.Entry.TheVariants.{Incomplete, Known}
+use Rattle.map_search.specs.Meets.{has_conflict, is_deleted, same_kind}
 use Rattle.edit_steps.specs.declared.counting.Counts.{Counts}
-
-abbrev pub is_node : Kind → Bool
-is_node Node = true
-is_node Way = false
-is_node Relation = false
-
-abbrev pub is_way : Kind → Bool
-is_way Node = false
-is_way Way = true
-is_way Relation = false
-
-abbrev pub is_relation : Kind → Bool
-is_relation Node = false
-is_relation Way = false
-is_relation Relation = true
-
--- known, and not living
-abbrev pub is_deleted : Entry → Bool
-is_deleted Incomplete = false
-is_deleted (Known base mine conflict) = is_none mine
-
-abbrev pub is_in_conflict : Entry → Bool
-is_in_conflict Incomplete = false
-is_in_conflict (Known base mine conflict) = is_some conflict
-
-abbrev pub passes : (Kind → Entry → Bool) → Kind → Option Entry → Bool
-passes test kind None = false
-passes test kind (Some entry) = test kind entry
 
 -- how many of the keys have an entry that passes the test
 abbrev pub counted : (Kind → Entry → Bool) → TableValue → List Key → ℕ
-counted test t keys = count_by (λ key. passes test key.kind (entry_of t key)) keys
+counted test t keys = count_by (λ key. option_map_or (test key.kind) (entry_of t key) false) keys
 
 -- what is counted of the entries of these keys
 abbrev pub counts_among : TableValue → List Key → Counts
 counts_among t keys = record {
-  nodes = counted (λ kind entry. is_living entry && is_node kind) t keys;
-  ways = counted (λ kind entry. is_living entry && is_way kind) t keys;
-  relations = counted (λ kind entry. is_living entry && is_relation kind) t keys;
+  nodes = counted (λ kind entry. is_living entry && same_kind Node kind) t keys;
+  ways = counted (λ kind entry. is_living entry && same_kind Way kind) t keys;
+  relations = counted (λ kind entry. is_living entry && same_kind Relation kind) t keys;
   incomplete = counted (λ kind entry. is_incomplete entry) t keys;
   deleted = counted (λ kind entry. is_deleted entry) t keys;
   changed = counted (λ kind entry. is_changed entry) t keys;
-  conflicts = counted (λ kind entry. is_in_conflict entry) t keys;
+  conflicts = counted (λ kind entry. has_conflict entry) t keys;
 }
 
 -- a name and a number
@@ -80,13 +53,13 @@ one_if test = if test then 1 else 0
 -- the counts with one entry more
 abbrev pub with_one : Counts → Kind → Entry → Counts
 with_one c kind entry = record {
-  nodes = c.nodes + one_if (is_living entry && is_node kind);
-  ways = c.ways + one_if (is_living entry && is_way kind);
-  relations = c.relations + one_if (is_living entry && is_relation kind);
+  nodes = c.nodes + one_if (is_living entry && same_kind Node kind);
+  ways = c.ways + one_if (is_living entry && same_kind Way kind);
+  relations = c.relations + one_if (is_living entry && same_kind Relation kind);
   incomplete = c.incomplete + one_if (is_incomplete entry);
   deleted = c.deleted + one_if (is_deleted entry);
   changed = c.changed + one_if (is_changed entry);
-  conflicts = c.conflicts + one_if (is_in_conflict entry);
+  conflicts = c.conflicts + one_if (has_conflict entry);
 }
 
 abbrev pub with_entry_of : Counts → Kind → Option Entry → Counts

@@ -57,8 +57,7 @@ bytes_found (Whole bytes) = Bytes bytes
 abbrev pub file_found : Limits → Purpose → Given → Found
 file_found limits (purpose.Download area wanted) given = job_found (λ objects. Merge (filtered objects area wanted)) (option_map (objects_of mode.Download limits.file) given)
 file_found limits purpose.Import given = job_found (λ objects. Import (new_objects_of objects)) (option_map (objects_of mode.Import limits.file) given)
-file_found limits purpose.Confirm given = bytes_found (reading limits.file given)
-file_found limits purpose.Resume given = bytes_found (reading limits.file given)
+file_found limits purpose given = bytes_found (reading limits.file given)
 
 -- what an act finds in what it was given
 abbrev pub act_found : Limits → Given → Act → Found

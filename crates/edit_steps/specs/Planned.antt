@@ -3,6 +3,7 @@
 -- For example over a table with two objects in conflict, of which n4 is the least, both reply `refused 23 2 n4`. Where one
 -- node is to be made and one to be deleted, `rehearse` writes `rehearse accepted 2` behind its reply.
 use Rattle.std.specs.Prelude.{ℕ, ◌≤◌, List, [], length, Result, Ok, Err, codes}
+use Rattle.std.specs.Result.{result_map_both}
 use Rattle.osm_table.specs.Table.{TableValue}
 use Rattle.upload_order.specs.declared.change.Change.{Change}
 use Rattle.upload_order.specs.declared.refusal.PlanRefusal.{PlanRefusal}
@@ -24,8 +25,7 @@ plan_refused (plan.Cyclic keys) = CyclicNew keys
 plan_refused plan.Memory = CyclicNew []
 
 abbrev pub planned : Result (List Change) PlanRefusal → Result (List Change) StepRefusal
-planned (Ok changes) = Ok changes
-planned (Err why) = Err (plan_refused why)
+planned changes = result_map_both (λ changes. changes) plan_refused changes
 
 -- done, with a text of the changes behind the reply, or refused
 abbrev pub on_plan : (List Change → Behind) → Result (List Change) StepRefusal → Response

@@ -1,9 +1,9 @@
 -- The text of `print`, and what is written of one object by `print`, `conflicts`, `save` and `find`.
-use Rattle.std.specs.Prelude.{ℕ, List, [], ◌++◌, Option, None, Some, flat_map}
+use Rattle.std.specs.Prelude.{ℕ, List, [], ◌++◌, Option, Some, flat_map}
 use Rattle.osm_base.specs.declared.key.Key.{Key}
 use Rattle.osm_table.specs.Table.{TableValue, entry_of, keys_by_rank}
 use Rattle.osm_table.specs.declared.entry.Entry.{Entry}
-use Rattle.osm_table.specs.declared.entry.Entry.TheVariants.{Incomplete, Known}
+use Rattle.osm_table.specs.declared.entry.Entry.TheVariants.{Known}
 use Rattle.conflict.specs.Shown.{conflict_text, known_text}
 use Rattle.saved_session.specs.Saved.{saved_entry, saved_end}
 use Rattle.edit_steps.specs.Searched.{key_line}
@@ -12,9 +12,8 @@ use Rattle.edit_steps.specs.declared.sending.Lines.TheVariants as lines
 
 -- the line of an entry; what isn't known has none
 abbrev pub shown : Key → Option Entry → List ℕ
-shown key None = []
-shown key (Some Incomplete) = []
 shown key (Some (Known base mine conflict)) = known_text key base mine
+shown key e = []
 
 abbrev pub entry_text : TableValue → Key → List ℕ
 entry_text t key = shown key (entry_of t key)

@@ -3,6 +3,7 @@
 -- For example a file of which the second line is no answer is refused with 26 and 2, and a saved session whose third line can't
 -- stand there with 30 and 3.
 use Rattle.std.specs.Prelude.{ℕ, List, Result, Ok, Err}
+use Rattle.std.specs.Result.{result_map_both}
 use Rattle.osm_table.specs.Table.{TableValue}
 use Rattle.dataset.specs.Patch.{PatchValue, StandsBefore, after_of}
 use Rattle.dataset.specs.Sound.{IsSound}
@@ -32,12 +33,10 @@ saved_refused fault.TableFull = Tool TableFull
 saved_refused fault.Memory = BadSaved 0
 
 abbrev pub of_answers : Result PatchValue ConfirmFault → Result PatchValue StepRefusal
-of_answers (Ok patch) = Ok patch
-of_answers (Err why) = Err (answers_refused why)
+of_answers patch = result_map_both (λ patch. patch) answers_refused patch
 
 abbrev pub of_saved : Result PatchValue SavedFault → Result PatchValue StepRefusal
-of_saved (Ok patch) = Ok patch
-of_saved (Err why) = Err (saved_refused why)
+of_saved patch = result_map_both (λ patch. patch) saved_refused patch
 
 -- The difference to the table that a file of answers confirms.
 abbrev pub confirmed : TableValue → List ℕ → Result PatchValue StepRefusal

@@ -20,7 +20,7 @@ use Rattle.edit_script.specs.declared.step.HistoryStep.TheVariants.{Begin, End, 
 use Rattle.edit_script.specs.declared.step.Look as looks
 use Rattle.edit_script.specs.declared.step.Look.TheVariants.{Print, Count, Conflicts, Save, Find, Check, Rehearse, Upload}
 use Rattle.edit_script.specs.declared.step.Purpose.{Purpose}
-use Rattle.edit_script.specs.declared.step.Purpose.TheVariants.{Download, Import, Confirm, Resume}
+use Rattle.edit_script.specs.declared.step.Purpose.TheVariants.{Confirm, Resume}
 use Rattle.edit_script.specs.declared.step.Step.{Step}
 use Rattle.edit_script.specs.declared.reply.StepReply.{StepReply}
 use Rattle.edit_script.specs.declared.reply.StepReply.TheVariants.{Done, Refused, Skipped}
@@ -125,10 +125,9 @@ resume_turn limit other s = refused_turn (missing other) s
 
 -- what is taken of a file, by what it is read for
 abbrev pub purpose_turn : Limits → Found → Purpose → State → Turn
-purpose_turn limits found (Download area wanted) s = file_turn limits.objects found s
-purpose_turn limits found Import s = file_turn limits.objects found s
 purpose_turn limits found Confirm s = confirm_turn found s
 purpose_turn limits found Resume s = resume_turn limits.objects found s
+purpose_turn limits found purpose s = file_turn limits.objects found s
 
 -- a group begins or ends, or steps are undone or done again
 abbrev pub history_turn : HistoryStep → State → Turn

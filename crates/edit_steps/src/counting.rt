@@ -2,7 +2,8 @@
 ghost use Rattle.std.specs.Prelude.{◌≡◌, ◌++◌, ◌<◌, OnOk, OnErr};
 ghost use Rattle.osm_base.specs.Extends.{Extends};
 ghost use Rattle.osm_table.specs.Table.{is_incomplete};
-ghost use Rattle.edit_steps.specs.Counted.{count_text, counts_text, kinds_text, states_text, counts_among, count_line, part, with_one, with_key, HasRoom, is_node, is_way, is_relation, is_deleted, is_in_conflict};
+ghost use Rattle.edit_steps.specs.Counted.{count_text, counts_text, kinds_text, states_text, counts_among, count_line, part, with_one, with_key, HasRoom};
+ghost use Rattle.map_search.specs.Meets.{has_conflict, is_deleted, same_kind};
 
 use dataset::DataSet;
 use osm_base::{Key, Kind, write_digits};
@@ -156,7 +157,7 @@ impl Counts {
 }
 
 fn is_node(kind: Kind) -> bool
-    ensures { result ≡ is_node kind }
+    ensures { result ≡ same_kind Kind.Node kind }
 {
     match kind {
         Kind::Node => true,
@@ -165,7 +166,7 @@ fn is_node(kind: Kind) -> bool
 }
 
 fn is_way(kind: Kind) -> bool
-    ensures { result ≡ is_way kind }
+    ensures { result ≡ same_kind Kind.Way kind }
 {
     match kind {
         Kind::Way => true,
@@ -174,7 +175,7 @@ fn is_way(kind: Kind) -> bool
 }
 
 fn is_relation(kind: Kind) -> bool
-    ensures { result ≡ is_relation kind }
+    ensures { result ≡ same_kind Kind.Relation kind }
 {
     match kind {
         Kind::Relation => true,
@@ -201,7 +202,7 @@ fn is_deleted(entry: &SharedEntry) -> bool
 }
 
 fn is_in_conflict(entry: &SharedEntry) -> bool
-    ensures { result ≡ is_in_conflict entry.now }
+    ensures { result ≡ has_conflict entry.now }
 {
     match entry.parts() {
         EntryParts::Incomplete => false,

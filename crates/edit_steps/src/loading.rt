@@ -20,7 +20,7 @@ use crate::limits::Limits;
 use download::{filter, what_is_read_may_be_told};
 use edit_history::Group;
 use edit_script::{Act, Purpose};
-use import_tool::{new_objects, what_is_read_can_be_imported};
+use import_tool::new_objects;
 use opl_file::{FileAnswer, FileFault, Objects, Reader};
 use opl_line::Mode;
 use osm_base::{Area, Tags};
@@ -141,7 +141,6 @@ fn find_new<S: Shelf>(
         None => Ok(Found::Nothing),
         Some(Err(fault)) => Ok(Found::Bad(fault)),
         Some(Ok(objects)) => {
-            what_is_read_can_be_imported();
             let objects = new_objects(alloc, objects)?;
             Ok(Found::Job(Job::Import { objects }))
         }

@@ -4,7 +4,7 @@ ghost use Rattle.dataset.specs.Draft.{drafted};
 ghost use Rattle.dataset.specs.Sound.{IsSound};
 ghost use Rattle.renamed_content.specs.Renamed.{renamed};
 ghost use Rattle.tool_api.specs.Changes.{all_added};
-ghost use Rattle.tool_api.specs.Import.{AreNewObjects, import};
+ghost use Rattle.tool_api.specs.Import.{import};
 ghost use Rattle.tool_api.specs.Planned.{Plans};
 ghost use Rattle.import_tool.specs.Known.{called};
 
@@ -13,7 +13,7 @@ use crate::reference_checks::reference_tests;
 use dataset::{DataSet, Draft};
 use renamed_content::renamed;
 use std::alloc::AllocError;
-use tool_api::{Command, Job, NewObject, Plan, Undoable, Verb, add_new, closed};
+use tool_api::{Command, Job, NewObject, NewObjects, Plan, Undoable, Verb, add_new, closed};
 
 /// The draft that puts the objects in order, with what their references are called.
 ///
@@ -31,11 +31,11 @@ fn import_draft(ds: &DataSet, objects: &[NewObject], names: &NewKeys) -> Result<
     Ok(draft)
 }
 
-fn import_plan(ds: &DataSet, objects: &[NewObject], limit: u64) -> Result<Plan, AllocError>
-    requires sound { IsSound ds.now }
-    requires objects { AreNewObjects objects.now }
-    ensures { IfOk result (Plans ds.now (import ds.now limit objects.now)) }
+fn import_plan(ds: &DataSet, new: &NewObjects, limit: u64) -> Result<Plan, AllocError>
+    requires { IsSound ds.now }
+    ensures { IfOk result (Plans ds.now (import ds.now limit new.now)) }
 {
+    let objects = new.as_slice();
     let names = NewKeys::new(ds.alloc(), objects, ds.next())?;
     if let Some(refusal) = reference_tests(ds, &names, objects)? {
         return Ok(Plan::Refused(refusal));
@@ -62,7 +62,7 @@ impl Command for Import {
 
     fn plan(ds: &DataSet, job: &Job, limit: u64) -> Result<Plan, AllocError> {
         match job {
-            Job::Import { objects } => import_plan(ds, objects.as_slice(), limit),
+            Job::Import { objects } => import_plan(ds, objects, limit),
             _ => unreachable!(),
         }
     }

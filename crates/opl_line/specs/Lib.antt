@@ -3,6 +3,7 @@ pub mod Fault
 pub mod Front
 pub mod Field
 pub mod Line
+pub mod ManyTags
 pub mod Reads
 pub mod Spelling
 pub mod Told

@@ -24,6 +24,7 @@ mod law;
 mod letter;
 mod line;
 mod lists;
+mod many_tags;
 mod mode;
 mod moments;
 mod number;

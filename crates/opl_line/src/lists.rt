@@ -15,6 +15,7 @@ ghost use Rattle.opl_line.specs.Field.{is_allowed, tag_into, tags_text, is_place
 
 use crate::fault::{LineAnswer, LineFault};
 use crate::front::id_front;
+use crate::many_tags::many_tags;
 use crate::mode::{Mode, is_allowed};
 use crate::number::read_place;
 use crate::pieces::{count_pieces, cut};
@@ -65,11 +66,14 @@ fn room(text: &[u8]) -> usize {
     count_pieces(text, b',').min(MOST_ROOM)
 }
 
-/// The tags between commas.
-fn all_tags(pool: &mut Pool, text: &[u8]) -> Result<Tags, LineAnswer>
+/// The most tags that are put in one by one, each of which may move those before it.
+const FEW_TAGS: usize = 1_000;
+
+/// The tags between commas, put in one by one, with room for so many.
+fn all_tags(pool: &mut Pool, text: &[u8], room: usize) -> Result<Tags, LineAnswer>
     ensures { Gives (λ tags. tags) result (folded tag_into [] (split (is_one_of 44 44) text.now)) }
 {
-    let mut tags = Tags::with_capacity(pool.allocator(), room(text))?;
+    let mut tags = Tags::with_capacity(pool.allocator(), room)?;
     let mut rest = text;
     loop {
         let (item, after) = cut(rest, b',', b',');
@@ -82,7 +86,7 @@ fn all_tags(pool: &mut Pool, text: &[u8]) -> Result<Tags, LineAnswer>
 }
 
 /// The tags that the text behind a field's `T` spells. Its commas are counted, and then it is
-/// walked once.
+/// walked once; more than a thousand tags are sorted.
 ///
 /// # Errors
 /// `Bad` with the first fault from the left; `Memory` where memory ran out.
@@ -93,7 +97,12 @@ pub fn read_tags(pool: &mut Pool, text: &[u8]) -> Result<Tags, LineAnswer>
     if text.is_empty() {
         return Ok(Tags::new(pool.allocator()));
     }
-    all_tags(pool, text)
+    let count = count_pieces(text, b',');
+    if count > FEW_TAGS {
+        many_tags(pool, text)
+    } else {
+        all_tags(pool, text, count)
+    }
 }
 
 /// Whether the bytes are a longitude, `y` and a latitude, each of which may be nothing.

@@ -4,6 +4,11 @@ use Rattle.std.proofs.lemmas.List.{append-nil, drop_all, length-reverse, length-
 use Rattle.std.proofs.lemmas.Option.{get_or_from_slice_get, slice_get_past, slice_get_read, slice_get_within}
 use Rattle.std.specs.Slice.{IsItemAt}
 use Rattle.std.specs.List.{find, last_or}
+use Rattle.std.specs.Ordering.{int_eq}
+use Rattle.std.proofs.lemmas.Bool.Decides.{Decides-int_eq}
+use Rattle.osm_base.specs.Content.{node}
+use Rattle.osm_base.proofs.SameLaws.{is_key_decides}
+use Rattle.tool_api.specs.Checks.{is_named}
 use Rattle.std.specs.Option.{unwrap_or, option_map, option_map_or, option_or, option_copied}
 use Rattle.osm_base.specs.Rank.{is_key}
 use Rattle.osm_base.specs.declared.key.Key.{Key}
@@ -55,6 +60,26 @@ restricted_kept via ps o none e =
     let f : ◌≡◌ {A = Option PieceValue} None (find (λ (p : PieceValue). is_among via p.first || is_among via p.last) (piece_values ps)) =
     ap (option_map piece_value) none ∙ found_value (λ (p : PieceValue). is_among via p.first || is_among via p.last) ps in
     ap (option_map piece_value) e ∙ found_value (λ (p : PieceValue). p.kept) ps ∙ ap (λ (o : Option PieceValue). option_or o (find (λ (p : PieceValue). p.kept) (piece_values ps))) f
+
+-- the key of a node is that of another where the ids are one
+node_case : (n m : ℤ) (b : Bool) → int_eq n m ≡ b → is_key (node n) (node m) ≡ b
+node_case n m true is = (is_key_decides (node n) (node m)).1 (ap node ((Decides-int_eq n m).0 is))
+node_case n m false is = other (is_key (node n) (node m)) refl
+  where
+    other : (b : Bool) → is_key (node n) (node m) ≡ b → is_key (node n) (node m) ≡ false
+    other true e = let one : int_eq n m ≡ true = (Decides-int_eq n m).1 (ap (λ (k : Key). k.id) ((is_key_decides (node n) (node m)).0 e)) in (let bad : ⊥ = cc in absurd bad)
+    other false e = e
+
+among_nodes : (via : List ℤ) (n : ℤ) → is_named (map node via) (node n) ≡ is_among via n
+among_nodes [] n = refl
+among_nodes (m ∷ via) n = λ i. node_case n m (int_eq n m) refl i || among_nodes via n i
+
+-- the same search by keys
+pub by_keys : (via : List ℤ) (keys : List Key) (ps : List Piece) (o : Option Piece) → keys ≡ map node via → o ≡ find (λ (p : Piece). is_named keys (node p.first) || is_named keys (node p.last)) ps
+    → o ≡ find (λ (p : Piece). is_among via p.first || is_among via p.last) ps
+by_keys via keys ps o are is =
+    is ∙ (λ i. find (λ (p : Piece). is_named (are i) (node p.first) || is_named (are i) (node p.last)) ps)
+    ∙ (λ i. find (λ (p : Piece). among_nodes via p.first i || among_nodes via p.last i) ps)
 
 -- what stands next
 pub first_left : {A : Type 0} (xs : List A) (i : ℕ) → first_in (drop i xs) ≡ slice_get xs i

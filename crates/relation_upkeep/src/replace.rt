@@ -2,15 +2,17 @@
 ghost use Rattle.std.specs.Prelude.{◌≡◌, ◌++◌, ◌∷◌, [], length, ◌<◌, ◌||◌, map, None, Some, OnOk, IfOk};
 ghost use Rattle.std.specs.List.{flat_map, find, slice_get};
 ghost use Rattle.std.specs.Option.{option_copied, option_map};
+ghost use Rattle.osm_base.specs.Content.{node};
 ghost use Rattle.osm_base.specs.Same.{same_text};
 ghost use Rattle.osm_base.specs.declared.content.Content.TheVariants.{Way};
+ghost use Rattle.tool_api.specs.Checks.{is_named};
 ghost use Rattle.tool_api.specs.Upkeep.{ends, ends_beside, via_nodes, is_among, restricted_piece, touches, is_backward, in_order, is_turn, first_node, last_node, is_restriction, replaced_from, replaced, member_of};
 ghost use Rattle.relation_upkeep.specs.Replace.{piece_value, piece_values, members_of, via_of, turn_of, stood, ends_list, turn_value};
 
 use dataset::DataSet;
-use osm_base::{Content, Key, Kind, Member, Members, Tags, Text, same_key};
-use std::alloc::AllocError;
-use tool_api::content_of;
+use osm_base::{Content, Key, Kind, Member, Members, Tags, Text, node_key, same_key};
+use std::alloc::{AllocError, Global};
+use tool_api::{KeySet, content_of};
 
 /// A piece of a way that was split.
 #[derive(Clone, Copy, Debug, PartialEq, Eq)]
@@ -208,16 +210,23 @@ fn via_nodes(ds: &DataSet, way: Key, members: &[Member]) -> Result<Vec<i64>, All
     Ok(out)
 }
 
-fn is_among(ids: &[i64], id: i64) -> bool
-    ensures { result ≡ is_among ids.now id }
+/// The keys of nodes, to be found without a walk.
+fn node_set(alloc: Global, ids: &[i64]) -> Result<KeySet, AllocError>
+    ensures { IfOk result (λ keys. keys ≡ map node ids.now) }
 {
-    ids.iter().any(|other| id == *other)
+    let mut keys = Vec::with_capacity(alloc, ids.len())?;
+    for id in ids {
+        keys.push(node_key(*id))?;
+    }
+    KeySet::from_vec(keys)
 }
 
-fn first_at(via: &[i64], pieces: &[Piece]) -> Option<Piece>
-    ensures { result ≡ find (λ p. is_among via.now p.first || is_among via.now p.last) pieces.now }
+fn first_at(via: &KeySet, pieces: &[Piece]) -> Option<Piece>
+    ensures { result ≡ find (λ p. is_named via.now (node p.first) || is_named via.now (node p.last)) pieces.now }
 {
-    pieces.iter().copied().find(|piece| is_among(via, piece.first) || is_among(via, piece.last))
+    pieces.iter().copied().find(|piece| {
+        via.contains(node_key(piece.first)) || via.contains(node_key(piece.last))
+    })
 }
 
 fn kept_piece(pieces: &[Piece]) -> Option<Piece>
@@ -226,13 +235,18 @@ fn kept_piece(pieces: &[Piece]) -> Option<Piece>
     pieces.iter().copied().find(|piece| piece.kept)
 }
 
-/// The first piece with an end among the nodes, else the kept one.
-fn restricted_piece(via: &[i64], pieces: &[Piece]) -> Option<Piece>
-    ensures { option_map piece_value result ≡ restricted_piece via.now (piece_values pieces.now) }
+/// The first piece with an end among the nodes, else the kept one. The nodes are hashed once.
+fn restricted_piece(
+    alloc: Global,
+    via: &[i64],
+    pieces: &[Piece],
+) -> Result<Option<Piece>, AllocError>
+    ensures { IfOk result (λ piece. option_map piece_value piece ≡ restricted_piece via.now (piece_values pieces.now)) }
 {
-    match first_at(via, pieces) {
-        Some(piece) => Some(piece),
-        None => kept_piece(pieces),
+    let via = node_set(alloc, via)?;
+    match first_at(&via, pieces) {
+        Some(piece) => Ok(Some(piece)),
+        None => Ok(kept_piece(pieces)),
     }
 }
 
@@ -257,7 +271,7 @@ fn turn(
         return Ok(None);
     }
     let via = via_nodes(ds, way, members)?;
-    Ok(Some(restricted_piece(&via, pieces)))
+    Ok(Some(restricted_piece(ds.alloc(), &via, pieces)?))
 }
 
 fn replaced_members(
@@ -293,7 +307,7 @@ fn replaced_members(
 /// backward, as the neighbours touch its ends. Roles stay.
 ///
 /// It costs the members that there are afterwards, a few look-ups for each that names the way, and in a restriction
-/// the pieces times the nodes of the `via` members.
+/// the nodes of the `via` members and one or two look-ups a piece.
 ///
 /// # Errors
 /// No memory was left.

@@ -6,11 +6,11 @@
 -- For example `changed t (delete t) (w1 ∷ w-1 ∷ [])` leaves w1 with its base and no content of ours, and takes w-1 out,
 -- since no server knows it.
 use Rattle.std.specs.Prelude.{ℕ, negsuc, ◌+◌, ◌-◌, List, [], ◌∷◌, Option, Some, None}
-use Rattle.std.specs.Option.{option_map, option_and_then}
+use Rattle.std.specs.Option.{option_map, option_and_then, option_map_or}
 use Rattle.osm_base.specs.declared.key.Key.{Key}
 use Rattle.osm_base.specs.declared.key.Kind.{Kind}
 use Rattle.osm_base.specs.declared.content.Content.{Content}
-use Rattle.osm_table.specs.declared.entry.Base.TheVariants.{New, Live, Gone}
+use Rattle.osm_table.specs.declared.entry.Base.TheVariants.{New}
 use Rattle.osm_table.specs.declared.entry.Entry.{Entry}
 use Rattle.osm_table.specs.declared.entry.Entry.TheVariants.{Incomplete, Known}
 use Rattle.osm_table.specs.Table.{TableValue, entry_of, with_entry, without_entry}
@@ -24,8 +24,7 @@ pub record Outcome : Type 0 where
 
 -- the table with another entry, or none, at a key
 abbrev pub placed : TableValue → Key → Option Entry → TableValue
-placed t k None = without_entry t k
-placed t k (Some e) = with_entry t k e
+placed t k e = option_map_or (with_entry t k) e (without_entry t k)
 
 -- The table where each of the keys has the entry that g gives it.
 abbrev pub changed : TableValue → (Key → Option Entry) → List Key → TableValue
@@ -41,8 +40,7 @@ with_mine f (Known base mine conflict) = Known base (option_map f mine) conflict
 abbrev pub deleted : Entry → Option Entry
 deleted Incomplete = Some Incomplete
 deleted (Known New mine conflict) = None
-deleted (Known (Live v c m) mine conflict) = Some (Known (Live v c m) None conflict)
-deleted (Known (Gone v m) mine conflict) = Some (Known (Gone v m) None conflict)
+deleted (Known base mine conflict) = Some (Known base None conflict)
 
 -- a key's entry with its content edited
 abbrev pub edit : TableValue → (Content → Content) → Key → Option Entry

@@ -14,7 +14,7 @@ use Rattle.osm_table.specs.declared.entry.Conflict.{Conflict}
 use Rattle.osm_table.specs.declared.entry.Base.TheVariants.{New}
 use Rattle.osm_table.specs.declared.entry.Entry.{Entry}
 use Rattle.osm_table.specs.declared.entry.Entry.TheVariants.{Incomplete, Known}
-use Rattle.osm_table.specs.Table.{TableValue, entry_of}
+use Rattle.osm_table.specs.Table.{TableValue, conflict_of, entry_of}
 use Rattle.osm_table.specs.Table.{users}
 use Rattle.tool_api.specs.declared.kinds.Kinds.{Kinds}
 use Rattle.tool_api.specs.declared.kinds.Kinds.TheVariants.{Any, Nodes, Ways, Relations, NodesAndWays}
@@ -57,8 +57,7 @@ takes kinds kind = false
 
 -- an object in conflict isn't edited
 abbrev pub conflict_test : Key → Option Conflict → Option Refusal
-conflict_test key None = None
-conflict_test key (Some conflict) = Some (InConflict key)
+conflict_test key conflict = option_map (λ conflict. InConflict key) conflict
 
 -- one named object: it is there, living, of a kind that the job takes, and not in conflict
 abbrev pub entry_test : Kinds → Key → Option Entry → Option Refusal
@@ -83,9 +82,8 @@ list_tests t kinds keys = option_or (twice_test [] keys) (first_of (target_test 
 -- one reference: it is there, and not deleted. An Incomplete one is taken.
 abbrev pub ref_entry_test : Key → Option Entry → Option Refusal
 ref_entry_test r None = Some (Absent r)
-ref_entry_test r (Some Incomplete) = None
 ref_entry_test r (Some (Known base None conflict)) = Some (DeletedObject r)
-ref_entry_test r (Some (Known base (Some mine) conflict)) = None
+ref_entry_test r e = None
 
 -- Reference tests, item by item: Absent, DeletedObject.
 abbrev pub ref_tests : TableValue → List Key → Option Refusal
@@ -98,8 +96,7 @@ use_test t named k = option_map (λ by. InUse k by) (find (λ u. not (is_named n
 -- one object to be purged: it is there, and not in conflict
 abbrev pub purge_entry_test : Key → Option Entry → Option Refusal
 purge_entry_test k None = Some (Absent k)
-purge_entry_test k (Some Incomplete) = None
-purge_entry_test k (Some (Known base mine conflict)) = conflict_test k conflict
+purge_entry_test k (Some e) = conflict_test k (conflict_of e)
 
 -- whether no server knows the object
 abbrev pub is_new : Option Entry → Bool

@@ -2,16 +2,15 @@
 --
 -- For example `erase n1` in a way w5 that is in conflict is refused as InConflict w5: the job would mend the way,
 -- and doesn't name it.
-use Rattle.std.specs.Prelude.{ℕ, ◌&&◌, ◌||◌, Bool, false, not, nat_lt, List, Option, Some, None, Result, Ok, is_some}
+use Rattle.std.specs.Prelude.{ℕ, ◌&&◌, ◌||◌, Bool, false, not, nat_lt, List, Option, Some, Result, Ok, is_some}
 use Rattle.std.specs.List.{find}
-use Rattle.std.specs.Option.{option_or, option_map}
+use Rattle.std.specs.Option.{option_or, option_map, option_map_or, option_and_then}
 use Rattle.std.specs.FinMap as fin
 use Rattle.osm_base.specs.declared.key.Key.{Key}
 use Rattle.osm_base.specs.Content.{fits}
 use Rattle.osm_base.specs.declared.content.Content.{Content}
 use Rattle.osm_table.specs.declared.entry.Entry.{Entry}
-use Rattle.osm_table.specs.declared.entry.Entry.TheVariants.{Incomplete, Known}
-use Rattle.osm_table.specs.Table.{TableValue, entry_of, keys_by_rank}
+use Rattle.osm_table.specs.Table.{TableValue, conflict_of, entry_of, keys_by_rank}
 use Rattle.tool_api.specs.declared.refusal.Refusal.{Refusal}
 use Rattle.tool_api.specs.declared.refusal.Refusal.TheVariants.{InConflict, Unfit, TableFull}
 use Rattle.osm_table.specs.Same.{same_mine}
@@ -21,9 +20,7 @@ use Rattle.tool_api.specs.Changes.{Outcome, content_of}
 
 -- whether a key's object is in conflict
 abbrev pub in_conflict : Option Entry → Bool
-in_conflict None = false
-in_conflict (Some Incomplete) = false
-in_conflict (Some (Known base mine conflict)) = is_some conflict
+in_conflict e = is_some (option_and_then conflict_of e)
 
 -- the entry differs before and after, it isn't named, and it is in conflict
 abbrev pub changes_conflict : List Key → Key → Option Entry → Option Entry → Bool
@@ -31,8 +28,7 @@ changes_conflict named k before after = in_conflict before && not (is_named name
 
 -- the content differs before and after, and the new one doesn't fit
 abbrev pub makes_unfit : Option Content → Option Content → Bool
-makes_unfit before None = false
-makes_unfit before (Some c) = not (fits c) && not (same_mine before (Some c))
+makes_unfit before after = option_map_or (λ c. not (fits c) && not (same_mine before (Some c))) after false
 
 -- more entries than the limit, or no number is left
 abbrev pub is_full : ℕ → TableValue → Bool
@@ -56,6 +52,4 @@ closing_tests t limit named u = option_or (conflict_change_test t named u) (opti
 
 -- a job's outcome, where it passes the closing tests
 abbrev pub closing : TableValue → ℕ → List Key → Outcome → Result Outcome Refusal
-closing t limit named new = do
-  closing_tests t limit named new.table
-  Ok new
+closing t limit named new = closing_tests t limit named new.table >> Ok new

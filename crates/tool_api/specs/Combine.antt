@@ -126,8 +126,7 @@ combined t ways refs kept =
 
 -- the same, where there is a way to keep
 abbrev pub combined_table : TableValue → List Key → List ℤ → Option Key → TableValue
-combined_table t ways refs None = t
-combined_table t ways refs (Some kept) = combined t ways refs kept
+combined_table t ways refs kept = option_map_or (combined t ways refs) kept t
 
 -- Combine: list tests (ways); per way; the joining; TagClash; MemberClash; closing tests.
 abbrev pub combine : TableValue → ℕ → List Key → Result Outcome Refusal

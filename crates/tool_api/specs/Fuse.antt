@@ -2,8 +2,9 @@
 --
 -- For example with n1 and n3 at one place and w5 Nn1,n2,n3 `fuse n3,n1` keeps n3, with the tags of both, and w5 is
 -- Nn3,n2,n3; n1 is deleted. `fuse n1,n2` is refused as NotSamePlace n2, if n2 lies elsewhere.
-use Rattle.std.specs.Prelude.{ℕ, ℤ, ◌&&◌, not, if◌then◌else◌, List, [], ◌∷◌, Option, Some, None, Result}
+use Rattle.std.specs.Prelude.{ℕ, ℤ, ◌&&◌, not, if◌then◌else◌, List, [], ◌∷◌, Option, None, Result}
 use Rattle.std.specs.List.{filter, list_any, dedup}
+use Rattle.std.specs.Option.{option_map_or}
 use Rattle.std.specs.Ordering.{int_eq}
 use Rattle.osm_base.specs.Rank.{is_key}
 use Rattle.osm_base.specs.declared.key.Key.{Key}
@@ -55,8 +56,7 @@ fused t nodes kept =
 
 -- the same, where there is a node to keep
 abbrev pub fused_table : TableValue → List Key → Option Key → TableValue
-fused_table t nodes None = t
-fused_table t nodes (Some kept) = fused t nodes kept
+fused_table t nodes kept = option_map_or (fused t nodes) kept t
 
 -- Fuse: list tests (nodes); NotSamePlace; TagClash; closing tests.
 abbrev pub fuse : TableValue → ℕ → List Key → Result Outcome Refusal

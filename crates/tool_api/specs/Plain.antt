@@ -20,40 +20,42 @@ use Rattle.tool_api.specs.Gone.{delete_all, erase, purge}
 use Rattle.tool_api.specs.Split.{split}
 use Rattle.tool_api.specs.Combine.{combine}
 use Rattle.tool_api.specs.Merged.{merge}
-use Rattle.tool_api.specs.Import.{AreNewObjects, import}
+use Rattle.tool_api.specs.Import.{import}
 use Rattle.tool_api.specs.Resolve.{resolve}
 use Rattle.tool_api.specs.Squeeze.{squeeze}
 use Rattle.tool_api.specs.Fuse.{fuse}
 
--- a job that names what it has to: at least two ways to combine or nodes to fuse, and for an import objects as a file has
--- them
+-- a job that names what it has to: at least two ways to combine or nodes to fuse
 abbrev pub IsWellFormed : Job → Type 0
 IsWellFormed (job.Combine ways) = 2 ≤ length ways
-IsWellFormed (job.Import objects) = AreNewObjects objects
 IsWellFormed (job.Fuse nodes) = 2 ≤ length nodes
 IsWellFormed j = Unit {0}
 
+-- the verb of a job, and what the job makes of a table with a limit of entries
+abbrev pub meant : Job → Verb × (TableValue → ℕ → Result Outcome Refusal)
+meant (job.AddNode tags at) = (verb.Add, λ t limit. add t limit (content.Node tags at))
+meant (job.AddWay tags refs) = (verb.Add, λ t limit. add t limit (content.Way tags refs))
+meant (job.AddRelation tags members) = (verb.Add, λ t limit. add t limit (content.Relation tags members))
+meant (job.SetTags keys tags) = (verb.Tag, λ t limit. set_tags t limit keys tags)
+meant (job.Shift keys dx dy) = (verb.Move, λ t limit. shift t limit keys dx dy)
+meant (job.Place key at) = (verb.Change, λ t limit. place t limit key at)
+meant (job.SetNodes key refs) = (verb.Change, λ t limit. set_nodes t limit key refs)
+meant (job.SetMembers key members) = (verb.Change, λ t limit. set_members t limit key members)
+meant (job.Delete keys) = (verb.Delete, λ t limit. delete_all t keys)
+meant (job.Erase keys) = (verb.Erase, λ t limit. erase t limit keys)
+meant (job.Purge keys) = (verb.Purge, λ t limit. purge t keys)
+meant (job.Split way nodes) = (verb.Split, λ t limit. split t limit way nodes)
+meant (job.Combine ways) = (verb.Combine, λ t limit. combine t limit ways)
+meant (job.Reverse way) = (verb.Reverse, λ t limit. reversed t limit way)
+meant (job.Merge told) = (verb.Merge, λ t limit. merge t limit told)
+meant (job.Import objects) = (verb.Import, λ t limit. import t limit objects)
+meant (job.Resolve key choice) = (verb.Resolve, λ t limit. resolve t limit key choice)
+meant (job.Squeeze keys) = (verb.Squeeze, λ t limit. squeeze t limit keys)
+meant (job.Fuse nodes) = (verb.Fuse, λ t limit. fuse t limit nodes)
+
 -- the verb of the tool that runs a job
 abbrev pub verb_of : Job → Verb
-verb_of (job.AddNode tags at) = verb.Add
-verb_of (job.AddWay tags refs) = verb.Add
-verb_of (job.AddRelation tags members) = verb.Add
-verb_of (job.SetTags keys tags) = verb.Tag
-verb_of (job.Shift keys dx dy) = verb.Move
-verb_of (job.Place key at) = verb.Change
-verb_of (job.SetNodes key refs) = verb.Change
-verb_of (job.SetMembers key members) = verb.Change
-verb_of (job.Delete keys) = verb.Delete
-verb_of (job.Erase keys) = verb.Erase
-verb_of (job.Purge keys) = verb.Purge
-verb_of (job.Split way nodes) = verb.Split
-verb_of (job.Combine ways) = verb.Combine
-verb_of (job.Reverse way) = verb.Reverse
-verb_of (job.Merge told) = verb.Merge
-verb_of (job.Import objects) = verb.Import
-verb_of (job.Resolve key choice) = verb.Resolve
-verb_of (job.Squeeze keys) = verb.Squeeze
-verb_of (job.Fuse nodes) = verb.Fuse
+verb_of j = (meant j).0
 
 -- a reply, and the table after it
 pub record Answer : Type 0 where
@@ -67,25 +69,7 @@ answered t (Err r) = record { reply = Refused r; table = t }
 
 -- what a job makes of a table with a limit of entries, or its refusal
 abbrev pub outcome : Job → TableValue → ℕ → Result Outcome Refusal
-outcome (job.AddNode tags at) t limit = add t limit (content.Node tags at)
-outcome (job.AddWay tags refs) t limit = add t limit (content.Way tags refs)
-outcome (job.AddRelation tags members) t limit = add t limit (content.Relation tags members)
-outcome (job.SetTags keys tags) t limit = set_tags t limit keys tags
-outcome (job.Shift keys dx dy) t limit = shift t limit keys dx dy
-outcome (job.Place key at) t limit = place t limit key at
-outcome (job.SetNodes key refs) t limit = set_nodes t limit key refs
-outcome (job.SetMembers key members) t limit = set_members t limit key members
-outcome (job.Delete keys) t limit = delete_all t keys
-outcome (job.Erase keys) t limit = erase t limit keys
-outcome (job.Purge keys) t limit = purge t keys
-outcome (job.Split way nodes) t limit = split t limit way nodes
-outcome (job.Combine ways) t limit = combine t limit ways
-outcome (job.Reverse way) t limit = reversed t limit way
-outcome (job.Merge told) t limit = merge t limit told
-outcome (job.Import objects) t limit = import t limit objects
-outcome (job.Resolve key choice) t limit = resolve t limit key choice
-outcome (job.Squeeze keys) t limit = squeeze t limit keys
-outcome (job.Fuse nodes) t limit = fuse t limit nodes
+outcome j t limit = (meant j).1 t limit
 
 -- The reply and the new table of a job.
 abbrev pub plain : Job → TableValue → ℕ → Answer

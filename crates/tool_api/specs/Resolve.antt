@@ -2,7 +2,7 @@
 --
 -- The state of the server that the conflict holds becomes the base, mine is as chosen, and the conflict goes. For example
 -- where n1 is in conflict, `resolve n1 theirs` is refused as InUse n1 w5 if theirs is deleted and w5 refers to n1.
-use Rattle.std.specs.Prelude.{ℕ, not, if◌then◌else◌, [], ◌∷◌, Option, Some, None, Result, Ok}
+use Rattle.std.specs.Prelude.{ℕ, not, if◌then◌else◌, [], ◌∷◌, Option, Some, None, is_some, Result, Ok}
 use Rattle.std.specs.Option.{option_map, option_or}
 use Rattle.osm_base.specs.Rank.{is_key}
 use Rattle.osm_base.specs.declared.key.Key.{Key}
@@ -29,21 +29,17 @@ clashing_test choice base mine theirs = None
 -- The object is there and in conflict, and can be settled so: Absent, NoConflict, NotMixed, NotClashing.
 abbrev pub choice_test : Choice → Key → Option Entry → Option Refusal
 choice_test choice k None = Some (Absent k)
-choice_test choice k (Some Incomplete) = Some (NoConflict k)
-choice_test choice k (Some (Known base mine None)) = Some (NoConflict k)
 choice_test choice k (Some (Known base mine (Some conflict))) = option_or (when (not (can_choose choice base mine conflict)) (NotMixed k)) (clashing_test choice (held_by base) mine (held_by conflict.theirs))
+choice_test choice k (Some e) = Some (NoConflict k)
 
 -- Of an object that goes: InUse with the least user besides itself
 abbrev pub unused_test : TableValue → Key → Option Content → Option Refusal
-unused_test t k None = use_test t (k ∷ []) k
-unused_test t k (Some c) = None
+unused_test t k mine = if is_some mine then None else use_test t (k ∷ []) k
 
 -- a reference that isn't known may enter; what is deleted may not be referred to
 abbrev pub gone_test : Key → Option Entry → Option Refusal
-gone_test r None = None
-gone_test r (Some Incomplete) = None
 gone_test r (Some (Known base None conflict)) = Some (DeletedObject r)
-gone_test r (Some (Known base (Some mine) conflict)) = None
+gone_test r e = None
 
 -- DeletedObject with the first reference, to another object, that is deleted
 abbrev pub references_gone_test : TableValue → Key → Option Content → Option Refusal
@@ -51,9 +47,8 @@ references_gone_test t k mine = first_of (λ r. if is_key k r then None else gon
 
 -- Unfit where mine is not what the server has, and doesn't fit
 abbrev pub settled_fit_test : Key → Option Entry → Option Refusal
-settled_fit_test k None = None
-settled_fit_test k (Some Incomplete) = None
 settled_fit_test k (Some (Known base mine conflict)) = when (makes_unfit (held_by base) mine) (Unfit k)
+settled_fit_test k e = None
 
 -- the object has another entry, and what isn't there enters
 abbrev pub settled_entry : TableValue → Key → Option Entry → Key → Option Entry

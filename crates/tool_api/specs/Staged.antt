@@ -61,15 +61,13 @@ with_theirs theirs (Known base mine conflict) = Known theirs (all_joined (held_b
 
 -- What a case makes of an entry. A candidate's stays for the time.
 abbrev pub staged : Verdict → Option Entry → Base → Option Entry
-staged Stay entry theirs = entry
 staged Mention entry theirs = Some Incomplete
 staged Take entry theirs = Some (taken theirs)
-staged Clash entry theirs = entry
 staged Keep entry theirs = Some (withdrawn theirs)
-staged Candidate entry theirs = entry
 staged Settle entry theirs = Some (taken theirs)
 staged Join entry theirs = option_map (with_theirs theirs) entry
 staged Dispute entry theirs = option_map (against Changed theirs) entry
+staged verdict entry theirs = entry
 
 abbrev pub is_candidate : Verdict → Bool
 is_candidate Stay = false
@@ -109,16 +107,13 @@ stage_of t m k = record {
 
 -- what the known side holds, where the entry doesn't live: an object that was lost here
 abbrev pub lost_of : Option Entry → Option Content
-lost_of None = None
-lost_of (Some Incomplete) = None
 lost_of (Some (Known base None conflict)) = held_by (known_base base conflict)
-lost_of (Some (Known base (Some mine) conflict)) = None
+lost_of e = None
 
 -- whether the entry is known and doesn't live
 abbrev pub is_dead : Entry → Bool
-is_dead Incomplete = false
 is_dead (Known base None conflict) = true
-is_dead (Known base (Some mine) conflict) = false
+is_dead e = false
 
 -- whether a content, if there is one, refers to the key
 abbrev pub refers_by : Option Content → Key → Bool

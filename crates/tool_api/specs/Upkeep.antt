@@ -76,8 +76,7 @@ is_backward before_a before_b after_a after_b = after_a && not after_b
 
 -- along the way, or backward
 abbrev pub in_order : Bool → List PieceValue → List PieceValue
-in_order true pieces = reverse pieces
-in_order false pieces = pieces
+in_order backward pieces = if backward then reverse pieces else pieces
 
 -- the pieces in the order in which they stand between the neighbours
 abbrev pub pieces_between : TableValue → Key → List PieceValue → ℤ → ℤ → Option Member → Option Member → List PieceValue
@@ -90,8 +89,7 @@ is_turn role = same_text role (codes "from") || same_text role (codes "to")
 
 -- the first node of the first piece
 abbrev pub first_node : List PieceValue → ℤ
-first_node [] = pos 0
-first_node (p ∷ ps) = p.first
+first_node ps = option_map_or (λ (p : PieceValue). p.first) (first_in ps) (pos 0)
 
 -- the last node of the last piece
 abbrev pub last_node : List PieceValue → ℤ

@@ -1,8 +1,9 @@
 //! The new objects that a file brings.
-ghost use Rattle.std.specs.Prelude.{◌≡◌, ◌++◌, ◌∷◌, [], length, OnOk, OnErr};
+ghost use Rattle.std.specs.Prelude.{◌≡◌, [], length};
+ghost use Rattle.tool_api.specs.Import.{AreNewObjects};
 
 use osm_base::{Content, Key};
-use std::alloc::{AllocError, Global};
+use std::alloc::Global;
 use std::marker::Model;
 
 /// An object that no server knows yet, as a file has it.
@@ -14,7 +15,8 @@ pub struct NewObject {
     pub content: Content,
 }
 
-/// A list of new objects.
+/// New objects as one file may have them: each key once, its id negative, each content of its key's kind, and no reference
+/// out of range (`AreNewObjects` in specs/). So an import asks nothing more of them.
 #[derive(Debug, Drop)]
 pub struct NewObjects {
     list: Vec<NewObject>,
@@ -22,11 +24,14 @@ pub struct NewObjects {
 
 impl Model for NewObjects {
     ghost use Rattle.std.specs.Prelude.{List};
+    ghost use Rattle.tool_api.specs.Import.{AreNewObjects};
     ghost use Rattle.tool_api.specs.declared.new_objects.NewObject.{NewObject};
 
     ghost Value = { List NewObject };
 
     ghost view = { λ objects. objects.list.items };
+
+    ghost invariant = { λ objects. AreNewObjects objects.list.items };
 }
 
 impl NewObjects {
@@ -41,21 +46,10 @@ impl NewObjects {
 
     /// These objects. The vector is kept as it is, so nothing is copied.
     pub fn from_vec(list: Vec<NewObject>) -> NewObjects
+        requires { AreNewObjects list.items }
         ensures { result ≡ list.items }
     {
         NewObjects { list }
-    }
-
-    /// Adds an object at the end.
-    ///
-    /// # Errors
-    /// No memory was left, and nothing has changed.
-    pub fn push(&mut self, object: NewObject) -> Result<(), AllocError>
-        ensures ok { OnOk result (self.new ≡ self.old ++ object ∷ []) }
-        ensures err { OnErr result (self.new ≡ self.old) }
-    {
-        self.list.push(object)?;
-        Ok(())
     }
 
     /// How many objects there are.
@@ -67,7 +61,8 @@ impl NewObjects {
 
     /// The objects, in order.
     pub fn as_slice(&self) -> &[NewObject]
-        ensures { result.now ≡ self.now }
+        ensures value { result.now ≡ self.now }
+        ensures new_objects { AreNewObjects self.now }
     {
         self.list.as_slice()
     }

@@ -1,4 +1,5 @@
 pub mod Adds
+pub mod Merges
 pub mod Moved
 pub mod Replaced
 pub mod Retags

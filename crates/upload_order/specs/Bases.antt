@@ -1,5 +1,5 @@
 -- What the entries of a table say of a server.
-use Rattle.std.specs.Prelude.{◌≡◌, Bool, true, false, not, Some}
+use Rattle.std.specs.Prelude.{◌≡◌, Bool, true, not, Some}
 use Rattle.osm_base.specs.Content.{refers}
 use Rattle.osm_base.specs.declared.key.Key.{Key}
 use Rattle.osm_base.specs.declared.content.Content.{Content}
@@ -17,8 +17,7 @@ base_in (Known base mine conflict) = base
 
 -- an entry that is Known, and not New
 abbrev pub is_based : Entry → Bool
-is_based Incomplete = false
-is_based (Known base mine conflict) = not (is_new base)
+is_based e = not (is_new (base_in e))
 
 -- some base holds a content that refers to the key
 abbrev pub IsHeldUser : TableValue → Key → Type 0

@@ -14,25 +14,19 @@ use Rattle.dataset.specs.Exact.{mine_at}
 
 -- Rising: the base is New, or it is Gone and the entry lives.
 abbrev pub is_rising : Entry → Bool
-is_rising Incomplete = false
 is_rising (Known New mine conflict) = true
-is_rising (Known (Live version content meta) mine conflict) = false
 is_rising (Known (Gone version meta) mine conflict) = is_some mine
+is_rising e = false
 
 -- Update: the base is Live, and the entry lives with another content.
 abbrev pub is_update : Entry → Bool
-is_update Incomplete = false
-is_update (Known New mine conflict) = false
-is_update (Known (Live version content meta) None conflict) = false
 is_update (Known (Live version content meta) (Some mine) conflict) = not (same_content mine content)
-is_update (Known (Gone version meta) mine conflict) = false
+is_update e = false
 
 -- Falling: the base is Live, and the entry doesn't live.
 abbrev pub is_falling : Entry → Bool
-is_falling Incomplete = false
-is_falling (Known New mine conflict) = false
 is_falling (Known (Live version content meta) mine conflict) = not (is_some mine)
-is_falling (Known (Gone version meta) mine conflict) = false
+is_falling e = false
 
 -- a content of it is sent
 abbrev pub is_sent : Entry → Bool

@@ -56,8 +56,7 @@ abbrev pub is_loose_in : TableValue → List Key → Key → Bool
 is_loose_in t vouched r = at_key t is_incomplete r && not (is_in r vouched)
 
 abbrev pub refs_sent : Option Entry → List Key
-refs_sent None = []
-refs_sent (Some e) = if is_sent e then option_map_or refs_of (mine_of e) [] else []
+refs_sent e = option_map_or (λ e. if is_sent e then option_map_or refs_of (mine_of e) [] else []) e []
 
 -- the first reference of what is sent that is loose
 abbrev pub loose_of : (Key → Bool) → TableValue → Key → Option Key
@@ -83,8 +82,7 @@ abbrev pub upload_refusal : TableValue → Option PlanRefusal
 upload_refusal t = option_or (open_refusal t) (option_or (loose_refusal t) (stuck_refusal t))
 
 abbrev pub unless : Option PlanRefusal → List Change → Result (List Change) PlanRefusal
-unless None cs = Ok cs
-unless (Some r) cs = Err r
+unless why cs = option_map_or Err why (Ok cs)
 
 -- The plan, or why there is none.
 abbrev pub upload : TableValue → Result (List Change) PlanRefusal

@@ -1,14 +1,13 @@
 -- A server that takes changes one at a time.
 use Rattle.std.specs.Prelude.{◌≡◌, ℕ, ◌+◌, nat_eq, ℤ, Bool, true, false, not, if◌then◌else◌, List, [], ◌∷◌, Option, Some, None, is_some, ◌⊎◌}
 use Rattle.std.specs.List.{find}
-use Rattle.std.specs.Option.{option_map_or, option_map}
+use Rattle.std.specs.Option.{option_map_or, option_map, option_and_then}
 use Rattle.std.specs.FinMap as fin
 use Rattle.osm_base.specs.Rank.{rank_cmp}
 use Rattle.osm_base.specs.Content.{refs_of, refers, fits}
 use Rattle.osm_base.specs.declared.key.Key.{Key}
 use Rattle.osm_base.specs.declared.content.Content.{Content}
 use Rattle.osm_table.specs.declared.entry.Entry.{Entry}
-use Rattle.osm_table.specs.declared.entry.Entry.TheVariants.{Incomplete, Known}
 use Rattle.osm_table.specs.Table.{TableValue, entry_of, mine_of, version_of, is_incomplete}
 use Rattle.upload_order.specs.declared.change.Change.{Change}
 use Rattle.upload_order.specs.declared.change.Change.TheVariants.{Create, Modify, Delete}
@@ -29,8 +28,7 @@ abbrev pub stands : World → Key → Option WorldEntry
 stands w k = fin.get w.entries k
 
 abbrev pub content_in : Option WorldEntry → Option Content
-content_in None = None
-content_in (Some e) = e.content
+content_in e = option_and_then (λ e. e.content) e
 
 abbrev pub content_at : World → Key → Option Content
 content_at w k = content_in (stands w k)
@@ -45,8 +43,7 @@ pub data Refusal : Type 0 where
 
 -- the reference has a name, under which a content stands
 abbrev pub has_content : World → Option Key → Bool
-has_content w None = false
-has_content w (Some q) = is_some (content_at w q)
+has_content w q = is_some (option_and_then (content_at w) q)
 
 abbrev pub reaches : World → Key → Bool
 reaches w r = has_content w (meant w.names r)
@@ -85,10 +82,7 @@ put_in w k v c = record { entries = fin.insert w.entries k (record { version = v
 
 -- the world after a change that it accepts
 abbrev pub after : World → Change → ℤ → World
-after w (Create k c) picked = record {
-  entries = fin.insert w.entries (with_id k picked) (record { version = 1; content = Some (renamed (called w.names) c) });
-  names = (k, picked) ∷ w.names;
-}
+after w (Create k c) picked = record (put_in w (with_id k picked) 1 (Some (renamed (called w.names) c))) { names = (k, picked) ∷ w.names }
 after w (Modify k v c) picked = put_in w (called w.names k) (v + 1) (Some (renamed (called w.names) c))
 after w (Delete k v) picked = put_in w (called w.names k) (v + 1) None
 
@@ -99,8 +93,7 @@ IsSoundWorld w = (q r : Key) (c : Content) → content_at w q ≡ Some c → ref
 -- The pick for a change is new to the world and to the table.
 abbrev pub IsFresh : World → TableValue → Change → ℤ → Type 0
 IsFresh w t (Create k c) p = (is_positive p ≡ true) × (stands w (with_id k p) ≡ None) × (entry_of t (with_id k p) ≡ None)
-IsFresh w t (Modify k v c) p = Unit {0}
-IsFresh w t (Delete k v) p = Unit {0}
+IsFresh w t c p = Unit {0}
 
 -- The world has the bases of the table.
 abbrev pub Holds : World → TableValue → Type 0
@@ -125,8 +118,7 @@ abbrev pub Backs : World → TableValue → Type 0
 Backs w t = (r : Key) → at_key t is_incomplete r ≡ true → IsHeldUser t r → (d : Content) × (content_at w r ≡ Some d)
 
 abbrev pub is_known : Entry → Bool
-is_known Incomplete = false
-is_known (Known base mine conflict) = true
+is_known e = not (is_incomplete e)
 
 -- The world w has the data of the table, under the names that its keys were given; all else is as in w0.
 pub record IsEdited (t : TableValue) (w0 w : World) : Type 0 where
