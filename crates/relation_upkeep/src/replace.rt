@@ -13,7 +13,7 @@ use std::alloc::AllocError;
 use tool_api::content_of;
 
 /// A piece of a way that was split.
-#[derive(Clone, Copy, Debug, PartialEq, Eq)]
+#[derive(Clone, Copy)]
 pub struct Piece {
     /// The way that has the piece now.
     pub key: Key,
