@@ -13,7 +13,7 @@ use crate::query::{Form, Query};
 use std::alloc::{AllocError, Global};
 
 /// A word that opens a factor and waits for the rest of it.
-#[derive(Clone, Copy, Debug, PartialEq, Eq)]
+#[derive(Clone, Copy)]
 pub enum Opening {
     Not,
     Child,
@@ -40,7 +40,7 @@ pub enum Pending {
 }
 
 /// A part of a query: factors are joined by `and`, terms by `or`.
-#[derive(Clone, Copy, Debug, PartialEq, Eq)]
+#[derive(Clone, Copy)]
 pub enum Part {
     Factor,
     Term,

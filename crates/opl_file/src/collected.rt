@@ -8,7 +8,7 @@ use std::alloc::{AllocError, Global};
 use std::marker::Model;
 
 /// Objects of distinct keys.
-#[derive(Debug, Drop)]
+#[derive(Drop)]
 pub(crate) struct Collected {
     alloc: Global,
     objects: Objects,

@@ -6,7 +6,7 @@ use opl_line::LineFault;
 use std::alloc::{AllocError, AllocFailed};
 
 /// What is wrong with a file. Lines are numbered from 1.
-#[derive(Clone, Copy, Debug, PartialEq, Eq)]
+#[derive(Clone, Copy)]
 pub enum FileFault {
     /// The line is neither skipped nor an object.
     Line { line: u64, fault: LineFault },
@@ -19,7 +19,7 @@ pub enum FileFault {
 }
 
 /// Why no objects are given.
-#[derive(Debug, Drop)]
+#[derive(Drop)]
 pub enum FileAnswer {
     /// The file has this fault.
     Bad(FileFault),

@@ -19,7 +19,7 @@ use osm_base::{Key, rank};
 use std::alloc::{AllocError, Global};
 
 /// How the keys so far are known.
-#[derive(Debug, Drop)]
+#[derive(Drop)]
 pub(crate) enum Known {
     /// They strictly rise by rank.
     Rising,

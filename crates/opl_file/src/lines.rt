@@ -9,7 +9,7 @@ use opl_line::{Mode, Pool};
 use std::alloc::{AllocError, Global};
 
 /// What was read of a file's lines, up to the first bad one.
-#[derive(Debug, Drop)]
+#[derive(Drop)]
 pub(crate) struct Lines {
     mode: Mode,
     // how many lines were finished

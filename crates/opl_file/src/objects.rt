@@ -13,7 +13,7 @@ use std::marker::Model;
 const BATCH_LENGTH: usize = 1024;
 
 /// Objects of distinct keys, in the order of their lines.
-#[derive(Debug, Drop)]
+#[derive(Drop)]
 pub struct Objects {
     batches: Vec<Vec<OplObject>>,
 }

@@ -7,7 +7,7 @@ use opl_line::Mode;
 use std::alloc::{AllocError, Global};
 
 /// Reads a file's objects from its bytes as they come.
-#[derive(Debug, Drop)]
+#[derive(Drop)]
 pub struct Reader {
     lines: Lines,
     // how many bytes may still come

@@ -7,7 +7,7 @@ ghost use Rattle.opl_line.specs.Fault.{number_of};
 use std::alloc::{AllocError, AllocFailed};
 
 /// What is wrong with a line: its first fault from the left.
-#[derive(Clone, Copy, Debug, PartialEq, Eq)]
+#[derive(Clone, Copy)]
 pub enum LineFault {
     /// The line doesn't begin with `n`, `w` or `r`.
     BadStart,
@@ -67,7 +67,7 @@ impl LineFault {
 }
 
 /// Why no object was read.
-#[derive(Debug, Drop)]
+#[derive(Drop)]
 pub enum LineAnswer {
     /// The line has this fault.
     Bad(LineFault),

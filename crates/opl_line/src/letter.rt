@@ -6,7 +6,7 @@ ghost use Rattle.opl_line.specs.Field.{letter_of, has_field};
 use osm_base::Kind;
 
 /// A field, named for what it holds.
-#[derive(Clone, Copy, Debug)]
+#[derive(Clone, Copy)]
 pub enum Letter {
     Version,
     Visible,

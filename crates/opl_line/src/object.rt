@@ -3,7 +3,7 @@
 use osm_base::{Content, Key, Members, Meta, Refs, Stamp, Tags, Text};
 
 /// An object of the map as a line has it.
-#[derive(Debug, Drop)]
+#[derive(Drop)]
 pub struct OplObject {
     /// Kind and id.
     pub key: Key,
@@ -16,7 +16,7 @@ pub struct OplObject {
 }
 
 /// What a line is, where it has no fault.
-#[derive(Debug, Drop)]
+#[derive(Drop)]
 pub enum LineKind {
     /// Nothing but blanks, a comment, or a changeset.
     Skipped,
@@ -26,7 +26,7 @@ pub enum LineKind {
 
 /// The fields of a line that were read so far, `None` where they haven't come yet.
 /// Time and coordinates may come without a value: `Some(None)`.
-#[derive(Debug, Drop)]
+#[derive(Drop)]
 pub struct Fields {
     pub version: Option<u32>,
     pub visible: Option<bool>,

@@ -15,7 +15,7 @@ use std::alloc::{AllocError, Global};
 use tool_api::{KeySet, content_of};
 
 /// A piece of a way that was split.
-#[derive(Clone, Copy, Debug, PartialEq, Eq)]
+#[derive(Clone, Copy)]
 pub struct Piece {
     /// The way that has the piece now.
     pub key: Key,

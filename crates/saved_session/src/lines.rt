@@ -46,8 +46,8 @@ fn push_made(entries: &mut Vec<SavedEntry>, made: Option<SavedEntry>) -> Result<
     Ok(())
 }
 
-fn has_ended(place: Place) -> bool
-    ensures { result ≡ has_ended place }
+fn has_ended(place: &Place) -> bool
+    ensures { result ≡ has_ended place.now }
 {
     match place {
         Place::Behind => true,
@@ -78,7 +78,7 @@ fn read_entries(desk: &mut Desk, number: u64, bytes: &[u8]) -> Result<Vec<SavedE
         }
         rest = after;
     }
-    if has_ended(place) {
+    if has_ended(&place) {
         Ok(entries)
     } else {
         Err(SavedFault::BadSaved { line: count + 1 })
