@@ -6,7 +6,7 @@ use std::alloc::{AllocError, Global};
 use std::marker::Model;
 
 /// An object that no server knows yet, as a file has it.
-#[derive(Debug, Drop)]
+#[derive(Drop)]
 pub struct NewObject {
     /// Its kind, and the file's own id, which is negative. The file's other objects refer to it by this key.
     pub key: Key,
@@ -15,7 +15,7 @@ pub struct NewObject {
 }
 
 /// A list of new objects.
-#[derive(Debug, Drop)]
+#[derive(Drop)]
 pub struct NewObjects {
     list: Vec<NewObject>,
 }

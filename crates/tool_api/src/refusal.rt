@@ -5,7 +5,7 @@ ghost use Rattle.tool_api.specs.Refusals.{number_of};
 use osm_base::{Key, Text};
 
 /// Why a job is refused, and what it concerns. A refused job changes nothing.
-#[derive(Debug, Drop)]
+#[derive(Drop)]
 pub enum Refusal {
     /// The object isn't in the table.
     Absent(Key),
