@@ -5,7 +5,7 @@ ghost use Rattle.tool_api.specs.Checks.{takes};
 use osm_base::Kind;
 
 /// The kinds that a job takes; a named object of another kind is refused as `WrongKind`.
-#[derive(Clone, Copy, Debug, PartialEq, Eq)]
+#[derive(Clone, Copy)]
 pub enum Kinds {
     Any,
     Nodes,

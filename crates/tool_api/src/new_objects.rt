@@ -7,7 +7,7 @@ use std::alloc::Global;
 use std::marker::Model;
 
 /// An object that no server knows yet, as a file has it.
-#[derive(Debug, Drop)]
+#[derive(Drop)]
 pub struct NewObject {
     /// Its kind, and the file's own id, which is negative. The file's other objects refer to it by this key.
     pub key: Key,
@@ -17,7 +17,7 @@ pub struct NewObject {
 
 /// New objects as one file may have them: each key once, its id negative, each content of its key's kind, and no reference
 /// out of range (`AreNewObjects` in specs/). So an import asks nothing more of them.
-#[derive(Debug, Drop)]
+#[derive(Drop)]
 pub struct NewObjects {
     list: Vec<NewObject>,
 }

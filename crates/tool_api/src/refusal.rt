@@ -3,7 +3,7 @@
 use osm_base::{Key, Text};
 
 /// Why a job is refused, and what it concerns. A refused job changes nothing.
-#[derive(Debug, Drop)]
+#[derive(Drop)]
 pub enum Refusal {
     /// The object isn't in the table.
     Absent(Key),

@@ -3,7 +3,7 @@ use crate::refusal::Refusal;
 use osm_base::Keys;
 
 /// The answer of a tool: the keys of what it made, or why it changed nothing.
-#[derive(Debug, Drop)]
+#[derive(Drop)]
 pub enum Reply {
     Done(Keys),
     Refused(Refusal),

@@ -7,7 +7,7 @@ use std::marker::Model;
 
 /// One change of an object at a server (API 0.6). A server takes a modify or a delete only where it names the version that
 /// the object has there.
-#[derive(Debug, Drop)]
+#[derive(Drop)]
 pub enum Change {
     /// The object is made. The server picks its id and gives it the version 1; the key is a placeholder.
     Create {
@@ -28,7 +28,7 @@ pub enum Change {
 }
 
 /// Changes, in the order in which they are sent.
-#[derive(Debug, Drop)]
+#[derive(Drop)]
 pub struct Changes {
     items: Vec<Change>,
 }
