@@ -3,7 +3,7 @@
 use std::fmt;
 
 /// A file of the shelf.
-#[derive(Debug, Drop)]
+#[derive(Drop)]
 pub struct CaseFile {
     /// Its name.
     pub name: Vec<u8>,
@@ -13,7 +13,7 @@ pub struct CaseFile {
 }
 
 /// The tools that a session is run with.
-#[derive(Clone, Copy, Debug, PartialEq, Eq)]
+#[derive(Clone, Copy)]
 pub enum Tools {
     /// One for each verb.
     All,
@@ -24,7 +24,7 @@ pub enum Tools {
 }
 
 /// The call that fails in a run, counted from 1.
-#[derive(Clone, Copy, Debug, PartialEq, Eq)]
+#[derive(Clone, Copy)]
 pub enum Failing {
     /// None.
     Nothing,
@@ -63,7 +63,7 @@ impl fmt::Display for Failing {
 }
 
 /// A run of a session, and what it has to come to.
-#[derive(Debug, Drop)]
+#[derive(Drop)]
 pub struct Run {
     /// The call that fails.
     pub failing: Failing,
@@ -76,7 +76,7 @@ pub struct Run {
 }
 
 /// A session to run.
-#[derive(Debug, Drop)]
+#[derive(Drop)]
 pub struct Case {
     /// What it is about.
     pub name: String,
