@@ -26,7 +26,7 @@ const MOST_BYTES: u64 = 1_073_741_824;
 const DEFAULT_BYTES: u64 = 268_435_456;
 
 /// What a session is asked for.
-#[derive(Clone, Copy, Debug)]
+#[derive(Clone, Copy)]
 pub struct CommandLine<'a> {
     /// The name of the script's file.
     pub script: &'a str,
