@@ -4,7 +4,7 @@ use std::alloc::AllocError;
 use upload_order::PlanRefusal;
 
 /// Why answers are not taken.
-#[derive(Debug, Drop)]
+#[derive(Drop)]
 pub enum ConfirmFault {
     /// Nothing was sent, since the table is refused. It never says that no memory was left.
     Plan { refusal: PlanRefusal },
