@@ -1,12 +1,12 @@
 -- The text of `count`.
-use Rattle.std.specs.Prelude.{ℕ, ◌+◌, ◌<◌, ◌^◌, Bool, true, false, ◌&&◌, is_some, is_none, if◌then◌else◌, List, [], ◌∷◌, ◌++◌, Option, None, Some, codes, decimal}
+use Rattle.std.specs.Prelude.{ℕ, ◌+◌, ◌<◌, ◌^◌, Bool, true, false, ◌&&◌, if◌then◌else◌, List, [], ◌∷◌, ◌++◌, Option, None, Some, codes, decimal}
 use Rattle.std.specs.List.{count_by}
 use Rattle.osm_base.specs.declared.key.Kind.{Kind}
 use Rattle.osm_base.specs.declared.key.Kind.TheVariants.{Node, Way, Relation}
 use Rattle.osm_base.specs.declared.key.Key.{Key}
 use Rattle.osm_table.specs.Table.{TableValue, entry_of, keys_by_rank, is_incomplete, is_living, is_changed}
 use Rattle.osm_table.specs.declared.entry.Entry.{Entry}
-use Rattle.osm_table.specs.declared.entry.Entry.TheVariants.{Incomplete, Known}
+use Rattle.map_search.specs.Meets.{is_deleted, has_conflict}
 use Rattle.edit_steps.specs.declared.counting.Counts.{Counts}
 
 abbrev pub is_node : Kind → Bool
@@ -23,15 +23,6 @@ abbrev pub is_relation : Kind → Bool
 is_relation Node = false
 is_relation Way = false
 is_relation Relation = true
-
--- known, and not living
-abbrev pub is_deleted : Entry → Bool
-is_deleted Incomplete = false
-is_deleted (Known base mine conflict) = is_none mine
-
-abbrev pub is_in_conflict : Entry → Bool
-is_in_conflict Incomplete = false
-is_in_conflict (Known base mine conflict) = is_some conflict
 
 abbrev pub passes : (Kind → Entry → Bool) → Kind → Option Entry → Bool
 passes test kind None = false
@@ -50,7 +41,7 @@ counts_among t keys = record {
   incomplete = counted (λ kind entry. is_incomplete entry) t keys;
   deleted = counted (λ kind entry. is_deleted entry) t keys;
   changed = counted (λ kind entry. is_changed entry) t keys;
-  conflicts = counted (λ kind entry. is_in_conflict entry) t keys;
+  conflicts = counted (λ kind entry. has_conflict entry) t keys;
 }
 
 -- a name and a number
@@ -86,7 +77,7 @@ with_one c kind entry = record {
   incomplete = c.incomplete + one_if (is_incomplete entry);
   deleted = c.deleted + one_if (is_deleted entry);
   changed = c.changed + one_if (is_changed entry);
-  conflicts = c.conflicts + one_if (is_in_conflict entry);
+  conflicts = c.conflicts + one_if (has_conflict entry);
 }
 
 abbrev pub with_entry_of : Counts → Kind → Option Entry → Counts
