@@ -13,7 +13,7 @@ ghost use Rattle.edit_script.specs.Answers.{Gives, IsRefused};
 ghost use Rattle.edit_script.specs.Items.{alone, one_word, two_words, three_words, file_word, four_texts, optional, has_location, keys_word, tags_word, refs_word, members_word, place_texts, place_words, box_between, area_text, wanted_text, side_word, texts_of, tag_keys_of, tag_keys_word};
 
 use crate::fault::Unread;
-use map_search::{Query, read_query};
+use map_search::{Query, QueryFault, read_query};
 use merge_cases::{Side, TagKeys};
 use opl_line::{cut, is_blank, read_members, read_refs, read_tags};
 use opl_text::{Pool, read_escaped};
@@ -328,7 +328,11 @@ pub fn query_words(pool: &mut Pool, words: &[u8]) -> Result<Query, Unread>
     ensures value { Gives result (query_of_words (words_of words.now)) }
     ensures shallow { IfOk result (λ query. depth query ≤ 1100) }
 {
-    Ok(read_query(pool, without_outer_blanks(words))?)
+    match read_query(pool, without_outer_blanks(words)) {
+        Ok(query) => Ok(query),
+        Err(QueryFault::BadQuery) => Err(Unread::Outside),
+        Err(QueryFault::Memory) => Err(Unread::Memory),
+    }
 }
 
 /// Whether the text may not stand behind these keys: it is empty, or one of them.
