@@ -14,7 +14,7 @@ ghost use Rattle.edit_script.specs.Grammar.{two_keys, word};
 ghost use Rattle.edit_script.specs.Items.{alone, four_texts, optional, has_location, keys_word, tags_word, refs_word, members_word, number_word, place_texts, place_words, box_between, area_text, wanted_text, side_word, texts_of, tag_keys_of, tag_keys_word};
 
 use crate::fault::Unread;
-use map_search::{Query, next_word, read_query};
+use map_search::{Query, QueryFault, next_word, read_query};
 use merge_cases::{Side, TagKeys};
 use opl_line::{cut, read_members, read_refs, read_tags};
 use opl_text::{Pool, read_escaped};

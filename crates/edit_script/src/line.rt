@@ -1,8 +1,7 @@
 //! What a line of a script is.
-ghost use Rattle.std.specs.Prelude.{◌≡◌, ◌∷◌, ◌<◌, length, false, IfOk};
+ghost use Rattle.std.specs.Prelude.{◌≡◌, ◌<◌, length, false, IfOk};
 ghost use Rattle.std.specs.List.{list_all};
 ghost use Rattle.opl_line.specs.Line.{is_blank};
-ghost use Rattle.opl_file.specs.Cut.{lines_of};
 ghost use Rattle.edit_script.specs.Answers.{Gives};
 ghost use Rattle.edit_script.specs.Order.{IsMeantLine};
 ghost use Rattle.edit_script.specs.Script.{has_outer_blank, is_skipped, kind_of_line, line_of};
@@ -10,7 +9,7 @@ ghost use Rattle.edit_script.specs.Script.{has_outer_blank, is_skipped, kind_of_
 use crate::fault::Unread;
 use crate::forms::act_of;
 use crate::step::Act;
-use opl_file::first_line;
+pub use opl_file::next_line;
 use opl_line::{freed, is_blank};
 use opl_text::Pool;
 
@@ -21,19 +20,6 @@ pub enum ScriptLine {
     Skipped,
     /// Something to do.
     Asks(Act),
-}
-
-/// The first line, and the bytes behind its LF.
-pub fn next_line(bytes: &[u8]) -> (&[u8], &[u8])
-    requires { 0 < length bytes.now }
-    ensures lines { lines_of bytes.now ≡ result.0.now ∷ lines_of result.1.now }
-    ensures shorter { length result.1.now < length bytes.now }
-{
-    let (line, after) = first_line(bytes);
-    match after {
-        None => (line, &[]),
-        Some(rest) => (line, rest),
-    }
 }
 
 /// What the line is, with or without a CR at its end.

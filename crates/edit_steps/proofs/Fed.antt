@@ -9,7 +9,7 @@ use Rattle.opl_file.specs.declared.fault.FileFault.TheVariants.{FileTooLong}
 use Rattle.opl_file.specs.declared.reader.Reader.{Reader}
 use Rattle.opl_file.specs.Feeding.{reads_on}
 use Rattle.opl_file.specs.Reading.{objects_of}
-use Rattle.edit_steps.specs.declared.files.ReadError.{ReadError}
+use Rattle.edit_steps.specs.declared.stop.Stop.{Stop}
 use Rattle.edit_steps.specs.Given.{AreBytes}
 use Rattle.edit_steps.specs.Load.{AreRead}
 
@@ -70,12 +70,12 @@ read_of mode limit bytes (Err fault) is = tt
 read_of mode limit bytes (Ok objects) is = (bytes, sym is)
 
 -- what its end gives was read
-pub finished_read : (mode : Mode) (limit : ℕ) (left : ℕ) (reader : Reader) (result : Result (Result (List OplObject) FileFault) ReadError) → WasFed mode limit left reader → IfOk result (λ read. read ≡ reads_on reader []) → IfOk result (AreRead mode limit)
+pub finished_read : (mode : Mode) (limit : ℕ) (left : ℕ) (reader : Reader) (result : Result (Result (List OplObject) FileFault) Stop) → WasFed mode limit left reader → IfOk result (λ read. read ≡ reads_on reader []) → IfOk result (AreRead mode limit)
 finished_read mode limit left reader (Err e) fed is = tt
 finished_read mode limit left reader (Ok read) fed is = read_of mode limit (fed.0 ++ []) read (is ∙ fed.1 [])
 
 -- and so is what it gives
-pub finished_bytes : (mode : Mode) (limit left : ℕ) (reader : Reader) (result : Result (Result (List OplObject) FileFault) ReadError) → WasFed mode limit left reader → IfOk result (λ read. read ≡ reads_on reader []) → IfOk result (λ read. AreBytes read (objects_of mode limit))
+pub finished_bytes : (mode : Mode) (limit left : ℕ) (reader : Reader) (result : Result (Result (List OplObject) FileFault) Stop) → WasFed mode limit left reader → IfOk result (λ read. read ≡ reads_on reader []) → IfOk result (λ read. AreBytes read (objects_of mode limit))
 finished_bytes mode limit left reader (Err e) fed is = tt
 finished_bytes mode limit left reader (Ok read) fed is = (fed.0 ++ [], is ∙ fed.1 [])
 

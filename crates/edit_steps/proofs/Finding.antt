@@ -10,7 +10,7 @@ use Rattle.download.specs.Filter.{filtered}
 use Rattle.tool_api.specs.declared.job.Job.TheVariants.{Merge}
 use Rattle.edit_script.specs.declared.step.Purpose.TheVariants.{Download}
 use Rattle.edit_script.specs.declared.step.Purpose.{Purpose}
-use Rattle.edit_steps.specs.declared.files.ReadError.{ReadError}
+use Rattle.edit_steps.specs.declared.stop.Stop.{Stop}
 use Rattle.edit_steps.specs.declared.limits.Limits.{Limits}
 use Rattle.edit_steps.specs.declared.loading.Found.{Found}
 use Rattle.edit_steps.specs.Given.{Given, Finds}
@@ -20,7 +20,7 @@ use Rattle.edit_steps.specs.Load.{file_found, job_found}
 abbrev pub map_found : Limits → Option Area → Option (List Pair) → Given → Found
 map_found limits area wanted given = job_found (λ objects. Merge (filtered objects area wanted)) (option_map (objects_of mode.Download limits.file) given)
 
-pub map_is_found : (told : Option Shelved) (limits : Limits) (purpose : Purpose) (result : Result Found ReadError) (name : List ℕ) (area : Option Area) (wanted wanted_read : Option (List Pair))
+pub map_is_found : (told : Option Shelved) (limits : Limits) (purpose : Purpose) (result : Result Found Stop) (name : List ℕ) (area : Option Area) (wanted wanted_read : Option (List Pair))
     → purpose ≡ Download area wanted → wanted_read ≡ wanted
     → IfOk result (λ found. Finds told (λ files. held files name) found (map_found limits area wanted_read))
     → IfOk result (λ found. Finds told (λ files. held files name) found (file_found limits purpose))

@@ -24,8 +24,8 @@ use Rattle.edit_script.specs.declared.step.Act.TheVariants.{File, Serve}
 use Rattle.edit_script.specs.declared.step.Purpose.{Purpose}
 use Rattle.edit_script.specs.declared.step.Purpose.TheVariants as purpose
 use Rattle.edit_history.specs.declared.counts.Group.{Group}
-use Rattle.edit_steps.specs.declared.files.ReadError.{ReadError}
-use Rattle.edit_steps.specs.declared.files.ReadError.TheVariants.{Memory}
+use Rattle.edit_steps.specs.declared.stop.Stop.{Stop}
+use Rattle.edit_steps.specs.declared.stop.Stop.TheVariants.{Memory}
 use Rattle.edit_steps.specs.declared.limits.Limits.{Limits}
 use Rattle.edit_steps.specs.declared.loading.Found.{Found}
 use Rattle.edit_steps.specs.declared.loading.Found.TheVariants.{Nothing, Bad, Job, Bytes, Objects}
@@ -111,5 +111,5 @@ MayFind (Serve name) found = AreServable found
 MayFind act found = Unit {0}
 
 -- a reader's end fails for want of memory alone
-abbrev pub FinishCause : {T : Type 0} → Result T ReadError → Type 0
+abbrev pub FinishCause : {T : Type 0} → Result T Stop → Type 0
 FinishCause result = IfErr result (λ e. e ≡ Memory)

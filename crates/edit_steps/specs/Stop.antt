@@ -1,29 +1,22 @@
 -- Why a session stops early, and that a fault is answered for what failed.
 use Rattle.std.specs.Prelude.{◌≡◌, ℕ, ◌≤◌, Result, IsErrOf}
 use Rattle.osm_outside.specs.Outside.{Rose}
-use Rattle.chunking.specs.declared.fault.ChunkFault.{ChunkFault}
-use Rattle.chunking.specs.declared.fault.ChunkFault.TheVariants as chunk
-use Rattle.edit_steps.specs.declared.sending.WriteError.{WriteError}
-use Rattle.edit_steps.specs.declared.sending.WriteError.TheVariants as writes
 use Rattle.edit_steps.specs.declared.stop.Stop.{Stop}
 use Rattle.edit_steps.specs.declared.stop.Stop.TheVariants as stops
-use Rattle.edit_steps.specs.declared.files.ReadError.{ReadError}
-use Rattle.edit_steps.specs.declared.files.ReadError.TheVariants as errors
 
--- what stops a session where a read failed
-abbrev pub stop_of : ReadError → Stop
-stop_of errors.Fault = stops.ReadFault
-stop_of errors.Memory = stops.Memory
+-- The shelf's count of faults never falls, and it rose where the call stopped by a fault of it, and only there.
+pub record ReadCause {T : Type 0} (before now : ℕ) (result : Result T Stop) : Type 0 where
+  pub later : before ≤ now
+  pub failed : IsErrOf result stops.ReadFault → Rose before now
+  pub quiet : (IsErrOf result stops.ReadFault → ⊥) → now ≡ before
+  pub apart : IsErrOf result stops.WriteFault → ⊥
 
--- what stops a session where a write failed
-abbrev pub stop_of_write : WriteError → Stop
-stop_of_write writes.Fault = stops.WriteFault
-stop_of_write writes.Memory = stops.Memory
-
--- why chunks weren't written
-abbrev pub write_error_of : ChunkFault → WriteError
-write_error_of chunk.Write = writes.Fault
-write_error_of chunk.Memory = writes.Memory
+-- The sink's count of faults never falls, and it rose where the call stopped by a fault of it, and only there.
+pub record WriteCause {T : Type 0} (before now : ℕ) (result : Result T Stop) : Type 0 where
+  pub later : before ≤ now
+  pub failed : IsErrOf result stops.WriteFault → Rose before now
+  pub quiet : (IsErrOf result stops.WriteFault → ⊥) → now ≡ before
+  pub apart : IsErrOf result stops.ReadFault → ⊥
 
 -- a fault is answered where its count rose, and only there
 pub record StopCause {T : Type 0} (read_before read_now write_before write_now : ℕ) (result : Result T Stop) : Type 0 where

@@ -1,13 +1,12 @@
 //! The text of `count`.
 ghost use Rattle.std.specs.Prelude.{◌≡◌, ◌++◌, ◌<◌, OnOk, OnErr};
 ghost use Rattle.osm_base.specs.Extends.{Extends};
-ghost use Rattle.osm_table.specs.Table.{is_incomplete};
 ghost use Rattle.edit_steps.specs.Counted.{count_text, counts_text, kinds_text, states_text, counts_among, count_line, part, with_one, with_key, HasRoom};
-ghost use Rattle.map_search.specs.Meets.{has_conflict, is_deleted, same_kind};
+ghost use Rattle.map_search.specs.Meets.{same_kind};
 
 use dataset::DataSet;
 use osm_base::{Key, Kind, write_digits};
-use osm_table::{EntryParts, SharedEntry};
+use osm_table::SharedEntry;
 use std::alloc::AllocError;
 
 /// How many entries of a table are so.
@@ -148,10 +147,10 @@ impl Counts {
             nodes: self.nodes + u64::from(living && is_node(kind)),
             ways: self.ways + u64::from(living && is_way(kind)),
             relations: self.relations + u64::from(living && is_relation(kind)),
-            incomplete: self.incomplete + u64::from(is_incomplete(entry)),
-            deleted: self.deleted + u64::from(is_deleted(entry)),
+            incomplete: self.incomplete + u64::from(entry.is_incomplete()),
+            deleted: self.deleted + u64::from(!entry.is_incomplete() && !living),
             changed: self.changed + u64::from(entry.is_changed()),
-            conflicts: self.conflicts + u64::from(is_in_conflict(entry)),
+            conflicts: self.conflicts + u64::from(entry.conflict().is_some()),
         }
     }
 }
@@ -180,32 +179,5 @@ fn is_relation(kind: Kind) -> bool
     match kind {
         Kind::Relation => true,
         Kind::Node | Kind::Way => false,
-    }
-}
-
-fn is_incomplete(entry: &SharedEntry) -> bool
-    ensures { result ≡ is_incomplete entry.now }
-{
-    match entry.parts() {
-        EntryParts::Incomplete => true,
-        EntryParts::Known { .. } => false,
-    }
-}
-
-fn is_deleted(entry: &SharedEntry) -> bool
-    ensures { result ≡ is_deleted entry.now }
-{
-    match entry.parts() {
-        EntryParts::Incomplete => false,
-        EntryParts::Known { mine, .. } => mine.is_none(),
-    }
-}
-
-fn is_in_conflict(entry: &SharedEntry) -> bool
-    ensures { result ≡ has_conflict entry.now }
-{
-    match entry.parts() {
-        EntryParts::Incomplete => false,
-        EntryParts::Known { conflict, .. } => conflict.is_some(),
     }
 }

@@ -1,35 +1,14 @@
 // A whole file of a shelf.
 ghost use Rattle.std.specs.Prelude.{◌≡◌, ◌<◌, true, length, IfOk, IfSome, Some};
-ghost use Rattle.osm_outside.specs.Outside.{held, HasCauseOf};
+ghost use Rattle.osm_outside.specs.Outside.{held};
 ghost use Rattle.edit_steps.specs.Fetch.{reading, is_there};
 ghost use Rattle.edit_steps.specs.Given.{AreBytes, Finds};
-ghost use Rattle.edit_steps.specs.declared.files.ReadError.TheVariants.{Fault, Memory};
+ghost use Rattle.edit_steps.specs.Stop.{ReadCause};
 
-use osm_outside::{Failed, Shelf};
-use std::alloc::{AllocError, Global};
+use crate::stop::Stop;
+use osm_outside::Shelf;
+use std::alloc::Global;
 use std::marker::Model;
-
-#[derive(Clone, Copy)]
-pub enum ReadError {
-    Fault,
-    Memory,
-}
-
-impl From<Failed> for ReadError {
-    ghost from_gives = { λ _ e. e ≡ Fault };
-
-    fn from(_: Failed) -> ReadError {
-        ReadError::Fault
-    }
-}
-
-impl From<AllocError> for ReadError {
-    ghost from_gives = { λ _ e. e ≡ Memory };
-
-    fn from(_: AllocError) -> ReadError {
-        ReadError::Memory
-    }
-}
 
 /// The bytes of a file.
 #[derive(Drop)]
@@ -67,13 +46,16 @@ pub fn fetch<S: Shelf>(
     shelf: &mut S,
     name: &[u8],
     limit: usize,
-) -> Result<Fetched, ReadError>
+) -> Result<Fetched, Stop>
     ensures told { S.told shelf.new ≡ S.told shelf.old }
     ensures begun { IfOk result (λ fetched. S.begun shelf.new ≡ is_there fetched) }
     ensures found { IfOk result (λ fetched. Finds (S.told shelf.old) (λ files. held files name.now) fetched (reading limit)) }
-    ensures cause { HasCauseOf Fault (S.faults shelf.old) (S.faults shelf.new) result }
+    ensures cause { ReadCause (S.faults shelf.old) (S.faults shelf.new) result }
 {
-    if !shelf.begin(name)? {
+    let Ok(found) = shelf.begin(name) else {
+        return Err(Stop::ReadFault);
+    };
+    if !found {
         return Ok(Fetched::Missing);
     }
     let mut buffer = [0u8; 65_536];
@@ -86,18 +68,20 @@ fn read_rest<S: Shelf>(
     shelf: &mut S,
     buffer: &mut [u8],
     limit: usize,
-) -> Result<Fetched, ReadError>
+) -> Result<Fetched, Stop>
     requires begun { S.begun shelf.old ≡ true }
     requires room { 0 < length buffer.old }
     ensures told { S.told shelf.new ≡ S.told shelf.old }
     ensures begun { IfOk result (λ fetched. (S.begun shelf.new ≡ true) × (is_there fetched ≡ true)) }
     ensures found { IfOk result (λ fetched. IfSome (S.rest shelf.old) (λ bytes. fetched ≡ reading limit (Some bytes))) }
     ensures read { IfOk result (λ fetched. AreBytes fetched (λ bytes. reading limit (Some bytes))) }
-    ensures cause { HasCauseOf Fault (S.faults shelf.old) (S.faults shelf.new) result }
+    ensures cause { ReadCause (S.faults shelf.old) (S.faults shelf.new) result }
 {
     let mut bytes = Vec::new(alloc);
     while bytes.len() <= limit {
-        let count = shelf.next(buffer)?;
+        let Ok(count) = shelf.next(buffer) else {
+            return Err(Stop::ReadFault);
+        };
         if count == 0 {
             return Ok(Fetched::Whole(Bytes { items: bytes }));
         }

@@ -35,13 +35,12 @@ mod uploading;
 
 pub use boxes::{Dealt, deal};
 pub use doing::{Doing, interpret, is_given_up, look_at};
-pub use files::{Bytes, Fetched, ReadError, fetch};
+pub use files::{Bytes, Fetched, fetch};
 pub use limits::Limits;
 pub use loading::{Found, find};
 pub use needs::missing_verb;
 pub use response::{Behind, Response};
 pub use run::{run_steps, send_response};
-pub use sending::WriteError;
 pub use stop::Stop;
 pub use turns::edit_refused;
 pub use uploading::plan_refused;

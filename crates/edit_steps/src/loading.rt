@@ -1,7 +1,7 @@
 //! What a step finds on the shelf: the job that the objects of its file make, or the bytes of its file.
 ghost use Rattle.std.specs.Prelude.{◌≡◌, ◌<◌, [], true, length, Result, Ok, IfOk, IfSome};
 ghost use Rattle.std.specs.Option.{option_copied, option_map};
-ghost use Rattle.osm_outside.specs.Outside.{held, HasCauseOf};
+ghost use Rattle.osm_outside.specs.Outside.{held};
 ghost use Rattle.opl_line.specs.declared.mode.Mode.TheVariants as modes;
 ghost use Rattle.opl_file.specs.Feeding.{reads_on};
 ghost use Rattle.opl_file.specs.Reading.{objects_of};
@@ -12,11 +12,12 @@ ghost use Rattle.tool_api.specs.declared.verb.Verb.TheVariants as verbs;
 ghost use Rattle.edit_steps.specs.Fetch.{reading};
 ghost use Rattle.edit_steps.specs.Given.{AreBytes, Finds};
 ghost use Rattle.edit_steps.specs.Load.{job_found, bytes_found, objects_found, file_found, AreRead, AreServable, IsFor, IsFoundIn, MayFind, MayFindFor, FinishCause};
-ghost use Rattle.edit_steps.specs.declared.files.ReadError.TheVariants.{Fault};
+ghost use Rattle.edit_steps.specs.Stop.{ReadCause};
 
 use crate::doing::is_given_up;
-use crate::files::{Bytes, Fetched, ReadError, fetch};
+use crate::files::{Bytes, Fetched, fetch};
 use crate::limits::Limits;
+use crate::stop::Stop;
 use download::{filter, what_is_read_may_be_told};
 use edit_history::Group;
 use edit_script::{Act, Purpose};
@@ -55,11 +56,11 @@ pub fn find<S: Shelf>(
     shelf: &mut S,
     group: Group,
     act: &Act,
-) -> Result<Found, ReadError>
+) -> Result<Found, Stop>
     ensures told { S.told shelf.new ≡ S.told shelf.old }
     ensures found { IfOk result (IsFoundIn (S.told shelf.old) limits group act.now) }
     ensures may_be_found { IfOk result (MayFind act.now) }
-    ensures cause { HasCauseOf Fault (S.faults shelf.old) (S.faults shelf.new) result }
+    ensures cause { ReadCause (S.faults shelf.old) (S.faults shelf.new) result }
 {
     if is_given_up(group) {
         return Ok(Found::Nothing);
@@ -83,11 +84,11 @@ fn find_file<S: Shelf>(
     shelf: &mut S,
     name: &[u8],
     purpose: &Purpose,
-) -> Result<Found, ReadError>
+) -> Result<Found, Stop>
     ensures told { S.told shelf.new ≡ S.told shelf.old }
     ensures found { IfOk result (λ found. Finds (S.told shelf.old) (λ files. held files name.now) found (file_found limits purpose.now)) }
     ensures may_be_found { IfOk result (MayFindFor purpose.now) }
-    ensures cause { HasCauseOf Fault (S.faults shelf.old) (S.faults shelf.new) result }
+    ensures cause { ReadCause (S.faults shelf.old) (S.faults shelf.new) result }
 {
     let limit = limits.file;
     match purpose {
@@ -108,11 +109,11 @@ fn find_map<S: Shelf>(
     limit: u64,
     area: Option<Area>,
     wanted: Option<&Tags>,
-) -> Result<Found, ReadError>
+) -> Result<Found, Stop>
     ensures told { S.told shelf.new ≡ S.told shelf.old }
     ensures found { IfOk result (λ found. Finds (S.told shelf.old) (λ files. held files name.now) found (λ given. job_found (λ objects. jobs.Merge (filtered objects area (option_copied wanted.entry))) (option_map (objects_of modes.Download limit) given))) }
     ensures may_be_found { IfOk result (IsFor verbs.Merge) }
-    ensures cause { HasCauseOf Fault (S.faults shelf.old) (S.faults shelf.new) result }
+    ensures cause { ReadCause (S.faults shelf.old) (S.faults shelf.new) result }
 {
     match load(alloc, shelf, name, Mode::Download, limit)? {
         None => Ok(Found::Nothing),
@@ -126,16 +127,11 @@ fn find_map<S: Shelf>(
 }
 
 // The job that imports the new objects of a file.
-fn find_new<S: Shelf>(
-    alloc: Global,
-    shelf: &mut S,
-    name: &[u8],
-    limit: u64,
-) -> Result<Found, ReadError>
+fn find_new<S: Shelf>(alloc: Global, shelf: &mut S, name: &[u8], limit: u64) -> Result<Found, Stop>
     ensures told { S.told shelf.new ≡ S.told shelf.old }
     ensures found { IfOk result (λ found. Finds (S.told shelf.old) (λ files. held files name.now) found (λ given. job_found (λ objects. jobs.Import (new_objects_of objects)) (option_map (objects_of modes.Import limit) given))) }
     ensures may_be_found { IfOk result (IsFor verbs.Import) }
-    ensures cause { HasCauseOf Fault (S.faults shelf.old) (S.faults shelf.new) result }
+    ensures cause { ReadCause (S.faults shelf.old) (S.faults shelf.new) result }
 {
     match load(alloc, shelf, name, Mode::Import, limit)? {
         None => Ok(Found::Nothing),
@@ -153,11 +149,11 @@ fn find_objects<S: Shelf>(
     shelf: &mut S,
     name: &[u8],
     limit: u64,
-) -> Result<Found, ReadError>
+) -> Result<Found, Stop>
     ensures told { S.told shelf.new ≡ S.told shelf.old }
     ensures found { IfOk result (λ found. Finds (S.told shelf.old) (λ files. held files name.now) found (λ given. objects_found (option_map (objects_of modes.Download limit) given))) }
     ensures servable { IfOk result AreServable }
-    ensures cause { HasCauseOf Fault (S.faults shelf.old) (S.faults shelf.new) result }
+    ensures cause { ReadCause (S.faults shelf.old) (S.faults shelf.new) result }
 {
     match load(alloc, shelf, name, Mode::Download, limit)? {
         None => Ok(Found::Nothing),
@@ -175,10 +171,10 @@ fn find_bytes<S: Shelf>(
     shelf: &mut S,
     name: &[u8],
     limit: u64,
-) -> Result<Found, ReadError>
+) -> Result<Found, Stop>
     ensures told { S.told shelf.new ≡ S.told shelf.old }
     ensures found { IfOk result (λ found. Finds (S.told shelf.old) (λ files. held files name.now) found (λ given. bytes_found (reading limit given))) }
-    ensures cause { HasCauseOf Fault (S.faults shelf.old) (S.faults shelf.new) result }
+    ensures cause { ReadCause (S.faults shelf.old) (S.faults shelf.new) result }
 {
     match fetch(alloc, shelf, name, limit as usize)? {
         Fetched::Missing => Ok(Found::Nothing),
@@ -194,13 +190,16 @@ fn load<S: Shelf>(
     name: &[u8],
     mode: Mode,
     limit: u64,
-) -> Result<Option<Result<Objects, FileFault>>, ReadError>
+) -> Result<Option<Result<Objects, FileFault>>, Stop>
     ensures told { S.told shelf.new ≡ S.told shelf.old }
     ensures loaded { IfOk result (λ file. Finds (S.told shelf.old) (λ files. held files name.now) file (option_map (objects_of mode limit))) }
     ensures read { IfOk result (λ file. IfSome file (AreRead mode limit)) }
-    ensures cause { HasCauseOf Fault (S.faults shelf.old) (S.faults shelf.new) result }
+    ensures cause { ReadCause (S.faults shelf.old) (S.faults shelf.new) result }
 {
-    if !shelf.begin(name)? {
+    let Ok(found) = shelf.begin(name) else {
+        return Err(Stop::ReadFault);
+    };
+    if !found {
         return Ok(None);
     }
     let mut buffer = [0u8; 65_536];
@@ -215,19 +214,21 @@ fn read_objects<S: Shelf>(
     buffer: &mut [u8],
     mode: Mode,
     limit: u64,
-) -> Result<Result<Objects, FileFault>, ReadError>
+) -> Result<Result<Objects, FileFault>, Stop>
     requires begun { S.begun shelf.old ≡ true }
     requires room { 0 < length buffer.old }
     ensures told { S.told shelf.new ≡ S.told shelf.old }
     ensures objects { IfOk result (λ read. IfSome (S.rest shelf.old) (λ bytes. read ≡ objects_of mode limit bytes)) }
     ensures bytes { IfOk result (λ read. AreBytes read (objects_of mode limit)) }
     ensures read { IfOk result (AreRead mode limit) }
-    ensures cause { HasCauseOf Fault (S.faults shelf.old) (S.faults shelf.new) result }
+    ensures cause { ReadCause (S.faults shelf.old) (S.faults shelf.new) result }
 {
     let mut reader = Reader::new(alloc, mode, limit);
     let mut left = limit;
     loop {
-        let count = shelf.next(buffer)?;
+        let Ok(count) = shelf.next(buffer) else {
+            return Err(Stop::ReadFault);
+        };
         if count == 0 {
             return finished(reader);
         }
@@ -240,13 +241,13 @@ fn read_objects<S: Shelf>(
 }
 
 // What the bytes that the reader was fed are.
-fn finished(reader: Reader) -> Result<Result<Objects, FileFault>, ReadError>
+fn finished(reader: Reader) -> Result<Result<Objects, FileFault>, Stop>
     ensures objects { IfOk result (λ read. read ≡ reads_on reader []) }
     ensures cause { FinishCause result }
 {
     match reader.finish() {
         Ok(objects) => Ok(Ok(objects)),
         Err(FileAnswer::Bad(fault)) => Ok(Err(fault)),
-        Err(FileAnswer::Memory) => Err(ReadError::Memory),
+        Err(FileAnswer::Memory) => Err(Stop::Memory),
     }
 }

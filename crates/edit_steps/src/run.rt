@@ -1,7 +1,7 @@
 //! The steps of a script, run one after the other.
 ghost use Rattle.std.specs.Prelude.{◌≡◌, false, OnOk, OnErr};
 ghost use Rattle.std.specs.Io.KnownBytes.{Appends};
-ghost use Rattle.osm_outside.specs.Outside.{AppendsFront, HasCauseOf};
+ghost use Rattle.osm_outside.specs.Outside.{AppendsFront};
 ghost use Rattle.edit_script.specs.Order.{IsOrderly};
 ghost use Rattle.edit_steps.specs.Asked.{MayTake, MayRunAll};
 ghost use Rattle.edit_steps.specs.Load.{MayFind};
@@ -9,16 +9,15 @@ ghost use Rattle.edit_steps.specs.Planned.{IsSized};
 ghost use Rattle.edit_history.specs.Moved.{Fits};
 ghost use Rattle.edit_steps.specs.Send.{Plays};
 ghost use Rattle.edit_steps.specs.States.{StepsRan};
-ghost use Rattle.edit_steps.specs.Stop.{StopCause};
+ghost use Rattle.edit_steps.specs.Stop.{StopCause, WriteCause};
 ghost use Rattle.edit_steps.specs.Turn.{turn, behind_text, response_text};
-ghost use Rattle.edit_steps.specs.declared.sending.WriteError.TheVariants.{Fault};
 
 use crate::limits::Limits;
 use crate::loading::{Found, find};
 use crate::response::{Behind, Response};
 use crate::sending::{
-    WriteError, send_changes, send_conflicts, send_count, send_findings, send_found,
-    send_rehearsed, send_reply, send_saved, send_sent, send_table,
+    send_changes, send_conflicts, send_count, send_findings, send_found, send_rehearsed,
+    send_reply, send_saved, send_sent, send_table,
 };
 use crate::stop::Stop;
 use crate::turns::take_turn;
@@ -63,11 +62,11 @@ fn run_step<K: Sink>(
     history: &mut History,
     step: &Step,
     found: &Found,
-) -> Result<(), WriteError>
+) -> Result<(), Stop>
     requires fits { Fits (λ b. done (b.vtable, b.value)) (λ b. undone (b.vtable, b.value)) (λ b. kind (b.vtable, b.value)) history.old (MayTake step.now.act) }
     requires found { MayFind step.now.act found.now }
     ensures plays { Plays (λ b. done (b.vtable, b.value)) (λ b. undone (b.vtable, b.value)) (λ b. kind (b.vtable, b.value)) history.old history.new (K.taken out.old) (K.taken out.new) result step.now.line (turn limits found.now step.now.act) }
-    ensures cause { HasCauseOf Fault (K.faults out.old) (K.faults out.new) result }
+    ensures cause { WriteCause (K.faults out.old) (K.faults out.new) result }
 {
     let response = take_turn(alloc, limits, history, &step.act, found)?;
     send_response(alloc, out, step.line, &response, history.ds())
@@ -84,11 +83,11 @@ pub fn send_response<K: Sink>(
     line: u64,
     response: &Response,
     ds: &DataSet,
-) -> Result<(), WriteError>
+) -> Result<(), Stop>
     requires { IsSized response.now.behind }
     ensures ok { OnOk result (Appends (K.taken out.old) (K.taken out.new) (response_text line response.now ds.now)) }
     ensures err { OnErr result (AppendsFront (K.taken out.old) (K.taken out.new) (response_text line response.now ds.now)) }
-    ensures cause { HasCauseOf Fault (K.faults out.old) (K.faults out.new) result }
+    ensures cause { WriteCause (K.faults out.old) (K.faults out.new) result }
 {
     send_reply(alloc, out, line, &response.reply)?;
     send_behind(alloc, out, &response.behind, ds)
@@ -100,11 +99,11 @@ fn send_behind<K: Sink>(
     out: &mut K,
     behind: &Behind,
     ds: &DataSet,
-) -> Result<(), WriteError>
+) -> Result<(), Stop>
     requires { IsSized behind.now }
     ensures ok { OnOk result (Appends (K.taken out.old) (K.taken out.new) (behind_text behind.now ds.now)) }
     ensures err { OnErr result (AppendsFront (K.taken out.old) (K.taken out.new) (behind_text behind.now ds.now)) }
-    ensures cause { HasCauseOf Fault (K.faults out.old) (K.faults out.new) result }
+    ensures cause { WriteCause (K.faults out.old) (K.faults out.new) result }
 {
     match behind {
         Behind::Nothing => Ok(()),

@@ -1,7 +1,7 @@
 //! Text that goes to the sink.
 ghost use Rattle.std.specs.Prelude.{◌≡◌, ◌++◌, ◌≤◌, OnOk, OnErr, flat_map};
 ghost use Rattle.std.specs.Io.KnownBytes.{Appends};
-ghost use Rattle.osm_outside.specs.Outside.{AppendsFront, HasCauseOf};
+ghost use Rattle.osm_outside.specs.Outside.{AppendsFront};
 ghost use Rattle.osm_base.specs.Extends.{Extends};
 ghost use Rattle.osm_base.specs.Meta.{empty_meta};
 ghost use Rattle.chunking.specs.Chunks.{chunks};
@@ -11,15 +11,15 @@ ghost use Rattle.edit_script.specs.Reply.{reply_line};
 ghost use Rattle.edit_steps.specs.Planned.{rehearsed_text};
 ghost use Rattle.edit_steps.specs.Printed.{lines_of, saved_rest, table_text};
 ghost use Rattle.edit_steps.specs.Sent.{sent_text};
-ghost use Rattle.edit_steps.specs.Stop.{write_error_of};
 ghost use Rattle.edit_steps.specs.Counted.{count_line, count_text};
 ghost use Rattle.edit_steps.specs.Searched.{findings_lines, findings_text, found_text};
-ghost use Rattle.edit_steps.specs.declared.sending.WriteError.TheVariants.{Fault, Memory};
+ghost use Rattle.edit_steps.specs.Stop.{WriteCause};
 
 use crate::counting::{write_count, write_count_line};
 use crate::printing::write_entry;
 use crate::searching::{write_findings, write_key_line};
 use crate::sent::write_sent;
+use crate::stop::Stop;
 use chunking::{ChunkFault, write_chunks};
 use conflict::{conflicts, write_conflict};
 use dataset::DataSet;
@@ -29,50 +29,18 @@ use osm_base::{Key, Meta};
 use osm_outside::{Failed, Sink, pass_full};
 use saved_session::{write_saved_end, write_saved_entry, write_saved_head};
 use server_world::WorldRefusal;
-use std::alloc::{AllocError, AllocFailed, Global};
+use std::alloc::{AllocError, Global};
 use upload_order::Changes;
 
-/// Why a text wasn't written to its end.
-#[derive(Clone, Copy)]
-pub enum WriteError {
-    /// The sink failed.
-    Fault,
-    /// Memory ran out.
-    Memory,
-}
-
-impl From<Failed> for WriteError {
-    ghost from_gives = { λ _ e. e ≡ Fault };
-
-    fn from(_: Failed) -> WriteError {
-        WriteError::Fault
-    }
-}
-
-impl From<ChunkFault> for WriteError {
-    ghost from_gives = { λ fault e. e ≡ write_error_of fault };
-
-    fn from(fault: ChunkFault) -> WriteError {
-        match fault {
-            ChunkFault::Write => WriteError::Fault,
-            ChunkFault::Memory => WriteError::Memory,
-        }
-    }
-}
-
-impl From<AllocError> for WriteError {
-    ghost from_gives = { λ _ e. e ≡ Memory };
-
-    fn from(_: AllocError) -> WriteError {
-        WriteError::Memory
-    }
-}
-
-impl<T: Drop> From<AllocFailed<T>> for WriteError {
-    ghost from_gives = { λ _ e. e ≡ Memory };
-
-    fn from(_: AllocFailed<T>) -> WriteError {
-        WriteError::Memory
+// Gives the sink a text.
+fn put<K: Sink>(out: &mut K, text: &[u8]) -> Result<(), Stop>
+    ensures ok { OnOk result (Appends (K.taken out.old) (K.taken out.new) text.now) }
+    ensures err { OnErr result (AppendsFront (K.taken out.old) (K.taken out.new) text.now) }
+    ensures cause { WriteCause (K.faults out.old) (K.faults out.new) result }
+{
+    match out.put(text) {
+        Ok(()) => Ok(()),
+        Err(Failed) => Err(Stop::WriteFault),
     }
 }
 
@@ -85,40 +53,38 @@ pub fn send_reply<K: Sink>(
     out: &mut K,
     line: u64,
     reply: &StepReply,
-) -> Result<(), WriteError>
+) -> Result<(), Stop>
     ensures ok { OnOk result (Appends (K.taken out.old) (K.taken out.new) (reply_line line reply.now)) }
     ensures err { OnErr result (AppendsFront (K.taken out.old) (K.taken out.new) (reply_line line reply.now)) }
-    ensures cause { HasCauseOf Fault (K.faults out.old) (K.faults out.new) result }
+    ensures cause { WriteCause (K.faults out.old) (K.faults out.new) result }
 {
     let mut text = Vec::new(alloc);
     write_reply(line, reply, &mut text)?;
-    out.put(&text)?;
-    Ok(())
+    put(out, &text)
 }
 
 /// Sends the text of `count`.
 ///
 /// # Errors
 /// The sink failed, or no memory was left. A front of the text may have been written.
-pub fn send_count<K: Sink>(alloc: Global, out: &mut K, ds: &DataSet) -> Result<(), WriteError>
+pub fn send_count<K: Sink>(alloc: Global, out: &mut K, ds: &DataSet) -> Result<(), Stop>
     ensures ok { OnOk result (Appends (K.taken out.old) (K.taken out.new) (count_text ds.now)) }
     ensures err { OnErr result (AppendsFront (K.taken out.old) (K.taken out.new) (count_text ds.now)) }
-    ensures cause { HasCauseOf Fault (K.faults out.old) (K.faults out.new) result }
+    ensures cause { WriteCause (K.faults out.old) (K.faults out.new) result }
 {
     let mut text = Vec::new(alloc);
     write_count(ds, &mut text)?;
-    out.put(&text)?;
-    Ok(())
+    put(out, &text)
 }
 
 /// Sends the text of `print`, in pieces of some tens of KiB.
 ///
 /// # Errors
 /// The sink failed, or no memory was left. A front of the text may have been written.
-pub fn send_table<K: Sink>(alloc: Global, out: &mut K, ds: &DataSet) -> Result<(), WriteError>
+pub fn send_table<K: Sink>(alloc: Global, out: &mut K, ds: &DataSet) -> Result<(), Stop>
     ensures ok { OnOk result (Appends (K.taken out.old) (K.taken out.new) (table_text ds.now)) }
     ensures err { OnErr result (AppendsFront (K.taken out.old) (K.taken out.new) (table_text ds.now)) }
-    ensures cause { HasCauseOf Fault (K.faults out.old) (K.faults out.new) result }
+    ensures cause { WriteCause (K.faults out.old) (K.faults out.new) result }
 {
     let keys = ds.ordered()?;
     send_lines(alloc, out, Lines::Object, ds, keys.as_slice())
@@ -128,10 +94,10 @@ pub fn send_table<K: Sink>(alloc: Global, out: &mut K, ds: &DataSet) -> Result<(
 ///
 /// # Errors
 /// The sink failed, or no memory was left. A front of the text may have been written.
-pub fn send_conflicts<K: Sink>(alloc: Global, out: &mut K, ds: &DataSet) -> Result<(), WriteError>
+pub fn send_conflicts<K: Sink>(alloc: Global, out: &mut K, ds: &DataSet) -> Result<(), Stop>
     ensures ok { OnOk result (Appends (K.taken out.old) (K.taken out.new) (conflicts_text ds.now)) }
     ensures err { OnErr result (AppendsFront (K.taken out.old) (K.taken out.new) (conflicts_text ds.now)) }
-    ensures cause { HasCauseOf Fault (K.faults out.old) (K.faults out.new) result }
+    ensures cause { WriteCause (K.faults out.old) (K.faults out.new) result }
 {
     let keys = conflicts(ds)?;
     send_lines(alloc, out, Lines::Conflict, ds, keys.as_slice())
@@ -142,46 +108,44 @@ pub fn send_conflicts<K: Sink>(alloc: Global, out: &mut K, ds: &DataSet) -> Resu
 /// # Errors
 /// The sink failed, or no memory was left. A front of the text may have been written.
 #[tactic(auto, unfolding(saved_session::specs::Saved::saved), using(osm_outside::proofs::Along::front_of_first, osm_outside::proofs::Along::front_of_second))]
-pub fn send_saved<K: Sink>(alloc: Global, out: &mut K, ds: &DataSet) -> Result<(), WriteError>
+pub fn send_saved<K: Sink>(alloc: Global, out: &mut K, ds: &DataSet) -> Result<(), Stop>
     ensures ok { OnOk result (Appends (K.taken out.old) (K.taken out.new) (saved ds.now)) }
     ensures err { OnErr result (AppendsFront (K.taken out.old) (K.taken out.new) (saved ds.now)) }
-    ensures cause { HasCauseOf Fault (K.faults out.old) (K.faults out.new) result }
+    ensures cause { WriteCause (K.faults out.old) (K.faults out.new) result }
 {
     send_saved_head(alloc, out, ds)?;
     send_saved_rest(alloc, out, ds)
 }
 
-fn send_saved_head<K: Sink>(alloc: Global, out: &mut K, ds: &DataSet) -> Result<(), WriteError>
+fn send_saved_head<K: Sink>(alloc: Global, out: &mut K, ds: &DataSet) -> Result<(), Stop>
     ensures ok { OnOk result (Appends (K.taken out.old) (K.taken out.new) (saved_head ds.now.next)) }
     ensures err { OnErr result (AppendsFront (K.taken out.old) (K.taken out.new) (saved_head ds.now.next)) }
-    ensures cause { HasCauseOf Fault (K.faults out.old) (K.faults out.new) result }
+    ensures cause { WriteCause (K.faults out.old) (K.faults out.new) result }
 {
     let mut text = Vec::new(alloc);
     write_saved_head(ds, &mut text)?;
-    out.put(&text)?;
-    Ok(())
+    put(out, &text)
 }
 
 #[tactic(auto, using(osm_outside::proofs::Along::front_of_first, osm_outside::proofs::Along::front_of_second))]
-fn send_saved_rest<K: Sink>(alloc: Global, out: &mut K, ds: &DataSet) -> Result<(), WriteError>
+fn send_saved_rest<K: Sink>(alloc: Global, out: &mut K, ds: &DataSet) -> Result<(), Stop>
     ensures ok { OnOk result (Appends (K.taken out.old) (K.taken out.new) (saved_rest ds.now)) }
     ensures err { OnErr result (AppendsFront (K.taken out.old) (K.taken out.new) (saved_rest ds.now)) }
-    ensures cause { HasCauseOf Fault (K.faults out.old) (K.faults out.new) result }
+    ensures cause { WriteCause (K.faults out.old) (K.faults out.new) result }
 {
     let keys = ds.ordered()?;
     send_lines(alloc, out, Lines::Saved, ds, keys.as_slice())?;
     send_saved_end(alloc, out)
 }
 
-fn send_saved_end<K: Sink>(alloc: Global, out: &mut K) -> Result<(), WriteError>
+fn send_saved_end<K: Sink>(alloc: Global, out: &mut K) -> Result<(), Stop>
     ensures ok { OnOk result (Appends (K.taken out.old) (K.taken out.new) saved_end) }
     ensures err { OnErr result (AppendsFront (K.taken out.old) (K.taken out.new) saved_end) }
-    ensures cause { HasCauseOf Fault (K.faults out.old) (K.faults out.new) result }
+    ensures cause { WriteCause (K.faults out.old) (K.faults out.new) result }
 {
     let mut text = Vec::new(alloc);
     write_saved_end(&mut text)?;
-    out.put(&text)?;
-    Ok(())
+    put(out, &text)
 }
 
 /// What is written of an object.
@@ -226,19 +190,22 @@ fn send_lines<K: Sink>(
     lines: Lines,
     ds: &DataSet,
     keys: &[Key],
-) -> Result<(), WriteError>
+) -> Result<(), Stop>
     ensures ok { OnOk result (Appends (K.taken out.old) (K.taken out.new) (flat_map (lines_of lines ds.now) keys.now)) }
     ensures err { OnErr result (AppendsFront (K.taken out.old) (K.taken out.new) (flat_map (lines_of lines ds.now) keys.now)) }
-    ensures cause { HasCauseOf Fault (K.faults out.old) (K.faults out.new) result }
+    ensures cause { WriteCause (K.faults out.old) (K.faults out.new) result }
 {
     let unknown = Meta::empty(alloc)?;
     let mut piece = Vec::new(alloc);
     let mut near = 0;
     for key in keys {
         write_lines(lines, ds, *key, &mut near, &unknown, &mut piece)?;
-        pass_full(out, &mut piece)?;
+        match pass_full(out, &mut piece) {
+            Ok(()) => (),
+            Err(Failed) => return Err(Stop::WriteFault),
+        }
     }
-    out.put(&piece)?;
+    put(out, &piece)?;
     Ok(())
 }
 
@@ -246,24 +213,27 @@ fn send_lines<K: Sink>(
 ///
 /// # Errors
 /// The sink failed, or no memory was left. A front of the text may have been written.
-pub fn send_changes<K: Sink>(out: &mut K, changes: &Changes, size: u32) -> Result<(), WriteError>
+pub fn send_changes<K: Sink>(out: &mut K, changes: &Changes, size: u32) -> Result<(), Stop>
     requires { (1 ≤ size) × (size ≤ 10000) }
     ensures ok { OnOk result (Appends (K.taken out.old) (K.taken out.new) (chunks changes.now size)) }
     ensures err { OnErr result (AppendsFront (K.taken out.old) (K.taken out.new) (chunks changes.now size)) }
-    ensures cause { HasCauseOf Fault (K.faults out.old) (K.faults out.new) result }
+    ensures cause { WriteCause (K.faults out.old) (K.faults out.new) result }
 {
-    write_chunks(changes, size, out)?;
-    Ok(())
+    match write_chunks(changes, size, out) {
+        Ok(()) => Ok(()),
+        Err(ChunkFault::Write) => Err(Stop::WriteFault),
+        Err(ChunkFault::Memory) => Err(Stop::Memory),
+    }
 }
 
 /// Sends how many changes a rehearsal accepted.
 ///
 /// # Errors
 /// The sink failed, or no memory was left. A front of the text may have been written.
-pub fn send_rehearsed<K: Sink>(alloc: Global, out: &mut K, count: u64) -> Result<(), WriteError>
+pub fn send_rehearsed<K: Sink>(alloc: Global, out: &mut K, count: u64) -> Result<(), Stop>
     ensures ok { OnOk result (Appends (K.taken out.old) (K.taken out.new) (rehearsed_text count)) }
     ensures err { OnErr result (AppendsFront (K.taken out.old) (K.taken out.new) (rehearsed_text count)) }
-    ensures cause { HasCauseOf Fault (K.faults out.old) (K.faults out.new) result }
+    ensures cause { WriteCause (K.faults out.old) (K.faults out.new) result }
 {
     send_count_line(alloc, out, b"rehearse accepted ", count)
 }
@@ -277,31 +247,24 @@ pub fn send_sent<K: Sink>(
     out: &mut K,
     count: u64,
     refused: Option<WorldRefusal>,
-) -> Result<(), WriteError>
+) -> Result<(), Stop>
     ensures ok { OnOk result (Appends (K.taken out.old) (K.taken out.new) (sent_text count refused)) }
     ensures err { OnErr result (AppendsFront (K.taken out.old) (K.taken out.new) (sent_text count refused)) }
-    ensures cause { HasCauseOf Fault (K.faults out.old) (K.faults out.new) result }
+    ensures cause { WriteCause (K.faults out.old) (K.faults out.new) result }
 {
     let mut text = Vec::new(alloc);
     write_sent(count, refused, &mut text)?;
-    out.put(&text)?;
-    Ok(())
+    put(out, &text)
 }
 
-fn send_count_line<K: Sink>(
-    alloc: Global,
-    out: &mut K,
-    name: &[u8],
-    count: u64,
-) -> Result<(), WriteError>
+fn send_count_line<K: Sink>(alloc: Global, out: &mut K, name: &[u8], count: u64) -> Result<(), Stop>
     ensures ok { OnOk result (Appends (K.taken out.old) (K.taken out.new) (count_line name.now count)) }
     ensures err { OnErr result (AppendsFront (K.taken out.old) (K.taken out.new) (count_line name.now count)) }
-    ensures cause { HasCauseOf Fault (K.faults out.old) (K.faults out.new) result }
+    ensures cause { WriteCause (K.faults out.old) (K.faults out.new) result }
 {
     let mut text = Vec::new(alloc);
     write_count_line(name, count, &mut text)?;
-    out.put(&text)?;
-    Ok(())
+    put(out, &text)
 }
 
 /// Sends the keys that were found, in pieces of some tens of KiB.
@@ -314,10 +277,10 @@ pub fn send_found<K: Sink>(
     out: &mut K,
     ds: &DataSet,
     keys: &[Key],
-) -> Result<(), WriteError>
+) -> Result<(), Stop>
     ensures ok { OnOk result (Appends (K.taken out.old) (K.taken out.new) (found_text keys.now)) }
     ensures err { OnErr result (AppendsFront (K.taken out.old) (K.taken out.new) (found_text keys.now)) }
-    ensures cause { HasCauseOf Fault (K.faults out.old) (K.faults out.new) result }
+    ensures cause { WriteCause (K.faults out.old) (K.faults out.new) result }
 {
     send_count_line(alloc, out, b"found ", keys.len() as u64)?;
     send_lines(alloc, out, Lines::Key, ds, keys)
@@ -328,30 +291,21 @@ pub fn send_found<K: Sink>(
 /// # Errors
 /// The sink failed, or no memory was left. A front of the text may have been written.
 #[tactic(auto, using(osm_outside::proofs::Along::front_of_first, osm_outside::proofs::Along::front_of_second))]
-pub fn send_findings<K: Sink>(
-    alloc: Global,
-    out: &mut K,
-    findings: &Findings,
-) -> Result<(), WriteError>
+pub fn send_findings<K: Sink>(alloc: Global, out: &mut K, findings: &Findings) -> Result<(), Stop>
     ensures ok { OnOk result (Appends (K.taken out.old) (K.taken out.new) (findings_text findings.now)) }
     ensures err { OnErr result (AppendsFront (K.taken out.old) (K.taken out.new) (findings_text findings.now)) }
-    ensures cause { HasCauseOf Fault (K.faults out.old) (K.faults out.new) result }
+    ensures cause { WriteCause (K.faults out.old) (K.faults out.new) result }
 {
     send_count_line(alloc, out, b"check ", findings.len() as u64)?;
     send_finding_lines(alloc, out, findings)
 }
 
-fn send_finding_lines<K: Sink>(
-    alloc: Global,
-    out: &mut K,
-    findings: &Findings,
-) -> Result<(), WriteError>
+fn send_finding_lines<K: Sink>(alloc: Global, out: &mut K, findings: &Findings) -> Result<(), Stop>
     ensures ok { OnOk result (Appends (K.taken out.old) (K.taken out.new) (findings_lines findings.now)) }
     ensures err { OnErr result (AppendsFront (K.taken out.old) (K.taken out.new) (findings_lines findings.now)) }
-    ensures cause { HasCauseOf Fault (K.faults out.old) (K.faults out.new) result }
+    ensures cause { WriteCause (K.faults out.old) (K.faults out.new) result }
 {
     let mut text = Vec::new(alloc);
     write_findings(findings, &mut text)?;
-    out.put(&text)?;
-    Ok(())
+    put(out, &text)
 }

@@ -1,39 +1,18 @@
-// Why a session stops early.
+//! Why a session stops early.
 ghost use Rattle.std.specs.Prelude.{◌≡◌};
-ghost use Rattle.edit_steps.specs.Stop.{stop_of, stop_of_write};
 ghost use Rattle.edit_steps.specs.declared.stop.Stop.TheVariants.{Memory};
 
-use crate::files::ReadError;
-use crate::sending::WriteError;
 use std::alloc::{AllocError, AllocFailed};
 
+/// Why a session stops early.
 #[derive(Clone, Copy)]
 pub enum Stop {
+    /// The shelf failed.
     ReadFault,
+    /// The sink failed.
     WriteFault,
+    /// Memory ran out.
     Memory,
-}
-
-impl From<ReadError> for Stop {
-    ghost from_gives = { λ read e. e ≡ stop_of read };
-
-    fn from(read: ReadError) -> Stop {
-        match read {
-            ReadError::Fault => Stop::ReadFault,
-            ReadError::Memory => Stop::Memory,
-        }
-    }
-}
-
-impl From<WriteError> for Stop {
-    ghost from_gives = { λ write e. e ≡ stop_of_write write };
-
-    fn from(write: WriteError) -> Stop {
-        match write {
-            WriteError::Fault => Stop::WriteFault,
-            WriteError::Memory => Stop::Memory,
-        }
-    }
 }
 
 impl From<AllocError> for Stop {

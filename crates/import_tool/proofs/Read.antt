@@ -1,5 +1,5 @@
 -- The new objects of a file that was read to be imported can be imported.
-use Rattle.std.proofs.Common.{◌≡◌, ℕ, ℤ, ◌+◌, Bool, true, false, cond, nat_lt, List, [], ◌∷◌, ◌++◌, map, length, Option, Some, None, Result, Ok, Err, refl, ap, ◌∙◌, subst}
+use Rattle.std.proofs.Common.{◌≡◌, ℕ, ℤ, Bool, true, false, cond, List, [], ◌∷◌, map, Option, Some, None, Ok, refl, ap, ◌∙◌}
 use Rattle.std.specs.List.{All, AllByRecursion, cons_option}
 use Rattle.std.specs.Option.{option_map}
 use Rattle.std.proofs.lemmas.List.Elements.{All-head, All-tail}
@@ -11,37 +11,20 @@ use Rattle.osm_base.specs.declared.key.Key.{Key}
 use Rattle.osm_base.specs.declared.members.Member.{Member}
 use Rattle.osm_base.specs.declared.content.Content.{Content}
 use Rattle.osm_base.specs.declared.content.Content.TheVariants as content
-use Rattle.osm_base.proofs.RisingKeys.{key_turned}
 use Rattle.opl_line.specs.declared.mode.Mode.TheVariants.{Import}
-use Rattle.opl_line.specs.declared.fault.LineFault.{LineFault}
-use Rattle.opl_line.specs.declared.object.LineKind.{LineKind}
-use Rattle.opl_line.specs.declared.object.LineKind.TheVariants.{Skipped, Object}
+use Rattle.opl_line.specs.declared.object.LineKind.TheVariants.{Object}
 use Rattle.opl_line.specs.declared.object.OplObject.{OplObject}
-use Rattle.opl_line.specs.Line.{line_of}
 use Rattle.opl_line.specs.Writable.{IsMember, IsContent, IsSide, IsReadObject}
-use Rattle.opl_line.proofs.Readable.{read_kind}
-use Rattle.opl_file.specs.declared.fault.FileFault.{FileFault}
-use Rattle.opl_file.specs.declared.fault.FileFault.TheVariants.{FileTooLong, LineTooLong, Twice}
-use Rattle.opl_file.specs.Cut.{lines_of}
 use Rattle.opl_file.specs.Objects.{has_key}
-use Rattle.opl_file.specs.Reading.{with_line, taken, and_then, objects_from, objects_of}
+use Rattle.opl_file.specs.Reading.{objects_of}
+use Rattle.opl_file.proofs.ReadObjects.{are_read, AreRead, Once}
 use Rattle.tool_api.specs.declared.new_objects.NewObject.{NewObject}
 use Rattle.tool_api.specs.Checks.{is_named}
 use Rattle.tool_api.specs.Import.{is_negative, file_keys, IsNewObject, AreDistinct, AreNewObjects}
 use Rattle.import_tool.specs.Counted.{new_object, new_objects_of}
 
--- The objects of a file: each as it was read, and each key once.
-
 abbrev pub IsRead : OplObject → Type 0
 IsRead o = IsReadObject Import (Object o)
-
-abbrev Once : List OplObject → Type 0
-Once [] = Unit {0}
-Once (o ∷ os) = (has_key os o.key ≡ false) × Once os
-
-record AreRead (os : List OplObject) : Type 0 where
-  pub each : AllByRecursion IsRead os
-  pub once : Once os
 
 -- Of one object.
 
@@ -105,64 +88,9 @@ new_distinct : (os : List OplObject) → Once os → AreDistinct (file_keys (new
 new_distinct [] once = tt
 new_distinct (o ∷ os) once = cons_distinct (new_object o) (new_objects_of os) o.key (new_key_is o (is_negative o.key.id) o.side) (new_apart os o.key once.0) (new_distinct os once.1)
 
-can_import : (os : List OplObject) → AreRead os → AreNewObjects (new_objects_of os)
+can_import : (os : List OplObject) → AreRead Import os → AreNewObjects (new_objects_of os)
 can_import os are = record { distinct = new_distinct os are.once; each = each_new os are.each }
-
--- A line more.
-
-each_more : (os : List OplObject) (o : OplObject) → AllByRecursion IsRead os → IsRead o → AllByRecursion IsRead (os ++ o ∷ [])
-each_more [] o all one = (one, tt)
-each_more (p ∷ ps) o all one = (all.0, each_more ps o all.1 one)
-
-key_more : (os : List OplObject) (o : OplObject) (k : Key) → has_key os k ≡ false → is_key k o.key ≡ false → has_key (os ++ o ∷ []) k ≡ false
-key_more [] o k out apart = or_from (is_key k o.key) false apart refl
-key_more (p ∷ ps) o k out apart =
-    let q = or_parts (is_key k p.key) (has_key ps k) out in
-    or_from (is_key k p.key) (has_key (ps ++ o ∷ []) k) q.0 (key_more ps o k q.1 apart)
-
-once_more : (os : List OplObject) (o : OplObject) → Once os → has_key os o.key ≡ false → Once (os ++ o ∷ [])
-once_more [] o once out = (refl, tt)
-once_more (p ∷ ps) o once out =
-    let q = or_parts (is_key o.key p.key) (has_key ps o.key) out in
-    (key_more ps o p.key once.0 (key_turned p.key o.key ∙ q.0), once_more ps o once.1 q.1)
-
-unless_twice : (n : ℕ) (os next : List OplObject) (o : OplObject) (twice : Bool) → has_key os o.key ≡ twice → AreRead os → IsRead o → cond twice (Err (Twice n)) (Ok (os ++ o ∷ [])) ≡ Ok next → AreRead next
-unless_twice n os next o true has are one e = absurd cc
-unless_twice n os next o false has are one e =
-    subst AreRead (let h : os ++ o ∷ [] ≡ next = cc in h) (record { each = each_more os o are.each one; once = once_more os o are.once has })
-
-with_line_reads : (n : ℕ) (os next : List OplObject) (r : Result LineKind LineFault) → AreRead os → ((kind : LineKind) → r ≡ Ok kind → IsReadObject Import kind) → with_line n os r ≡ Ok next → AreRead next
-with_line_reads n os next (Err fault) are reads e = absurd cc
-with_line_reads n os next (Ok Skipped) are reads e = subst AreRead (let h : os ≡ next = cc in h) are
-with_line_reads n os next (Ok (Object o)) are reads e = unless_twice n os next o (has_key os o.key) refl are (reads (Object o) refl) e
-
-line_reads : (n : ℕ) (os next : List OplObject) (line : List ℕ) (long : Bool) → AreRead os → cond long (Err (LineTooLong n)) (with_line n os (line_of Import line)) ≡ Ok next → AreRead next
-line_reads n os next line true are e = absurd cc
-line_reads n os next line false are e = with_line_reads n os next (line_of Import line) are (λ kind is. read_kind Import line kind is) e
-
-taken_reads : (n : ℕ) (os next : List OplObject) (line : List ℕ) → AreRead os → taken Import n os line ≡ Ok next → AreRead next
-unfolding taken
-taken_reads n os next line are e = line_reads n os next line (nat_lt 16777216 (length line)) are e
-
--- The lines of a file.
-
-after_line : (n : ℕ) (lines : List (List ℕ)) (next : List OplObject) (r : Result (List OplObject) FileFault)
-    → ((more : List OplObject) → r ≡ Ok more → AreRead more)
-    → ((more : List OplObject) → AreRead more → objects_from Import (n + 1) more lines ≡ Ok next → AreRead next)
-    → and_then r (λ more. objects_from Import (n + 1) more lines) ≡ Ok next → AreRead next
-after_line n lines next (Err fault) here on e = absurd cc
-after_line n lines next (Ok more) here on e = on more (here more refl) e
-
-lines_read : (lines : List (List ℕ)) (n : ℕ) (os next : List OplObject) → AreRead os → objects_from Import n os lines ≡ Ok next → AreRead next
-lines_read [] n os next are e = subst AreRead (let h : os ≡ next = cc in h) are
-lines_read (line ∷ lines) n os next are e =
-    after_line n lines next (taken Import n os line) (λ more is. taken_reads n os more line are is) (λ more here is. lines_read lines (n + 1) more next here is) e
-
-file_reads : (lines : List (List ℕ)) (next : List OplObject) (long : Bool) → cond long (Err FileTooLong) (objects_from Import 1 [] lines) ≡ Ok next → AreRead next
-file_reads lines next true e = absurd cc
-file_reads lines next false e = lines_read lines 1 [] next (record { each = tt; once = tt }) e
 
 -- The new objects of a file that was read to be imported.
 pub read_new : (limit : ℕ) (bytes : List ℕ) (objects : List OplObject) → objects_of Import limit bytes ≡ Ok objects → AreNewObjects (new_objects_of objects)
-unfolding objects_of
-read_new limit bytes objects e = can_import objects (file_reads (lines_of bytes) objects (nat_lt limit (length bytes)) e)
+read_new limit bytes objects e = can_import objects (are_read Import limit bytes objects e)

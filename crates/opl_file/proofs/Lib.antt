@@ -3,6 +3,7 @@ pub mod Cutting
 mod LinesTold
 mod Examples
 pub mod Keys
+pub mod ReadObjects
 pub mod Rising
 pub mod Room
 pub mod Steps

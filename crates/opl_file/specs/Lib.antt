@@ -6,3 +6,4 @@ pub mod Reading
 pub mod Answers
 pub mod Feeding
 pub mod Pieces
+pub mod Unread

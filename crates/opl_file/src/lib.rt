@@ -4,7 +4,8 @@
 //! objects in order or its one fault: what it gives is stated for the whole file
 //! (`specs/Reading`), and `feed` says how each piece brings it nearer. It keeps the objects so
 //! far and one unfinished line, and reads a line that lies whole in a piece in place. Where the
-//! file isn't in rank order it keeps the objects' keys too. It stands on `opl_line` for one line,
+//! file isn't in rank order it keeps the objects' keys too. Files that aren't OPL's, as scripts, are
+//! cut by `next_line`, and `Unread` says why one of their lines gives nothing. It stands on `opl_line` for one line,
 //! on `memchr` for the ends of lines, and on `indexmap` for the keys.
 //!
 //! For who changes it: `Lines` has the state of the lines and all that reads them, `Reader` adds
@@ -20,9 +21,11 @@ mod line;
 mod lines;
 mod objects;
 mod reader;
+mod unread;
 
 pub use fault::{FileAnswer, FileFault};
 pub use law::{lines_are_told, same_for_any_pieces};
-pub use line::first_line;
+pub use line::next_line;
 pub use objects::Objects;
 pub use reader::Reader;
+pub use unread::Unread;

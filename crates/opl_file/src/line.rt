@@ -1,6 +1,6 @@
 //! One line of a file: where it ends, and what it adds.
 ghost use Rattle.std.specs.Prelude.{◌≡◌, ◌+◌, ◌^◌, ◌<◌, ◌++◌, ◌∷◌, false, length, vec_len, OnErr, MatchOption};
-ghost use Rattle.opl_file.specs.Cut.{has_lf};
+ghost use Rattle.opl_file.specs.Cut.{has_lf, lines_of};
 ghost use Rattle.opl_file.specs.Reading.{taken};
 ghost use Rattle.opl_file.specs.Answers.{Gives};
 
@@ -13,7 +13,7 @@ use opl_line::{LineAnswer, LineKind, Mode, Pool, read_line};
 pub(crate) const LINE_LIMIT: usize = 16_777_216;
 
 /// The bytes up to the first LF, and those that follow it, where there is one. The bytes are walked up to the LF.
-pub fn first_line(bytes: &[u8]) -> (&[u8], Option<&[u8]>)
+pub(crate) fn first_line(bytes: &[u8]) -> (&[u8], Option<&[u8]>)
     ensures front { has_lf result.0.now ≡ false }
     ensures parts { MatchOption result.1 (result.0.now ≡ bytes.now) (λ rest. bytes.now ≡ result.0.now ++ 10 ∷ rest.now) }
 {
@@ -24,6 +24,19 @@ pub fn first_line(bytes: &[u8]) -> (&[u8], Option<&[u8]>)
             let (_, rest) = bytes.split_at(end + 1);
             (front, Some(rest))
         }
+    }
+}
+
+/// The first line, and the bytes behind its LF. The bytes are walked up to the LF.
+pub fn next_line(bytes: &[u8]) -> (&[u8], &[u8])
+    requires { 0 < length bytes.now }
+    ensures lines { lines_of bytes.now ≡ result.0.now ∷ lines_of result.1.now }
+    ensures shorter { length result.1.now < length bytes.now }
+{
+    let (line, after) = first_line(bytes);
+    match after {
+        None => (line, &[]),
+        Some(rest) => (line, rest),
     }
 }
 

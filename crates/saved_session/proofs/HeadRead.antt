@@ -7,7 +7,7 @@ use Rattle.std.proofs.lemmas.Option.{same_Some, cond_some}
 use Rattle.osm_base.specs.Number.{IsId, id_size, id_test, id_text, key_text, kind_letter, minus, number_text}
 use Rattle.osm_base.specs.declared.key.Kind.{Kind}
 use Rattle.osm_base.specs.declared.key.Key.{Key}
-use Rattle.saved_session.specs.Answers.{◌>>=◌}
+use Rattle.opl_text.specs.Time.{◌>>=◌}
 use Rattle.saved_session.specs.Words.{behind_word, first_word, head_named, head_of, head_text, head_written, incomplete_text, known_text, words_text}
 use Rattle.saved_session.specs.declared.words.Head.{Head}
 use Rattle.saved_session.specs.declared.words.Head.TheVariants.{Incomplete, Known, End}

@@ -25,7 +25,7 @@ use Rattle.opl_line.specs.Line.{line_of}
 use Rattle.opl_line.specs.Written.{written}
 use Rattle.opl_line.specs.declared.mode.Mode.TheVariants.{Import}
 use Rattle.opl_line.specs.declared.object.OplObject.{OplObject}
-use Rattle.saved_session.specs.Answers.{◌>>=◌}
+use Rattle.opl_text.specs.Time.{◌>>=◌}
 use Rattle.saved_session.specs.Words.{base_word, first_word, behind_word, head_of, head_text, head_written, header_of, header_text, header_written}
 use Rattle.osm_base.specs.Number.{number_text}
 use Rattle.osm_base.proofs.Tests.{only_passed}

@@ -1,4 +1,3 @@
-pub mod Answers
 pub mod Words
 pub mod Saved
 pub mod EntryTold

@@ -1,9 +1,7 @@
 //! Why no session was read.
 
 ghost use Rattle.std.specs.Prelude.{◌≡◌};
-ghost use Rattle.saved_session.specs.Answers.{unread_line};
 
-use opl_line::LineAnswer;
 use osm_base::Key;
 use std::alloc::{AllocError, AllocFailed};
 use thiserror::Error;
@@ -45,35 +43,5 @@ impl<T: Drop> From<AllocFailed<T>> for SavedFault {
 
     fn from(_: AllocFailed<T>) -> SavedFault {
         SavedFault::Memory
-    }
-}
-
-/// Why a line gives nothing.
-#[derive(Clone, Copy, Debug, PartialEq, Eq)]
-pub enum Unread {
-    /// It can't stand there.
-    Outside,
-    /// No memory was left.
-    Memory,
-}
-
-impl From<AllocError> for Unread {
-    ghost use Rattle.saved_session.specs.declared.fault.Unread.TheVariants.{Memory};
-
-    ghost from_gives = { λ _ e. e ≡ Memory };
-
-    fn from(_: AllocError) -> Unread {
-        Unread::Memory
-    }
-}
-
-impl From<LineAnswer> for Unread {
-    ghost from_gives = { λ answer e. e ≡ unread_line answer };
-
-    fn from(answer: LineAnswer) -> Unread {
-        match answer {
-            LineAnswer::Bad(_) => Unread::Outside,
-            LineAnswer::Memory => Unread::Memory,
-        }
     }
 }

@@ -2,12 +2,12 @@
 
 ghost use Rattle.std.specs.Prelude.{◌≡◌, ◌≤◌, ◌^◌, IfSome};
 ghost use Rattle.std.specs.Option.{option_map};
-ghost use Rattle.saved_session.specs.Answers.{Gives};
+ghost use Rattle.opl_file.specs.Unread.{Gives};
 ghost use Rattle.saved_session.specs.Words.{base_text, mine_text, why_text, words_text, known_text, incomplete_text, head_text, head_named, head_of, header_text, header_of, first_word, behind_word, is_header};
 
-use crate::fault::Unread;
 use crate::words::{BaseWord, Head, MineWord, Words};
 use crate::writing::{write_head, write_header};
+use opl_file::Unread;
 use opl_line::cut;
 use osm_base::{read_digits, read_key};
 use osm_table::Why;

@@ -1,6 +1,6 @@
 //! The lines of a saved session, read one after the other.
 
-ghost use Rattle.std.specs.Prelude.{◌≡◌, ◌∷◌, ◌++◌, ◌+◌, ◌<◌, ◌^◌, Some, None, Ok, length, MatchResult, OnOk};
+ghost use Rattle.std.specs.Prelude.{◌≡◌, ◌++◌, ◌+◌, ◌<◌, ◌^◌, Some, None, Ok, length, MatchResult, OnOk};
 ghost use Rattle.std.specs.Option.{option_to_list};
 ghost use Rattle.opl_file.specs.Cut.{lines_of};
 ghost use Rattle.saved_session.specs.declared.place.Place.TheVariants.{Head};
@@ -8,11 +8,11 @@ ghost use Rattle.saved_session.specs.Reading.{has_ended, entries_from, session_f
 ghost use Rattle.saved_session.specs.Words.{header_of};
 ghost use Rattle.saved_session.specs.Drafting.{Refuses};
 
-use crate::fault::{SavedFault, Unread};
+use crate::fault::SavedFault;
 use crate::heads::{is_header, read_header};
 use crate::place::{Place, SavedEntry, Step};
 use crate::steps::{Desk, step};
-use opl_file::first_line;
+use opl_file::{Unread, next_line};
 use opl_line::freed;
 use std::alloc::{AllocError, Global};
 
@@ -21,19 +21,6 @@ use std::alloc::{AllocError, Global};
 pub struct SavedTable {
     pub next: u64,
     pub entries: Vec<SavedEntry>,
-}
-
-/// The first line, and the bytes behind its LF.
-fn next_line(bytes: &[u8]) -> (&[u8], &[u8])
-    requires { 0 < length bytes.now }
-    ensures lines { lines_of bytes.now ≡ result.0.now ∷ lines_of result.1.now }
-    ensures shorter { length result.1.now < length bytes.now }
-{
-    let (line, after) = first_line(bytes);
-    match after {
-        None => (line, &[]),
-        Some(rest) => (line, rest),
-    }
 }
 
 /// Adds what a line made.

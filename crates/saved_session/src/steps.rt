@@ -4,14 +4,14 @@ ghost use Rattle.std.specs.Prelude.{◌≡◌, IfOk, codes};
 ghost use Rattle.std.specs.Str.{bytes_eq};
 ghost use Rattle.osm_base.specs.Meta.{empty_meta};
 ghost use Rattle.osm_table.specs.Table.{held_by};
-ghost use Rattle.saved_session.specs.Answers.{Gives};
+ghost use Rattle.opl_file.specs.Unread.{Gives};
 ghost use Rattle.saved_session.specs.Reading.{object_written, object_text, object_behind, server_base, base_as, base_at, mine_at, theirs_at, may_stand, is_behind, awaiting, ending, with_mine, with_base, with_words, with_head, step};
 
-use crate::fault::Unread;
 use crate::heads::{cut_word, read_head};
 use crate::place::{Place, Step};
 use crate::words::{BaseWord, Head, MineWord, Words};
 use crate::writing::{mine_version, same_mine};
+use opl_file::Unread;
 use opl_line::{LineKind, Mode, OplObject, Pool, read_line, write_line};
 use osm_base::{Content, Key, Meta, rank, same_key};
 use osm_table::{Base, Conflict, Entry, Shared, SharedEntry, Why};

@@ -4,5 +4,5 @@ use Rattle.edit_steps.proofs.files.fetch.Goals as goal
 
 pub returns-clause-found : goal.returns-clause-found
 returns-clause-found g c =
-    begun_read (g.S.Shelf.told c.args.shelf.now) c.args.name.now (g.S.Shelf.rest c.begin.new.self) c.in_ok-begin.field-0 c.read_rest.result (reading c.args.limit) c.if-not-branch.false
-    c.in_ok-begin.ensures.found c.read_rest.ensures.found c.read_rest.ensures.read
+    begun_read (g.S.Shelf.told c.args.shelf.now) c.args.name.now (g.S.Shelf.rest c.begin.new.self) c.in-Ok.found c.read_rest.result (reading c.args.limit) c.if-not-found.false
+    c.in-Ok.ensures.found c.read_rest.ensures.found c.read_rest.ensures.read

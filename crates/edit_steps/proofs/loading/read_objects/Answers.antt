@@ -2,8 +2,8 @@ use Rattle.std.proofs.Common.{◌∙◌, arith, rules, take}
 use Rattle.edit_steps.proofs.Fed.{feeds-start, feeds-more, feeds-over, fed_first, fed_more, finished_read, finished_bytes, over_bytes}
 use Rattle.edit_steps.proofs.loading.read_objects.Goals as goal
 
-pub loop-reader-init : goal.loop-reader-init
-loop-reader-init g c = record {
+pub loop-count-init : goal.loop-count-init
+loop-count-init g c = record {
   told = search rules;
   begun = c.requires.begun;
   quiet = search rules;
@@ -11,30 +11,30 @@ loop-reader-init g c = record {
   so_far = feeds-start c.args.mode c.args.limit c.new-reader.result (g.S.Shelf.rest c.args.shelf.now) c.new-reader.ensures.reads;
 }
 
-pub loop-reader-preserved : goal.loop-reader-preserved
-loop-reader-preserved g c =
-    let next = c.in_ok-count.ensures in
-    let before = c.loop-reader.invariant in
+pub loop-count-preserved : goal.loop-count-preserved
+loop-count-preserved g c =
+    let next = c.in-Ok.ensures in
+    let before = c.loop-count.invariant in
     record {
       told = next.told ∙ before.told;
       begun = next.begun;
       quiet = next.cause.quiet ∙ before.quiet;
-      fed = fed_more c.args.mode c.args.limit c.loop-reader.left c.in_ok-count.count c.loop-reader.reader c.feed.new.self before.fed (take c.in_ok-count.count c.next.new.into) c.in_ok-feed.ensures.reads next.count.1 (omega arith);
-      so_far = feeds-more c.args.mode c.args.limit c.loop-reader.left c.in_ok-count.count c.loop-reader.reader c.feed.new.self _ _ _ (take c.in_ok-count.count c.next.new.into)
+      fed = fed_more c.args.mode c.args.limit c.loop-count.left c.in-Ok.count c.loop-count.reader c.feed.new.self before.fed (take c.in-Ok.count c.next.new.into) c.in_ok-feed.ensures.reads next.count.1 (omega arith);
+      so_far = feeds-more c.args.mode c.args.limit c.loop-count.left c.in-Ok.count c.loop-count.reader c.feed.new.self _ _ _ (take c.in-Ok.count c.next.new.into)
           before.so_far next.bytes.0 c.in_ok-feed.ensures.reads next.count.1 (omega arith);
     }
 
 pub returns-then-left-count-clause-objects : goal.returns-then-left-count-clause-objects
 returns-then-left-count-clause-objects g c =
-    let next = c.in_ok-count.ensures in
-    feeds-over c.args.mode c.args.limit c.loop-reader.left c.in_ok-count.count c.loop-reader.reader _ _ _ (take c.in_ok-count.count c.next.new.into) c.loop-reader.invariant.so_far next.bytes.0 next.count.1 (omega arith)
+    let next = c.in-Ok.ensures in
+    feeds-over c.args.mode c.args.limit c.loop-count.left c.in-Ok.count c.loop-count.reader _ _ _ (take c.in-Ok.count c.next.new.into) c.loop-count.invariant.so_far next.bytes.0 next.count.1 (omega arith)
 
 pub returns-then-count-eq0-clause-read : goal.returns-then-count-eq0-clause-read
-returns-then-count-eq0-clause-read g c = finished_read c.args.mode c.args.limit c.loop-reader.left c.loop-reader.reader c.finished.result c.loop-reader.invariant.fed c.finished.ensures.objects
+returns-then-count-eq0-clause-read g c = finished_read c.args.mode c.args.limit c.loop-count.left c.loop-count.reader c.finished.result c.loop-count.invariant.fed c.finished.ensures.objects
 
 pub returns-then-count-eq0-clause-bytes : goal.returns-then-count-eq0-clause-bytes
-returns-then-count-eq0-clause-bytes g c = finished_bytes c.args.mode c.args.limit c.loop-reader.left c.loop-reader.reader c.finished.result c.loop-reader.invariant.fed c.finished.ensures.objects
+returns-then-count-eq0-clause-bytes g c = finished_bytes c.args.mode c.args.limit c.loop-count.left c.loop-count.reader c.finished.result c.loop-count.invariant.fed c.finished.ensures.objects
 
 pub returns-then-left-count-clause-bytes : goal.returns-then-left-count-clause-bytes
 returns-then-left-count-clause-bytes g c =
-    over_bytes c.args.mode c.args.limit c.loop-reader.left c.in_ok-count.count c.loop-reader.reader (take c.in_ok-count.count c.next.new.into) c.loop-reader.invariant.fed c.in_ok-count.ensures.count.1 (omega arith)
+    over_bytes c.args.mode c.args.limit c.loop-count.left c.in-Ok.count c.loop-count.reader (take c.in-Ok.count c.next.new.into) c.loop-count.invariant.fed c.in-Ok.ensures.count.1 (omega arith)

@@ -2,8 +2,8 @@ use Rattle.std.proofs.Common.{◌≡◌, true}
 use Rattle.edit_steps.proofs.Fed.{Feeds, WasFed}
 use Rattle.edit_steps.proofs.loading.read_objects.Given as goal
 
-abbrev pub invariant-loop-reader : goal.invariant-loop-reader
-invariant-loop-reader g l = record {
+abbrev pub invariant-loop-count : goal.invariant-loop-count
+invariant-loop-count g l = record {
   told : g.S.Shelf.told l.shelf ≡ g.S.Shelf.told l.fn.shelf;
   begun : g.S.Shelf.begun l.shelf ≡ true;
   quiet : g.S.Shelf.faults l.shelf ≡ g.S.Shelf.faults l.fn.shelf;
@@ -11,5 +11,5 @@ invariant-loop-reader g l = record {
   so_far : Feeds l.fn.mode l.limit l.left l.reader (g.S.Shelf.rest l.fn.shelf) (g.S.Shelf.rest l.shelf);
 }
 
-abbrev pub decreases-loop-reader : goal.decreases-loop-reader
-decreases-loop-reader g l = l.left
+abbrev pub decreases-loop-count : goal.decreases-loop-count
+decreases-loop-count g l = l.left

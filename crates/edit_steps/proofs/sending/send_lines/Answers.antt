@@ -16,15 +16,14 @@ returns-in_err-write_lines-clause-err g c =
     let p = err_from_is_err_and c.from_residual-in_err-write_lines.result c.from_residual-in_err-write_lines.ensures.1 in
     rw p.1 (along-stop (g.K.Sink.taken c.args.out.now) (g.K.Sink.taken c.loop-key.out) (c.loop-key.piece.items ++ flat_map (lines_of c.args.lines c.args.ds.now) (drop c.loop-key.key-index c.args.keys.now)) (flat_map (lines_of c.args.lines c.args.ds.now) c.args.keys.now) c.loop-key.invariant.text)
 
-pub returns-in_err-pass_full-clause-err : goal.returns-in_err-pass_full-clause-err
-returns-in_err-pass_full-clause-err g c =
-    let p = err_from_is_err_and c.from_residual-in_err-pass_full.result c.from_residual-in_err-pass_full.ensures.1 in
-    rw p.1 (piece_front _ _ _ _ _ _ _ _ (item_next (lines_of c.args.lines c.args.ds.now) c.args.keys.now c.loop-key.key-index (get_or c.args.keys.now c.loop-key.key-index none) none (omega arith) refl)
-    c.loop-key.invariant.text c.in_ok-write_lines.ensures.written _ c.in_err-pass_full.ensures.err)
+pub returns-in-Err-clause-err : goal.returns-in-Err-clause-err
+returns-in-Err-clause-err g c =
+    piece_front _ _ _ _ _ _ _ _ (item_next (lines_of c.args.lines c.args.ds.now) c.args.keys.now c.loop-key.key-index (get_or c.args.keys.now c.loop-key.key-index none) none (omega arith) refl)
+    c.loop-key.invariant.text c.in_ok-write_lines.ensures.written _ c.in-Err.ensures.err
 
 pub loop-key-preserved : goal.loop-key-preserved
 loop-key-preserved g c =
-    let passed = c.in_ok-pass_full.ensures in
+    let passed = c.in-Ok.ensures in
     record {
       quiet = passed.cause.quiet ∙ c.loop-key.invariant.quiet;
       text = piece_more _ _ _ _ _ _ _ _ (item_next (lines_of c.args.lines c.args.ds.now) c.args.keys.now c.loop-key.key-index (get_or c.args.keys.now c.loop-key.key-index none) none (omega arith) refl)
@@ -34,7 +33,7 @@ loop-key-preserved g c =
 pub returns-in_err-put-clause-err : goal.returns-in_err-put-clause-err
 returns-in_err-put-clause-err g c =
     let p = err_from_is_err_and c.from_residual-in_err-put.result c.from_residual-in_err-put.ensures.1 in
-    rw p.1 (along-front (g.K.Sink.taken c.args.out.now) (g.K.Sink.taken c.loop-key.out) (g.K.Sink.taken c.put.new.self) c.loop-key.piece.items (flat_map (lines_of c.args.lines c.args.ds.now) (drop c.loop-key.key-index c.args.keys.now)) (flat_map (lines_of c.args.lines c.args.ds.now) c.args.keys.now) c.loop-key.invariant.text (rw c.deref.ensures.value at c.in_err-put.ensures.err))
+    rw p.1 (along-front (g.K.Sink.taken c.args.out.now) (g.K.Sink.taken c.loop-key.out) (g.K.Sink.taken c.put.new.out) c.loop-key.piece.items (flat_map (lines_of c.args.lines c.args.ds.now) (drop c.loop-key.key-index c.args.keys.now)) (flat_map (lines_of c.args.lines c.args.ds.now) c.args.keys.now) c.loop-key.invariant.text (rw c.deref.ensures.value at c.in_err-put.ensures.err))
 
 pub returns-clause-ok : goal.returns-clause-ok
 returns-clause-ok g c =

@@ -1,4 +1,4 @@
-use Rattle.edit_script.proofs.line.next_line.Goals as goal
+use Rattle.opl_file.proofs.line.next_line.Goals as goal
 use Rattle.opl_file.proofs.Cutting.{lines_of-line, lines_of-last}
 
 pub returns-in-None-clause-lines : goal.returns-in-None-clause-lines
