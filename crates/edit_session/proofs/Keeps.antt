@@ -3,6 +3,7 @@ use Rattle.std.proofs.Common.{◌≡◌, ℕ, Bool, true, false, cond, List, [],
 use Rattle.std.proofs.lemmas.Bool.{true≢false}
 use Rattle.std.proofs.lemmas.List.Elements.{All-nil, All-take, All-weaker}
 use Rattle.osm_base.specs.declared.key.Key.{Key}
+use Rattle.osm_table.specs.declared.told.Told.{Told}
 use Rattle.osm_table.specs.Table.{entry_of}
 use Rattle.dataset.specs.Patch.{PatchValue}
 use Rattle.dataset.specs.Sound.{IsSound}
@@ -33,7 +34,7 @@ use Rattle.edit_steps.specs.Groups.{is_given_up}
 use Rattle.edit_steps.specs.Load.{act_found}
 use Rattle.edit_session.specs.Meet.{own_machine}
 use Rattle.edit_steps.specs.States.{AreSound}
-use Rattle.edit_session.specs.Said.{act_says, alone, answers_if, answers_taken, confirm_says, file_answers, file_says, is_running, AreKept, IsKept}
+use Rattle.edit_session.specs.Said.{act_says, act_tells, alone, answers_if, answers_taken, confirm_says, file_answers, file_says, file_tells, is_running, AreKept, IsKept}
 use Rattle.edit_session.specs.Session.{met, run}
 use Rattle.edit_steps.specs.States.{states_before}
 use Rattle.edit_steps.specs.Settled.{confirmed, of_answers}
@@ -50,67 +51,67 @@ by_file file (Err fault) patch h = absurd cc
 
 module _ (s : State) where
   -- Where the table stays all is kept.
-  pub still_kept : (is_said : Key → Bool) → KeepsAllBut None is_said s.now s.now
-  still_kept is_said k e is edits free = same_kept e (entry_of s.now k) is
+  pub still_kept : (is_said : Key → Bool) (told : Key → Option Told) → KeepsAllBut None is_said told s.now s.now
+  still_kept is_said told k e is edits free = same_kept (told k) e (entry_of s.now k) edits is
 
   -- and where a group is given up all of which that isn't said
-  pub refused_kept : (g : Group) → KeepsAllBut None (λ k. is_running g) s.now (refused_in g s).now
-  refused_kept Outside k e is edits free = same_kept e (entry_of s.now k) is
-  refused_kept Running k e is edits free = absurd (true≢false free)
-  refused_kept Refused k e is edits free = same_kept e (entry_of s.now k) is
+  pub refused_kept : (g : Group) (told : Key → Option Told) → KeepsAllBut None (λ k. is_running g) told s.now (refused_in g s).now
+  refused_kept Outside told k e is edits free = same_kept (told k) e (entry_of s.now k) edits is
+  refused_kept Running told k e is edits free = absurd (true≢false free)
+  refused_kept Refused told k e is edits free = same_kept (told k) e (entry_of s.now k) edits is
 
-  pub skipped_kept : (a : Act) (is_said : Key → Bool) → KeepsAllBut None is_said s.now (skipped_turn a s).state.now
-  skipped_kept (act.History history.End) is_said = still_kept is_said
-  skipped_kept a is_said = still_kept is_said
+  pub skipped_kept : (a : Act) (is_said : Key → Bool) (told : Key → Option Told) → KeepsAllBut None is_said told s.now (skipped_turn a s).state.now
+  skipped_kept (act.History history.End) is_said told = still_kept is_said told
+  skipped_kept a is_said told = still_kept is_said told
 
   module _ (sound : IsSound s.now) where
-    file_kept : (limit : ℕ) (f : Found) → KeepsAllBut None (file_says limit f s) s.now (file_turn limit f s).state.now
+    file_kept : (limit : ℕ) (f : Found) → KeepsAllBut None (file_says limit f s) (file_tells f) s.now (file_turn limit f s).state.now
     file_kept limit (found.Job job) k e is edits free = job_step_keeps limit job s sound k e is edits free
-    file_kept limit found.Nothing k e is edits free = refused_kept s.group k e is edits free
-    file_kept limit (found.Bad fault) k e is edits free = refused_kept s.group k e is edits free
-    file_kept limit (found.Bytes bytes) k e is edits free = refused_kept s.group k e is edits free
-    file_kept limit (found.Objects objects) k e is edits free = refused_kept s.group k e is edits free
+    file_kept limit found.Nothing k e is edits free = refused_kept s.group (file_tells found.Nothing) k e is edits free
+    file_kept limit (found.Bad fault) k e is edits free = refused_kept s.group (file_tells (found.Bad fault)) k e is edits free
+    file_kept limit (found.Bytes bytes) k e is edits free = refused_kept s.group (file_tells (found.Bytes bytes)) k e is edits free
+    file_kept limit (found.Objects objects) k e is edits free = refused_kept s.group (file_tells (found.Objects objects)) k e is edits free
 
-    confirmed_kept : (bytes : List ℕ) (is_said : Key → Bool) (r : Result PatchValue StepRefusal) → confirmed s.now bytes ≡ r → KeepsAllBut (answers_if r (answers_of bytes).answers) is_said s.now (settled_turn r s).state.now
-    confirmed_kept bytes is_said (Ok patch) is =
+    confirmed_kept : (bytes : List ℕ) (is_said : Key → Bool) (told : Key → Option Told) (r : Result PatchValue StepRefusal) → confirmed s.now bytes ≡ r → KeepsAllBut (answers_if r (answers_of bytes).answers) is_said told s.now (settled_turn r s).state.now
+    confirmed_kept bytes is_said told (Ok patch) is =
         confirm_keeps s.now (answers_of bytes).answers patch sound (by_file (answers_of bytes) (confirm s.now (answers_of bytes).answers) patch is)
-    confirmed_kept bytes is_said (Err why) is = still_kept is_said
+    confirmed_kept bytes is_said told (Err why) is = still_kept is_said told
 
-    confirm_kept : (f : Found) → KeepsAllBut (file_answers f s) (confirm_says f s) s.now (confirm_turn f s).state.now
-    confirm_kept (found.Bytes bytes) = confirmed_kept bytes (confirm_says (found.Bytes bytes) s) (confirmed s.now bytes) refl
-    confirm_kept (found.Job job) = refused_kept s.group
-    confirm_kept found.Nothing = refused_kept s.group
-    confirm_kept (found.Bad fault) = refused_kept s.group
-    confirm_kept (found.Objects objects) = refused_kept s.group
+    confirm_kept : (f : Found) (told : Key → Option Told) → KeepsAllBut (file_answers f s) (confirm_says f s) told s.now (confirm_turn f s).state.now
+    confirm_kept (found.Bytes bytes) told = confirmed_kept bytes (confirm_says (found.Bytes bytes) s) told (confirmed s.now bytes) refl
+    confirm_kept (found.Job job) told = refused_kept s.group told
+    confirm_kept found.Nothing told = refused_kept s.group told
+    confirm_kept (found.Bad fault) told = refused_kept s.group told
+    confirm_kept (found.Objects objects) told = refused_kept s.group told
 
-    pub act_kept : (limits : Limits) (f : Found) (a : Act) → KeepsAllBut (answers_taken a f s) (act_says limits f a s) s.now (act_turn limits f a s).state.now
+    pub act_kept : (limits : Limits) (f : Found) (a : Act) → KeepsAllBut (answers_taken a f s) (act_says limits f a s) (act_tells f a) s.now (act_turn limits f a s).state.now
     act_kept limits f (act.Job job) = λ k e is edits free. job_step_keeps limits.objects job s sound k e is edits free
     act_kept limits f (act.Generate streets) = λ k e is edits free. job_step_keeps limits.objects (Merge (city streets)) s sound k e is edits free
-    act_kept limits f (act.History history.Begin) = λ k e is edits free. same_kept e (entry_of s.now k) is
-    act_kept limits f (act.History history.End) = λ k e is edits free. same_kept e (entry_of s.now k) is
+    act_kept limits f (act.History history.Begin) = λ k e is edits free. same_kept None e (entry_of s.now k) edits is
+    act_kept limits f (act.History history.End) = λ k e is edits free. same_kept None e (entry_of s.now k) edits is
     act_kept limits f (act.History (history.Undo n)) = λ k e is edits free. absurd (true≢false free)
     act_kept limits f (act.History (history.Redo n)) = λ k e is edits free. absurd (true≢false free)
     act_kept limits f (act.File name (purpose.Download area wanted)) = file_kept limits.objects f
     act_kept limits f (act.File name purpose.Import) = file_kept limits.objects f
-    act_kept limits f (act.File name purpose.Confirm) = confirm_kept f
+    act_kept limits f (act.File name purpose.Confirm) = confirm_kept f (λ k. None)
     act_kept limits f (act.File name purpose.Resume) = λ k e is edits free. absurd (true≢false free)
-    act_kept limits f a = λ k e is edits free. same_kept e (entry_of s.now k) is
+    act_kept limits f a = λ k e is edits free. same_kept None e (entry_of s.now k) edits is
 
     -- One that takes no answers, in any group.
-    pub turn_kept : (limits : Limits) (f : Found) (a : Act) → answers_taken a f s ≡ None → KeepsAllBut None (act_says limits f a s) s.now (turn limits f a s).state.now
+    pub turn_kept : (limits : Limits) (f : Found) (a : Act) → answers_taken a f s ≡ None → KeepsAllBut None (act_says limits f a s) (act_tells f a) s.now (turn limits f a s).state.now
     turn_kept limits f a none = by_group (is_given_up s.group)
       where
-        by_group : (b : Bool) → KeepsAllBut None (act_says limits f a s) s.now (cond b (skipped_turn a s) (act_turn limits f a s)).state.now
-        by_group true = skipped_kept a (act_says limits f a s)
-        by_group false = subst (λ answers. KeepsAllBut answers (act_says limits f a s) s.now (act_turn limits f a s).state.now) none (act_kept limits f a)
+        by_group : (b : Bool) → KeepsAllBut None (act_says limits f a s) (act_tells f a) s.now (cond b (skipped_turn a s) (act_turn limits f a s)).state.now
+        by_group true = skipped_kept a (act_says limits f a s) (act_tells f a)
+        by_group false = subst (λ answers. KeepsAllBut answers (act_says limits f a s) (act_tells f a) s.now (act_turn limits f a s).state.now) none (act_kept limits f a)
 
     -- one that is skipped takes none
-    nothing_kept : (limits : Limits) (a : Act) → KeepsAllBut (answers_taken a found.Nothing s) (act_says limits found.Nothing a s) s.now (skipped_turn a s).state.now
-    nothing_kept limits (act.File name purpose.Confirm) = skipped_kept (act.File name purpose.Confirm) (act_says limits found.Nothing (act.File name purpose.Confirm) s)
-    nothing_kept limits a = skipped_kept a (act_says limits found.Nothing a s)
+    nothing_kept : (limits : Limits) (a : Act) → KeepsAllBut (answers_taken a found.Nothing s) (act_says limits found.Nothing a s) (act_tells found.Nothing a) s.now (skipped_turn a s).state.now
+    nothing_kept limits (act.File name purpose.Confirm) = skipped_kept (act.File name purpose.Confirm) (act_says limits found.Nothing (act.File name purpose.Confirm) s) (λ k. None)
+    nothing_kept limits a = skipped_kept a (act_says limits found.Nothing a s) (act_tells found.Nothing a)
 
     pub given_kept : (limits : Limits) (given : Given) (a : Act) (b : Bool)
-        → KeepsAllBut (answers_taken a (cond b found.Nothing (act_found limits given a)) s) (act_says limits (cond b found.Nothing (act_found limits given a)) a s) s.now
+        → KeepsAllBut (answers_taken a (cond b found.Nothing (act_found limits given a)) s) (act_says limits (cond b found.Nothing (act_found limits given a)) a s) (act_tells (cond b found.Nothing (act_found limits given a)) a) s.now
         (cond b (skipped_turn a s) (act_turn limits (cond b found.Nothing (act_found limits given a)) a s)).state.now
     given_kept limits given a true = nothing_kept limits a
     given_kept limits given a false = act_kept limits (act_found limits given a) a

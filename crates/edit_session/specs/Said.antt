@@ -7,6 +7,7 @@ use Rattle.std.specs.List.{All}
 use Rattle.osm_base.specs.declared.key.Key.{Key}
 use Rattle.dataset.specs.Patch.{PatchValue}
 use Rattle.sample_city.specs.City.{city}
+use Rattle.osm_table.specs.declared.told.Told.{Told}
 use Rattle.tool_api.specs.declared.job.Job.TheVariants.{Merge}
 use Rattle.placeholder.specs.declared.answer.Answer.{Answer}
 use Rattle.answer_file.specs.Answers.{answers_of}
@@ -21,7 +22,7 @@ use Rattle.edit_history.specs.declared.counts.Group.{Group}
 use Rattle.edit_history.specs.declared.counts.Group.TheVariants.{Running}
 use Rattle.edit_history.specs.Machine.{State, first_state}
 use Rattle.editor_laws.specs.Answered.{KeepsAllBut}
-use Rattle.editor_laws.specs.Steps.{job_says}
+use Rattle.editor_laws.specs.Steps.{job_says, tells}
 use Rattle.edit_steps.specs.declared.limits.Limits.{Limits}
 use Rattle.edit_steps.specs.declared.loading.Found.{Found}
 use Rattle.edit_steps.specs.declared.loading.Found.TheVariants as found
@@ -58,6 +59,18 @@ act_says limits found (File name Confirm) s k = confirm_says found s k
 act_says limits found (File name Resume) s k = true
 act_says limits found other s k = false
 
+-- What a step tells of an object of the server, where it merges a download.
+abbrev pub file_tells : Found → Key → Option Told
+file_tells (found.Job job) k = tells job k
+file_tells other k = None
+
+abbrev pub act_tells : Found → Act → Key → Option Told
+act_tells found (Job job) k = tells job k
+act_tells found (Generate streets) k = tells (Merge (city streets)) k
+act_tells found (File name (Download area wanted)) k = file_tells found k
+act_tells found (File name Import) k = file_tells found k
+act_tells found other k = None
+
 -- the answers of a file, where they are taken
 abbrev pub answers_if : Result PatchValue StepRefusal → List Answer → Option (List Answer)
 answers_if (Ok patch) answers = Some answers
@@ -76,7 +89,7 @@ answers_taken other found s = None
 abbrev pub IsKept : Limits → Given → Step → State → Type 0
 IsKept limits given step s =
     let found = found_in limits given s.group step.act in
-    KeepsAllBut (answers_taken step.act found s) (act_says limits found step.act s) s.now (step_turn limits given step s).state.now
+    KeepsAllBut (answers_taken step.act found s) (act_says limits found step.act s) (act_tells found step.act) s.now (step_turn limits given step s).state.now
 
 -- So does each step of a run.
 abbrev pub AreKept : Limits → List (Step × Given × State) → Type 0

@@ -7,6 +7,7 @@ use Rattle.std.specs.List.{All}
 use Rattle.osm_base.specs.Tags.{Pair}
 use Rattle.osm_base.specs.declared.area.Area.{Area}
 use Rattle.osm_base.specs.declared.key.Key.{Key}
+use Rattle.osm_table.specs.declared.told.Told.{Told}
 use Rattle.osm_table.specs.Table.{TableValue}
 use Rattle.tool_api.specs.declared.job.Job.TheVariants.{Merge}
 use Rattle.placeholder.specs.declared.answer.Answer.{Answer}
@@ -17,14 +18,14 @@ use Rattle.edit_script.specs.declared.step.MeetStep.TheVariants as meet
 use Rattle.edit_script.specs.declared.step.Step.{Step}
 use Rattle.edit_history.specs.Machine.{State}
 use Rattle.editor_laws.specs.Answered.{KeepsAllBut}
-use Rattle.editor_laws.specs.Steps.{job_says}
+use Rattle.editor_laws.specs.Steps.{job_says, tells}
 use Rattle.many_editors.specs.Meeting.{Meeting, first_editor, states}
 use Rattle.many_editors.specs.Serving.{told_of_state}
 use Rattle.edit_steps.specs.declared.limits.Limits.{Limits}
 use Rattle.edit_steps.specs.declared.loading.Found.{Found}
 use Rattle.edit_steps.specs.Given.{Given}
 use Rattle.edit_session.specs.Meet.{Seat, found_by, meet_step, own}
-use Rattle.edit_session.specs.Said.{act_says, is_running}
+use Rattle.edit_session.specs.Said.{act_says, act_tells, is_running}
 
 -- the table of the editor with this number
 abbrev pub table_at : ℕ → Meeting → TableValue
@@ -45,6 +46,19 @@ work_says limits found act seat k = act_says limits found act (own seat).state k
 abbrev pub seat_says : Limits → Found → Act → Seat → Key → Bool
 seat_says limits found act seat k = if is_some (own seat).waits then false else work_says limits found act seat k
 
+-- what a fetch of a state of the server tells of an object, and what a step does
+abbrev pub fetch_tells : Option Area → Option (List Pair) → Option Objects → Key → Option Told
+fetch_tells area wanted (Some objects) k = tells (Merge (told_of_state objects area wanted)) k
+fetch_tells area wanted None k = None
+
+abbrev pub work_tells : Found → Act → Seat → Key → Option Told
+work_tells found (Meet (meet.Fetch back area wanted)) seat k = fetch_tells area wanted (slice_get (states seat.meeting) back) k
+work_tells found act seat k = act_tells found act k
+
+-- one of an editor that waits tells nothing
+abbrev pub seat_tells : Found → Act → Seat → Key → Option Told
+seat_tells found act seat k = if is_some (own seat).waits then None else work_tells found act seat k
+
 -- the answers for which the editor waits, where they come
 abbrev pub answers_come : Act → Seat → Option (List Answer)
 answers_come (Meet meet.Answer) seat = (own seat).waits
@@ -53,7 +67,7 @@ answers_come act seat = None
 -- Each edited object of the editor's table of which the step doesn't say so is kept, under the id that it got where answers come.
 -- Every other editor stays as it is.
 pub record IsKeptMet (limits : Limits) (given : Given) (step : Step) (seat : Seat) : Type 0 where
-  pub own : KeepsAllBut (answers_come step.act seat) (seat_says limits (found_by limits given (own seat) step.act) step.act seat) (table_at seat.editor seat.meeting) (table_at seat.editor (meet_step limits given step seat).seat.meeting)
+  pub own : KeepsAllBut (answers_come step.act seat) (seat_says limits (found_by limits given (own seat) step.act) step.act seat) (seat_tells (found_by limits given (own seat) step.act) step.act seat) (table_at seat.editor seat.meeting) (table_at seat.editor (meet_step limits given step seat).seat.meeting)
   pub others : (n : ℕ) → n ≢ seat.editor → slice_get (meet_step limits given step seat).seat.meeting.editors n ≡ slice_get seat.meeting.editors n
 
 -- So does each step of a meeting.

@@ -23,6 +23,7 @@ use Rattle.upload_order.specs.declared.refusal.PlanRefusal.{PlanRefusal}
 use Rattle.upload_order.specs.Plan.{plan}
 use Rattle.upload_order.specs.Refused.{upload_refusal, unless}
 use Rattle.upload_order.specs.Rename.{Names, called, named, with_id, is_positive}
+use Rattle.upload_order.specs.World.{is_known}
 use Rattle.upload_order.proofs.Renaming.{renamed_itself}
 use Rattle.placeholder.specs.declared.answer.Answer.{Answer}
 use Rattle.placeholder.specs.declared.answer.Answer.TheVariants as answer
@@ -36,7 +37,7 @@ use Rattle.placeholder.proofs.Names.{called_more, called_none, renamed_once}
 use Rattle.placeholder.proofs.Steadily.{IsSteady, answer_step, given_to, known_in, negative_key, new_moved, start_steady, within_moved}
 use Rattle.editor_laws.specs.Answered.{KeepsAllCalled, names_told}
 use Rattle.editor_laws.specs.Kept.{wish, IsWished}
-use Rattle.editor_laws.proofs.KeptConfirming.{made_keeps, set_wishes}
+use Rattle.editor_laws.proofs.KeptConfirming.{edited_known, made_keeps, set_wishes}
 
 given_is : (id : ℤ) → is_given id ≡ true → IsPositive id
 given_is (pos n) h = let x = and_parts (nat_lt 0 n) (nat_le n 1000000000000000000) h in (ltb-true 0 n x.0, leb-true n 1000000000000000000 x.1)
@@ -75,9 +76,9 @@ abbrev IsCarried : Names → Key → Option Content → TableValue → Type 0
 IsCarried ns k wanted u = IsWished (option_map (renamed (called ns)) wanted) (entry_of u (called ns k))
 
 -- of what is there, where anything is wanted of it
-of_wished : (o : Option Entry) (w : Option Content) (P : Type 0) → IsWished w o → ((e : Entry) → o ≡ Some e → wish (Some e) ≡ w → P) → P
-of_wished None w P h with_entry = absurd (true≢false (sym h.0))
-of_wished (Some e) w P h with_entry = with_entry e refl h.1
+of_wished : (o : Option Entry) (w : Option Content) (P : Type 0) → IsWished w o → ((e : Entry) → o ≡ Some e → is_known e ≡ true → wish (Some e) ≡ w → P) → P
+of_wished None w P h with_entry = absurd h
+of_wished (Some e) w P h with_entry = with_entry e refl h.0 h.1
 
 -- An object was made.
 module _ (u : TableValue) (ns : Names) (j : Key) (d : Content) (cs : List Change) (p : ℤ) (steady : IsSteady u (moved_change (called ns) (Create j d) ∷ cs)) (named_in : AreNamed ns u) (new : entry_of u (with_id j p) ≡ None) where
@@ -102,8 +103,8 @@ module _ (u : TableValue) (ns : Names) (j : Key) (d : Content) (cs : List Change
   made_carries k wanted h =
       let v : TableValue = confirmed u (Create j (renamed g d)) p in
       of_wished (entry_of u (g k)) (option_map (renamed g) wanted) (IsCarried ((j, p) ∷ ns) k wanted v) h
-      (λ e is same.
-      let kept : IsWished (option_map (renamed (moved j p)) (wish (Some e))) (entry_of v (moved j p (g k))) = made_keeps u j (renamed g d) p steady.sound steady.settled steady.steady.0 new (g k) e is in
+      (λ e is known same.
+      let kept : IsWished (option_map (renamed (moved j p)) (wish (Some e))) (entry_of v (moved j p (g k))) = made_keeps u j (renamed g d) p steady.sound steady.settled steady.steady.0 new (g k) e is known in
       let wished : IsWished (option_map (renamed (called ((j, p) ∷ ns))) wanted) (entry_of v (moved j p (g k))) =
       subst (λ (w : Option Content). IsWished w (entry_of v (moved j p (g k)))) (ap (option_map (renamed (moved j p))) same ∙ both_names wanted) kept in
       subst (λ (r : Key). IsWished (option_map (renamed (called ((j, p) ∷ ns))) wanted) (entry_of v r)) (called_so k) wished)
@@ -115,11 +116,11 @@ one_carries u ns (Create j d) cs p steady named_in new k wanted h = made_carries
 one_carries u ns (Modify j v c) cs p steady named_in new k wanted h =
     let after : TableValue = confirmed u (moved_change (called ns) (Modify j v c)) p in
     of_wished (entry_of u (called ns k)) (option_map (renamed (called ns)) wanted) (IsCarried ns k wanted after) h
-    (λ e is same. subst (λ (w : Option Content). IsWished w (entry_of after (called ns k))) same (set_wishes u j (Live (v + 1) (renamed (called ns) c) empty_meta) (called ns k) e is))
+    (λ e is known same. subst (λ (w : Option Content). IsWished w (entry_of after (called ns k))) same (set_wishes u j (Live (v + 1) (renamed (called ns) c) empty_meta) (called ns k) e is known))
 one_carries u ns (Delete j v) cs p steady named_in new k wanted h =
     let after : TableValue = confirmed u (moved_change (called ns) (Delete j v)) p in
     of_wished (entry_of u (called ns k)) (option_map (renamed (called ns)) wanted) (IsCarried ns k wanted after) h
-    (λ e is same. subst (λ (w : Option Content). IsWished w (entry_of after (called ns k))) same (set_wishes u j (Gone (v + 1) empty_meta) (called ns k) e is))
+    (λ e is known same. subst (λ (w : Option Content). IsWished w (entry_of after (called ns k))) same (set_wishes u j (Gone (v + 1) empty_meta) (called ns k) e is known))
 
 taken_if : (P : TableValue → Type 0) (b d : Bool) (x y : ConfirmFault) (v : TableValue) (next : TableValue → Result TableValue ConfirmFault) → (b ≡ true → d ≡ false → IfOk (next v) P)
     → IfOk (and_then (cond b (cond d (Err x) (Ok v)) (Err y)) next) P
@@ -151,14 +152,14 @@ uncalled : (o : Option Content) → option_map (renamed (called [])) o ≡ o
 uncalled None = refl
 uncalled (Some c) = ap (λ (d : Content). Some d) (renamed_itself (called []) c (λ r h. called_none [] r refl))
 
-starts : (t : TableValue) (k : Key) (e : Entry) → entry_of t k ≡ Some e → IsCarried [] k (wish (Some e)) t
-starts t k e is =
+starts : (t : TableValue) (k : Key) (e : Entry) → entry_of t k ≡ Some e → is_known e ≡ true → IsCarried [] k (wish (Some e)) t
+starts t k e is known =
     subst (λ (w : Option Content). IsWished w (entry_of t (called [] k))) (sym (uncalled (wish (Some e))))
     (subst (λ (r : Key). IsWished (wish (Some e)) (entry_of t r)) (sym (called_none [] k refl))
-    (subst (IsWished (wish (Some e))) (sym is) (refl, refl)))
+    (subst (IsWished (wish (Some e))) (sym is) (known, refl)))
 
 -- The table that answers confirm keeps what was edited.
-module _ (t : TableValue) (answers : List Answer) (patch : PatchValue) (sound : IsSound t) (is : confirm t answers ≡ Ok patch) (k : Key) (e : Entry) (there : entry_of t k ≡ Some e) where
+module _ (t : TableValue) (answers : List Answer) (patch : PatchValue) (sound : IsSound t) (is : confirm t answers ≡ Ok patch) (k : Key) (e : Entry) (there : entry_of t k ≡ Some e) (known : is_known e ≡ true) where
   abbrev Goal : TableValue → Type 0
   Goal u = IsCarried (names_told [] answers) k (wish (Some e)) u
 
@@ -171,9 +172,9 @@ module _ (t : TableValue) (answers : List Answer) (patch : PatchValue) (sound : 
   by_refusal : (o : Option PlanRefusal) → upload_refusal t ≡ o → Goal (after_of patch t)
   by_refusal None clear =
       by_patch (confirms t (plan t) answers) (sym (ap (λ r. on_upload t answers (unless r (plan t))) clear) ∙ is)
-      (answers_carry answers (plan t) 1 [] t (start_steady t sound clear) (none_named t) k (wish (Some e)) (starts t k e there))
+      (answers_carry answers (plan t) 1 [] t (start_steady t sound clear) (none_named t) k (wish (Some e)) (starts t k e there known))
   by_refusal (Some refusal) some =
       let never = sym (ap (λ r. on_upload t answers (unless r (plan t))) some) ∙ is in absurd cc
 
 pub confirm_keeps : (t : TableValue) (answers : List Answer) (patch : PatchValue) → IsSound t → confirm t answers ≡ Ok patch → KeepsAllCalled (names_told [] answers) t (after_of patch t)
-confirm_keeps t answers patch sound is k e there edits = by_refusal t answers patch sound is k e there (upload_refusal t) refl
+confirm_keeps t answers patch sound is k e there edits = by_refusal t answers patch sound is k e there (edited_known e edits) (upload_refusal t) refl

@@ -14,7 +14,8 @@ use Rattle.osm_base.specs.declared.key.Kind.TheVariants as kind
 use Rattle.osm_table.specs.declared.entry.Base.TheVariants.{Live}
 use Rattle.osm_table.specs.declared.entry.Why.TheVariants.{Changed, Held, Withdrawn}
 use Rattle.osm_table.specs.declared.entry.Entry.{Entry}
-use Rattle.osm_table.specs.declared.entry.Entry.TheVariants.{Known}
+use Rattle.osm_table.specs.declared.entry.Entry.TheVariants.{Incomplete, Known}
+use Rattle.osm_table.specs.declared.told.Told.TheVariants as told
 use Rattle.osm_table.specs.Table.{TableValue}
 use Rattle.tool_api.specs.declared.job.Job.TheVariants as job
 use Rattle.tool_api.specs.declared.refusal.Refusal.{Refusal}
@@ -42,11 +43,11 @@ abbrev moved : Entry
 moved = Known (Live 1 first_place empty_meta) (Some to_the_east) None
 
 -- Both sides made that move: the base is newer, and the content stays.
-both_moved : Keeps moved (Some (Known (Live 2 to_the_east empty_meta) (Some to_the_east) None))
+both_moved : Keeps None moved (Some (Known (Live 2 to_the_east empty_meta) (Some to_the_east) None))
 both_moved = inl (refl, refl)
 
 -- The server moved it to the north, and it is in conflict: the edit is kept.
-in_conflict : Keeps moved (Some (Known (Live 1 first_place empty_meta) (Some to_the_east) (Some (record { why = Changed; theirs = Live 2 to_the_north empty_meta }))))
+in_conflict : Keeps None moved (Some (Known (Live 1 first_place empty_meta) (Some to_the_east) (Some (record { why = Changed; theirs = Live 2 to_the_north empty_meta }))))
 in_conflict = inl (refl, refl)
 
 -- What the server has in the place of mine keeps nothing, and neither does an object that isn't there any more.
@@ -57,15 +58,27 @@ is_east (Some c) = same_content to_the_east c
 not_east : Some to_the_north ≡ Some to_the_east → ⊥
 not_east same = true≢false (sym (ap is_east same))
 
-taken_over : Keeps moved (Some (Known (Live 2 to_the_north empty_meta) (Some to_the_north) None)) → ⊥
+taken_over : Keeps None moved (Some (Known (Live 2 to_the_north empty_meta) (Some to_the_north) None)) → ⊥
 taken_over (inl kept) = not_east kept.1
 taken_over (inr (inl joined)) = let none : Some to_the_north ≡ None = joined.1 in cc
 taken_over (inr (inr same)) = not_east same
 
-thrown_away : Keeps moved None → ⊥
-thrown_away (inl kept) = true≢false (sym kept.0)
+thrown_away : Keeps None moved None → ⊥
+thrown_away (inl kept) = kept
 thrown_away (inr (inl joined)) = joined
 thrown_away (inr (inr there)) = there
+
+-- Deleted here. Where it is known by its name alone it is forgotten, unless it is told of as deleted.
+abbrev deleted : Entry
+deleted = Known (Live 1 first_place empty_meta) None None
+
+forgotten : Keeps None deleted (Some Incomplete) → ⊥
+forgotten (inl kept) = true≢false (sym kept.0)
+forgotten (inr (inl joined)) = joined
+forgotten (inr (inr there)) = true≢false (sym there.1)
+
+both_deleted : Keeps (Some (told.Gone 2 empty_meta)) deleted (Some Incomplete)
+both_deleted = inr (inr (refl, refl))
 
 -- Deleted here, and back since something told refers to it: it is edited, and wanted gone.
 abbrev came_back : Entry

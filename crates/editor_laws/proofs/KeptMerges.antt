@@ -1,14 +1,14 @@
 -- What was edited here is kept in a merge.
 use Rattle.std.proofs.Common.{Ok, ◌≡◌, ◌==◌, ◌||◌, ◌&&◌, not, ℕ, nat_lt, Bool, true, false, Option, Some, None, is_some, cond, refl, sym, ◌∙◌, ap, subst, inl, inr}
 use Rattle.std.specs.FinMap as fin
-use Rattle.std.proofs.lemmas.Bool.{true≢false}
+use Rattle.std.proofs.lemmas.Bool.{true≢false, and_parts, or_left, or_right}
 use Rattle.osm_base.specs.Rank.{is_key}
 use Rattle.osm_base.specs.declared.key.Key.{Key}
 use Rattle.osm_base.specs.declared.content.Content.{Content}
 use Rattle.osm_base.proofs.Tests.{by_bool}
 use Rattle.osm_table.specs.declared.entry.Base.{Base}
 use Rattle.osm_table.specs.declared.entry.Conflict.{Conflict}
-use Rattle.osm_table.specs.declared.entry.Why.TheVariants.{Changed}
+use Rattle.osm_table.specs.declared.entry.Why.TheVariants.{Changed, Withdrawn}
 use Rattle.osm_table.specs.declared.entry.Entry.{Entry}
 use Rattle.osm_table.specs.declared.entry.Entry.TheVariants.{Incomplete, Known}
 use Rattle.osm_table.specs.declared.told.Told.{Told}
@@ -26,13 +26,14 @@ use Rattle.tool_api.specs.declared.refusal.Refusal.{Refusal}
 use Rattle.tool_api.specs.Checks.{◌>>◌}
 use Rattle.tool_api.specs.Changes.{done}
 use Rattle.tool_api.specs.Closing.{room_test}
-use Rattle.tool_api.specs.Staged.{staged, stage_of, theirs_at, is_candidate, is_dead, all_joined, lost_of, back, withdrawn}
+use Rattle.tool_api.specs.Staged.{staged, stage_of, theirs_at, is_candidate, all_joined, lost_of}
 use Rattle.tool_api.specs.Merged.{both_keys, wanted, held, named, merged, clash_test}
 use Rattle.tool_api.specs.Plain.{answered, plain}
 use Rattle.job_laws.proofs.MergeRows.{theirs_by, verdict_by, joined_some}
 use Rattle.job_laws.proofs.MergeStand.{settled, wanted_lost}
 use Rattle.job_laws.proofs.MergeOutcome.{outcome, merged_at}
-use Rattle.editor_laws.specs.Kept.{wish, is_edited, IsWished, Keeps}
+use Rattle.editor_laws.specs.Kept.{wish, is_edited, is_told_gone, is_gone_there, Keeps}
+use Rattle.editor_laws.proofs.KeptConfirming.{edited_known}
 
 -- What a case makes of a changed object that didn't come back.
 abbrev Spares : Verdict → Option Content → Option Content → Option Content → Type 0
@@ -133,18 +134,26 @@ living_stays : (P : Option Entry → Type 0) (h w n : Bool) (theirs b : Base) (c
 living_stays P h true n theirs b c f lost p = absurd (true≢false (sym (lost refl)))
 living_stays P h false n theirs b c f lost p = p
 
--- and what is wanted gone is so after it
-back_gone : (e : Entry) → IsWished None (Some (back e))
-back_gone Incomplete = (refl, refl)
-back_gone (Known b m f) = (refl, refl)
+-- and what is wanted gone is so after it; its name alone is left where the server holds nothing either
+abbrev HoldsNone : Base → Option Conflict → Type 0
+HoldsNone b f = not (is_some (held_by (known_base b f))) ≡ true
 
-bared_gone : (a : Bool) (e : Entry) → wish (Some e) ≡ None → IsWished None (cond a (Some Incomplete) (Some e))
-bared_gone true e h = (refl, refl)
-bared_gone false e h = (refl, h)
+module _ (told : Option Told) (e : Entry) (gone : wish (Some e) ≡ None) where
+  stays_gone : (h w n : Bool) (theirs b : Base) (m : Option Content) (f : Option Conflict) → wish (Some (Known b m f)) ≡ None → (HoldsNone b f → is_gone_there told e ≡ true) → Keeps told e (settled false h w n theirs (Some (Known b m f)))
+  stays_gone h true n theirs b m f is there = inl (refl, sym gone)
+  stays_gone h false n theirs b (Some c) f is there = inl (refl, is ∙ sym gone)
+  stays_gone h false n theirs b None f is there = by (n && not (is_some (held_by (known_base b f)))) refl
+    where
+      by : (bare : Bool) → (n && not (is_some (held_by (known_base b f)))) ≡ bare → Keeps told e (cond bare (Some Incomplete) (Some (Known b None f)))
+      by true h = inr (inr (gone, there (and_parts n (not (is_some (held_by (known_base b f)))) h).1))
+      by false h = inl (refl, is ∙ sym gone)
 
-stays_gone : (h w n : Bool) (theirs : Base) (e : Entry) → wish (Some e) ≡ None → IsWished None (settled false h w n theirs (Some e))
-stays_gone h true n theirs e g = back_gone e
-stays_gone h false n theirs e g = bared_gone (is_dead e && (n && not (is_some (lost_of (Some e))))) e g
+-- Where a case comes of what the server is told to hold, and that is nothing, the object is told of as deleted.
+told_gone : (e : Entry) (told : Option Told) (v : Verdict) → verdict_by (Some e) told ≡ v → (v ≡ Stay → ⊥) → not (is_some (held_by (theirs_by told))) ≡ true → is_told_gone told ≡ true
+told_gone e None v is other none = absurd (other (sym is))
+told_gone e (Some told.Mentioned) v is other none = absurd (other (sym is))
+told_gone e (Some (told.Live version content meta)) v is other none = absurd (true≢false (sym none))
+told_gone e (Some (told.Gone version meta)) v is other none = refl
 
 wish_is : (b : Base) (m : Option Content) (f : Option Conflict) → is_withdrawn f ≡ false → wish (Some (Known b m f)) ≡ m
 wish_is b m f w = ap (λ r. cond r None m) w
@@ -160,21 +169,21 @@ LostAfter v e theirs w = w ≡ true → is_some (cond (is_candidate v) None (los
 abbrev ends : Verdict → Entry → Base → Bool → Bool → Bool → Option Entry
 ends v e theirs h w n = settled (is_candidate v) h w n theirs (staged v (Some e) theirs)
 
-module _ (b : Base) (c : Content) (f : Option Conflict) (theirs : Base) (h w n : Bool) (free : is_withdrawn f ≡ false) where
+module _ (told : Option Told) (b : Base) (c : Content) (f : Option Conflict) (theirs : Base) (h w n : Bool) (free : is_withdrawn f ≡ false) where
   abbrev e : Entry
   e = Known b (Some c) f
 
-  same_content : (d : Base) (g : Option Conflict) → wish (Some (Known d (Some c) g)) ≡ Some c → IfLost w (Some (Known d (Some c) g)) → Keeps e (settled false h w n theirs (Some (Known d (Some c) g)))
-  same_content d g is lost = living_stays (Keeps e) h w n theirs d c g lost (inl (refl, is ∙ sym (wish_is b (Some c) f free)))
+  same_content : (d : Base) (g : Option Conflict) → wish (Some (Known d (Some c) g)) ≡ Some c → IfLost w (Some (Known d (Some c) g)) → Keeps told e (settled false h w n theirs (Some (Known d (Some c) g)))
+  same_content d g is lost = living_stays (Keeps told e) h w n theirs d c g lost (inl (refl, is ∙ sym (wish_is b (Some c) f free)))
 
-  settled_content : (x : Option Content) → Some c ≡ x → IfLost w (Some (Known theirs x None)) → Keeps e (settled false h w n theirs (Some (Known theirs x None)))
-  settled_content x is = subst (λ (x : Option Content). IfLost w (Some (Known theirs x None)) → Keeps e (settled false h w n theirs (Some (Known theirs x None)))) is (same_content theirs None refl)
+  settled_content : (x : Option Content) → Some c ≡ x → IfLost w (Some (Known theirs x None)) → Keeps told e (settled false h w n theirs (Some (Known theirs x None)))
+  settled_content x is = subst (λ (x : Option Content). IfLost w (Some (Known theirs x None)) → Keeps told e (settled false h w n theirs (Some (Known theirs x None)))) is (same_content theirs None refl)
 
-  joined_content : (x : Option Content) → x ≡ all_joined (held_by b) (Some c) (held_by theirs) → is_some x ≡ true → IfLost w (Some (Known theirs x None)) → Keeps e (settled false h w n theirs (Some (Known theirs x None)))
+  joined_content : (x : Option Content) → x ≡ all_joined (held_by b) (Some c) (held_by theirs) → is_some x ≡ true → IfLost w (Some (Known theirs x None)) → Keeps told e (settled false h w n theirs (Some (Known theirs x None)))
   joined_content None is some lost = absurd (true≢false (sym some))
-  joined_content (Some d) is some lost = living_stays (Keeps e) h w n theirs theirs d None lost (inr (inl (refl, is)))
+  joined_content (Some d) is some lost = living_stays (Keeps told e) h w n theirs theirs d None lost (inr (inl (refl, is)))
 
-  keeps_living : (v : Verdict) → Spares v (held_by b) (Some c) (held_by theirs) → LostAfter v e theirs w → Keeps e (ends v e theirs h w n)
+  keeps_living : (v : Verdict) → Spares v (held_by b) (Some c) (held_by theirs) → LostAfter v e theirs w → Keeps told e (ends v e theirs h w n)
   keeps_living Stay s lost = same_content b f (wish_is b (Some c) f free) lost
   keeps_living Mention s lost = absurd s
   keeps_living Take s lost = absurd s
@@ -185,47 +194,62 @@ module _ (b : Base) (c : Content) (f : Option Conflict) (theirs : Base) (h w n :
   keeps_living Join s lost = joined_content (all_joined (held_by b) (Some c) (held_by theirs)) refl (joined_some (held_by b) (Some c) (held_by theirs) s) lost
   keeps_living Dispute s lost = same_content b (Some (record { why = Changed; theirs = theirs })) refl lost
 
-gone_kept : (e : Entry) (after : Option Entry) → wish (Some e) ≡ None → IsWished None after → Keeps e after
-gone_kept e after is h = inl (h.0, h.1 ∙ sym is)
-
 joined_none : (b theirs : Option Content) → all_joined b None theirs ≡ None
 joined_none None theirs = refl
 joined_none (Some b) theirs = refl
 
-keeps_deleted : (b : Base) (f : Option Conflict) (theirs : Base) (h w n : Bool) → is_withdrawn f ≡ false → (v : Verdict) → Spares v (held_by b) None (held_by theirs) → Keeps (Known b None f) (ends v (Known b None f) theirs h w n)
-keeps_deleted b f theirs h w n free v s = gone_kept (Known b None f) _ (wish_is b None f free) (by v s)
-  where
-    by : (v : Verdict) → Spares v (held_by b) None (held_by theirs) → IsWished None (ends v (Known b None f) theirs h w n)
-    by Stay s = stays_gone h w n theirs (Known b None f) (wish_is b None f free)
-    by Mention s = absurd s
-    by Take s = absurd s
-    by Clash s = stays_gone h w n theirs (Known b None f) (wish_is b None f free)
-    by Keep s = absurd s
-    by Candidate s = absurd s
-    by Settle s = stays_gone h w n theirs (Known theirs (held_by theirs) None) (sym s)
-    by Join s = stays_gone h w n theirs (Known theirs (all_joined (held_by b) None (held_by theirs)) None) (joined_none (held_by b) (held_by theirs))
-    by Dispute s = stays_gone h w n theirs (Known b None (Some (record { why = Changed; theirs = theirs }))) refl
+-- what one that doesn't live, or came back, has in the end
+module _ (told : Option Told) (b : Base) (m : Option Content) (f : Option Conflict) (h w n : Bool) (gone : wish (Some (Known b m f)) ≡ None) where
+  -- it stays,
+  as_it_is : Keeps told (Known b m f) (settled false h w n (theirs_by told) (Some (Known b m f)))
+  as_it_is = stays_gone told (Known b m f) gone h w n (theirs_by told) b m f gone (or_right (is_told_gone told) (not (is_some (held_by (known_base b f)))))
 
-keeps_withdrawn : (b : Base) (m : Option Content) (f : Option Conflict) (theirs : Base) (h w n : Bool) → is_withdrawn f ≡ true → (v : Verdict) → Withdraws v (held_by theirs) → Keeps (Known b m f) (ends v (Known b m f) theirs h w n)
-keeps_withdrawn b m f theirs h w n came = by
+  -- or the server's side is what is told
+  by_told : (d : Base) (x : Option Content) (g : Option Conflict) (v : Verdict) → verdict_by (Some (Known b m f)) told ≡ v → (v ≡ Stay → ⊥) → known_base d g ≡ theirs_by told → wish (Some (Known d x g)) ≡ None
+      → Keeps told (Known b m f) (settled false h w n (theirs_by told) (Some (Known d x g)))
+  by_told d x g v is other same wished =
+      stays_gone told (Known b m f) gone h w n (theirs_by told) d x g wished
+      (λ none. or_left (is_told_gone told) (not (is_some (held_by (known_base b f)))) (told_gone (Known b m f) told v is other (ap (λ (y : Base). not (is_some (held_by y))) (sym same) ∙ none)))
+
+keeps_deleted : (told : Option Told) (b : Base) (f : Option Conflict) (h w n : Bool) → is_withdrawn f ≡ false → (v : Verdict) → verdict_by (Some (Known b None f)) told ≡ v → Spares v (held_by b) None (held_by (theirs_by told))
+    → Keeps told (Known b None f) (ends v (Known b None f) (theirs_by told) h w n)
+keeps_deleted told b f h w n free = by
+  where
+    gone : wish (Some (Known b None f)) ≡ None
+    gone = wish_is b None f free
+
+    by : (v : Verdict) → verdict_by (Some (Known b None f)) told ≡ v → Spares v (held_by b) None (held_by (theirs_by told)) → Keeps told (Known b None f) (ends v (Known b None f) (theirs_by told) h w n)
+    by Stay is s = as_it_is told b None f h w n gone
+    by Mention is s = absurd s
+    by Take is s = absurd s
+    by Clash is s = as_it_is told b None f h w n gone
+    by Keep is s = absurd s
+    by Candidate is s = absurd s
+    by Settle is s = by_told told b None f h w n gone (theirs_by told) (held_by (theirs_by told)) None Settle is (λ x. let other : Settle ≡ Stay = x in absurd cc) refl (sym s)
+    by Join is s = by_told told b None f h w n gone (theirs_by told) (all_joined (held_by b) None (held_by (theirs_by told))) None Join is (λ x. let other : Join ≡ Stay = x in absurd cc) refl (joined_none (held_by b) (held_by (theirs_by told)))
+    by Dispute is s = by_told told b None f h w n gone b None (Some (record { why = Changed; theirs = theirs_by told })) Dispute is (λ x. let other : Dispute ≡ Stay = x in absurd cc) refl refl
+
+keeps_withdrawn : (told : Option Told) (b : Base) (m : Option Content) (f : Option Conflict) (h w n : Bool) → is_withdrawn f ≡ true → (v : Verdict) → verdict_by (Some (Known b m f)) told ≡ v → Withdraws v (held_by (theirs_by told))
+    → Keeps told (Known b m f) (ends v (Known b m f) (theirs_by told) h w n)
+keeps_withdrawn told b m f h w n came = by
   where
     gone : wish (Some (Known b m f)) ≡ None
     gone = wish_gone b m f came
 
-    candidate : (h : Bool) → held_by theirs ≡ None → Keeps (Known b m f) (settled true h w n theirs (Some (Known b m f)))
+    candidate : (h : Bool) → held_by (theirs_by told) ≡ None → Keeps told (Known b m f) (settled true h w n (theirs_by told) (Some (Known b m f)))
     candidate true s = inr (inr (s ∙ sym gone))
     candidate false s = inl (refl, sym gone)
 
-    by : (v : Verdict) → Withdraws v (held_by theirs) → Keeps (Known b m f) (ends v (Known b m f) theirs h w n)
-    by Stay s = gone_kept (Known b m f) _ gone (stays_gone h w n theirs (Known b m f) gone)
-    by Mention s = absurd s
-    by Take s = absurd s
-    by Clash s = gone_kept (Known b m f) _ gone (stays_gone h w n theirs (Known b m f) gone)
-    by Keep s = gone_kept (Known b m f) _ gone (stays_gone h w n theirs (withdrawn theirs) refl)
-    by Candidate s = candidate h s
-    by Settle s = absurd s
-    by Join s = absurd s
-    by Dispute s = absurd s
+    by : (v : Verdict) → verdict_by (Some (Known b m f)) told ≡ v → Withdraws v (held_by (theirs_by told)) → Keeps told (Known b m f) (ends v (Known b m f) (theirs_by told) h w n)
+    by Stay is s = as_it_is told b m f h w n gone
+    by Mention is s = absurd s
+    by Take is s = absurd s
+    by Clash is s = as_it_is told b m f h w n gone
+    by Keep is s = by_told told b m f h w n gone (theirs_by told) (held_by (theirs_by told)) (Some (record { why = Withdrawn; theirs = theirs_by told })) Keep is (λ x. let other : Keep ≡ Stay = x in absurd cc) refl refl
+    by Candidate is s = candidate h s
+    by Settle is s = absurd s
+    by Join is s = absurd s
+    by Dispute is s = absurd s
 
 module _ (t : TableValue) (m : ToldEntries) (k : Key) (e : Entry) (is : entry_of t k ≡ Some e) where
   abbrev verdict : Verdict
@@ -248,28 +272,28 @@ module _ (t : TableValue) (m : ToldEntries) (k : Key) (e : Entry) (is : entry_of
       sym (ap (λ (o : Option Entry). is_some (cond (is_candidate (verdict_by o (fin.get m k))) None (lost_of (staged (verdict_by o (fin.get m k)) o (theirs_at m k))))) is)
       ∙ wanted_lost (stage_of t m) (both_keys t m) k h
 
-pub merged_keeps : (t : TableValue) (m : ToldEntries) (k : Key) (e : Entry) → entry_of t k ≡ Some e → is_edited e ≡ true → Keeps e (entry_of (merged t m) k)
+pub merged_keeps : (t : TableValue) (m : ToldEntries) (k : Key) (e : Entry) → entry_of t k ≡ Some e → is_edited e ≡ true → Keeps (fin.get m k) e (entry_of (merged t m) k)
 merged_keeps t m k Incomplete is edited = absurd (true≢false (sym edited))
 merged_keeps t m k (Known b mine f) is edited =
-    subst (Keeps (Known b mine f)) (sym (at_end t m k (Known b mine f) is)) (by_bool (is_withdrawn f)
-    (λ came. keeps_withdrawn b mine f (theirs_at m k) _ _ _ came (verdict t m k (Known b mine f) is) (withdraws b mine f (fin.get m k) came))
+    subst (Keeps (fin.get m k) (Known b mine f)) (sym (at_end t m k (Known b mine f) is)) (by_bool (is_withdrawn f)
+    (λ came. keeps_withdrawn (fin.get m k) b mine f _ _ _ came (verdict t m k (Known b mine f) is) refl (withdraws b mine f (fin.get m k) came))
     (λ free. changed mine is free (sym (ap (λ r. r || is_changed (Known b mine f)) free) ∙ edited)))
   where
     changed : (mine : Option Content) (is : entry_of t k ≡ Some (Known b mine f)) → is_withdrawn f ≡ false → is_changed (Known b mine f) ≡ true
-        → Keeps (Known b mine f) (ends (verdict t m k (Known b mine f) is) (Known b mine f) (theirs_at m k) (is_held t m k (Known b mine f) is) (is_wanted t m k (Known b mine f) is) (is_named t m k (Known b mine f) is))
-    changed None is free changes = keeps_deleted b f (theirs_at m k) _ _ _ free (verdict t m k (Known b None f) is) (spares b None f (fin.get m k) free changes)
-    changed (Some c) is free changes = keeps_living b c f (theirs_at m k) _ _ _ free (verdict t m k (Known b (Some c) f) is) (spares b (Some c) f (fin.get m k) free changes) (lost t m k (Known b (Some c) f) is)
+        → Keeps (fin.get m k) (Known b mine f) (ends (verdict t m k (Known b mine f) is) (Known b mine f) (theirs_at m k) (is_held t m k (Known b mine f) is) (is_wanted t m k (Known b mine f) is) (is_named t m k (Known b mine f) is))
+    changed None is free changes = keeps_deleted (fin.get m k) b f _ _ _ free (verdict t m k (Known b None f) is) refl (spares b None f (fin.get m k) free changes)
+    changed (Some c) is free changes = keeps_living (fin.get m k) b c f (theirs_at m k) _ _ _ free (verdict t m k (Known b (Some c) f) is) (spares b (Some c) f (fin.get m k) free changes) (lost t m k (Known b (Some c) f) is)
 
 -- what stays is kept
-pub same_kept : (e : Entry) (after : Option Entry) → after ≡ Some e → Keeps e after
-same_kept e after is = subst (Keeps e) (sym is) (inl (refl, refl))
+pub same_kept : (told : Option Told) (e : Entry) (after : Option Entry) → is_edited e ≡ true → after ≡ Some e → Keeps told e after
+same_kept told e after edited is = subst (Keeps told e) (sym is) (inl (edited_known e edited, refl))
 
 module _ (t : TableValue) (k : Key) (e : Entry) (is : entry_of t k ≡ Some e) where
-  tested : (o : Option Refusal) (u : TableValue) (p : Option Refusal) → Keeps e (entry_of u k) → Keeps e (entry_of (answered t (o >> (p >> Ok (done u)))).table k)
-  tested (Some r) u p h = same_kept e (entry_of t k) is
-  tested None u (Some r) h = same_kept e (entry_of t k) is
-  tested None u None h = h
+  tested : (told : Option Told) (o : Option Refusal) (u : TableValue) (p : Option Refusal) → is_edited e ≡ true → Keeps told e (entry_of u k) → Keeps told e (entry_of (answered t (o >> (p >> Ok (done u)))).table k)
+  tested told (Some r) u p edited h = same_kept told e (entry_of t k) edited is
+  tested told None u (Some r) edited h = same_kept told e (entry_of t k) edited is
+  tested told None u None edited h = h
 
   -- What was edited is kept in a download.
-  pub merge_keeps : (told : ToldValue) (limit : ℕ) → is_edited e ≡ true → Keeps e (entry_of (plain (job.Merge told) t limit).table k)
-  merge_keeps told limit edited = tested (clash_test t told.told) (merged t told.told) (room_test limit (merged t told.told)) (merged_keeps t told.told k e is edited)
+  pub merge_keeps : (told : ToldValue) (limit : ℕ) → is_edited e ≡ true → Keeps (fin.get told.told k) e (entry_of (plain (job.Merge told) t limit).table k)
+  merge_keeps told limit edited = tested (fin.get told.told k) (clash_test t told.told) (merged t told.told) (room_test limit (merged t told.told)) edited (merged_keeps t told.told k e is edited)

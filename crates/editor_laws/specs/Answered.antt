@@ -6,6 +6,7 @@ use Rattle.std.specs.Prelude.{◌≡◌, ℤ, Bool, List, [], ◌∷◌, Option,
 use Rattle.std.specs.Option.{option_map}
 use Rattle.osm_base.specs.declared.key.Key.{Key}
 use Rattle.osm_table.specs.declared.entry.Entry.{Entry}
+use Rattle.osm_table.specs.declared.told.Told.{Told}
 use Rattle.osm_table.specs.Table.{TableValue, entry_of}
 use Rattle.renamed_content.specs.Renamed.{renamed}
 use Rattle.upload_order.specs.declared.change.Change.{Change}
@@ -50,8 +51,8 @@ KeepsAllCalled names t u =
     (k : Key) (e : Entry) → entry_of t k ≡ Some e → is_edited e ≡ true
     → IsWished (option_map (renamed (called names)) (wish (Some e))) (entry_of u (called names k))
 
--- All that is edited in the first table is kept in the second: where answers came, under what they call it, and else all of which
--- it isn't said that it is changed or forgotten.
-abbrev pub KeepsAllBut : Option (List Answer) → (Key → Bool) → TableValue → TableValue → Type 0
-KeepsAllBut None is_said t u = (k : Key) (e : Entry) → entry_of t k ≡ Some e → is_edited e ≡ true → is_said k ≡ false → Keeps e (entry_of u k)
-KeepsAllBut (Some answers) is_said t u = KeepsAllCalled (names_told [] answers) t u
+-- All that is edited in the first table is kept in the second: where answers came, under what they call it, and else, where this is
+-- told between, all of which it isn't said that it is changed or forgotten.
+abbrev pub KeepsAllBut : Option (List Answer) → (Key → Bool) → (Key → Option Told) → TableValue → TableValue → Type 0
+KeepsAllBut None is_said told t u = (k : Key) (e : Entry) → entry_of t k ≡ Some e → is_edited e ≡ true → is_said k ≡ false → Keeps (told k) e (entry_of u k)
+KeepsAllBut (Some answers) is_said told t u = KeepsAllCalled (names_told [] answers) t u

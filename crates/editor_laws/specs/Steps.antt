@@ -2,12 +2,15 @@
 --
 -- For example `undo 1` says that it changes all, since a whole earlier table is the table now; so does a job that is refused in a
 -- group. Each other job keeps what it doesn't list.
-use Rattle.std.specs.Prelude.{◌≡◌, ℕ, ◌||◌, Bool, true, false, List, [], ◌∷◌, Some}
+use Rattle.std.specs.Prelude.{◌≡◌, ℕ, ◌||◌, Bool, true, false, List, [], ◌∷◌, Option, Some, None}
+use Rattle.std.specs.FinMap as fin
 use Rattle.osm_base.specs.declared.key.Key.{Key}
 use Rattle.osm_table.specs.declared.entry.Entry.{Entry}
+use Rattle.osm_table.specs.declared.told.Told.{Told}
 use Rattle.osm_table.specs.Table.{entry_of}
 use Rattle.dataset.specs.Sound.{IsSound}
 use Rattle.tool_api.specs.declared.job.Job.{Job}
+use Rattle.tool_api.specs.declared.job.Job.TheVariants as job
 use Rattle.tool_api.specs.declared.reply.Reply.{Reply}
 use Rattle.tool_api.specs.declared.reply.Reply.TheVariants as reply
 use Rattle.tool_api.specs.Plain.{plain}
@@ -37,9 +40,20 @@ says limit Begin s k = false
 says limit End s k = false
 says limit step s k = true
 
+-- what a job tells of an object of the server: a merge what its download does
+abbrev pub tells : Job → Key → Option Told
+tells (job.Merge told) k = fin.get told.told k
+tells j k = None
+
+-- and what a step does
+abbrev pub step_tells : EditStep → Key → Option Told
+step_tells (Run job) k = tells job.now k
+step_tells step k = None
+
 -- Each edited object is kept, if the step doesn't say that it changes or forgets it.
 abbrev pub KeepsEdits : ℕ → EditStep → State → Type 0
-KeepsEdits limit step s = (k : Key) (e : Entry) → entry_of s.now k ≡ Some e → is_edited e ≡ true → says limit step s k ≡ false → Keeps e (entry_of (edited limit step s).state.now k)
+KeepsEdits limit step s =
+    (k : Key) (e : Entry) → entry_of s.now k ≡ Some e → is_edited e ≡ true → says limit step s k ≡ false → Keeps (step_tells step k) e (entry_of (edited limit step s).state.now k)
 
 -- each step of a run meets a condition, with the state before it
 abbrev pub EachStep : (EditStep → State → Type 0) → ℕ → List EditStep → State → Type 0

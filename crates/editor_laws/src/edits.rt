@@ -36,7 +36,7 @@ pub fn jobs_leave_own()
 
 /// Law: what was edited in a table is kept in the table with a download merged into it.
 pub fn merges_keep_edits()
-    ensures { (t : TableValue) (m : ToldEntries) → KeepsAllIn t (merged t m) }
+    ensures { (t : TableValue) (m : ToldEntries) → KeepsAllIn m t (merged t m) }
 {}
 
 /// Law: no edit is lost in a run. Each step keeps each edited object, but those that it says it changes or forgets.
