@@ -6,7 +6,7 @@ use osm_base::Content;
 use std::marker::Model;
 
 /// The version of an object, and its content, if it isn't deleted. A change names a version of 32 bits, so the one after it has room.
-#[derive(Debug, Drop)]
+#[derive(Drop)]
 pub struct WorldEntry {
     version: u64,
     content: Option<Content>,

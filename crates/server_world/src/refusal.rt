@@ -6,7 +6,7 @@ use osm_base::Key;
 use std::alloc::AllocError;
 
 /// Why a world refuses a change.
-#[derive(Clone, Copy, Debug, PartialEq, Eq)]
+#[derive(Clone, Copy)]
 pub enum WorldRefusal {
     /// The key that was picked stands already.
     Exists,
@@ -39,7 +39,7 @@ impl WorldRefusal {
 }
 
 /// Why a change wasn't taken.
-#[derive(Debug, Drop)]
+#[derive(Drop)]
 pub enum WorldFault {
     /// The world refuses it.
     Refused(WorldRefusal),

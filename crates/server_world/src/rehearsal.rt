@@ -15,7 +15,7 @@ use std::alloc::AllocError;
 use upload_order::Changes;
 
 /// What becomes of changes at a server.
-#[derive(Clone, Copy, Debug, PartialEq, Eq)]
+#[derive(Clone, Copy)]
 pub enum Rehearsal {
     /// All are accepted, and so many there are.
     Accepted(u64),

@@ -15,7 +15,7 @@ use std::alloc::AllocError;
 use upload_order::Change;
 
 /// What a world answers to a change that is sent.
-#[derive(Clone, Copy, Debug, PartialEq, Eq)]
+#[derive(Clone, Copy)]
 pub enum Sent {
     /// It is taken. An object that it makes has this id; at each other change it is 0.
     Taken(i64),
