@@ -285,7 +285,11 @@ pub fn query_words(pool: &mut Pool, words: &[u8]) -> Result<Query, Unread>
     ensures value { Gives result (query_of_words (words_of words.now)) }
     ensures shallow { IfOk result (λ query. depth query ≤ 1100) }
 {
-    Ok(read_query(pool, words)?)
+    match read_query(pool, words) {
+        Ok(query) => Ok(query),
+        Err(QueryFault::BadQuery) => Err(Unread::Outside),
+        Err(QueryFault::Memory) => Err(Unread::Memory),
+    }
 }
 
 /// Whether the text may not stand behind these keys: it is empty, or one of them.

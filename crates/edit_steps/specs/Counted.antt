@@ -1,5 +1,5 @@
 -- The text of `count`.
-use Rattle.std.specs.Prelude.{ℕ, ◌+◌, ◌<◌, ◌^◌, Bool, true, false, ◌&&◌, if◌then◌else◌, List, [], ◌∷◌, ◌++◌, Option, None, Some, codes, decimal}
+use Rattle.std.specs.Prelude.{ℕ, ◌+◌, ◌<◌, ◌^◌, Bool, false, ◌&&◌, if◌then◌else◌, List, [], ◌∷◌, ◌++◌, Option, None, Some, codes, decimal}
 use Rattle.std.specs.List.{count_by}
 use Rattle.std.specs.Option.{option_map_or}
 use Rattle.osm_base.specs.declared.key.Kind.{Kind}
@@ -7,27 +7,8 @@ use Rattle.osm_base.specs.declared.key.Kind.TheVariants.{Node, Way, Relation}
 use Rattle.osm_base.specs.declared.key.Key.{Key}
 use Rattle.osm_table.specs.Table.{TableValue, entry_of, keys_by_rank, is_incomplete, is_living, is_changed}
 use Rattle.osm_table.specs.declared.entry.Entry.{Entry}
-use Rattle.map_search.specs.Meets.{is_deleted, has_conflict}
+use Rattle.map_search.specs.Meets.{has_conflict, is_deleted, same_kind}
 use Rattle.edit_steps.specs.declared.counting.Counts.{Counts}
-
-abbrev pub is_node : Kind → Bool
-is_node Node = true
-is_node Way = false
-is_node Relation = false
-
-abbrev pub is_way : Kind → Bool
-is_way Node = false
-is_way Way = true
-is_way Relation = false
-
-abbrev pub is_relation : Kind → Bool
-is_relation Node = false
-is_relation Way = false
-is_relation Relation = true
-
-abbrev pub passes : (Kind → Entry → Bool) → Kind → Option Entry → Bool
-passes test kind None = false
-passes test kind (Some entry) = test kind entry
 
 -- how many of the keys have an entry that passes the test
 abbrev pub counted : (Kind → Entry → Bool) → TableValue → List Key → ℕ
