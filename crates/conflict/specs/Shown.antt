@@ -6,26 +6,17 @@
 --   mine n2 v1 dV c0 t i0 u Tk=mine x1 y0
 --   theirs n2 v2 dV c0 t i0 u Tk=theirs x1 y0
 use Rattle.std.specs.Prelude.{ℕ, List, [], ◌∷◌, ◌++◌, Option, None, Some, codes, flat_map}
-use Rattle.osm_base.specs.Meta.{empty_meta}
 use Rattle.osm_base.specs.Number.{key_written}
 use Rattle.osm_base.specs.declared.key.Key.{Key}
-use Rattle.osm_base.specs.declared.meta.Meta.{Meta}
 use Rattle.osm_base.specs.declared.content.Content.{Content}
-use Rattle.osm_table.specs.Table.{TableValue, entry_of, held_by, version_of}
+use Rattle.osm_table.specs.Table.{TableValue, entry_of, held_by, meta_of, version_of}
 use Rattle.osm_table.specs.declared.entry.Base.{Base}
-use Rattle.osm_table.specs.declared.entry.Base.TheVariants.{New, Live, Gone}
 use Rattle.osm_table.specs.declared.entry.Why.{Why}
 use Rattle.osm_table.specs.declared.entry.Why.TheVariants.{Changed, Held, Withdrawn}
 use Rattle.osm_table.specs.declared.entry.Entry.{Entry}
 use Rattle.osm_table.specs.declared.entry.Entry.TheVariants.{Incomplete, Known}
 use Rattle.opl_line.specs.Written.{written}
 use Rattle.conflict.specs.Listed.{conflict_keys}
-
--- the metadata of a base, the empty ones where no server has the object
-abbrev pub meta_of : Base → Meta
-meta_of New = empty_meta
-meta_of (Live version content meta) = meta
-meta_of (Gone version meta) = meta
 
 -- the line of a content with a base's version and metadata, or of a deleted object
 abbrev pub known_text : Key → Base → Option Content → List ℕ

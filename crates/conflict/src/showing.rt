@@ -4,7 +4,7 @@ ghost use Rattle.std.specs.Option.{option_copied};
 ghost use Rattle.osm_base.specs.Extends.{Extends};
 ghost use Rattle.osm_base.specs.Meta.{empty_meta};
 ghost use Rattle.osm_table.specs.Table.{held_by};
-ghost use Rattle.conflict.specs.Shown.{conflict_text, known_text, meta_of, side_line, side_lines, why_line, why_name};
+ghost use Rattle.conflict.specs.Shown.{conflict_text, known_text, side_line, side_lines, why_line, why_name};
 
 use dataset::DataSet;
 use opl_line::write_line;
@@ -112,18 +112,7 @@ pub fn write_known(
     ensures written { OnOk result (out.new.items ≡ out.old.items ++ known_text key base.now (option_copied content.entry)) }
     ensures kept { OnErr result (Extends out.old.items out.new.items) }
 {
-    write_line(key, base.version(), content, meta_of(base, unknown), out)?;
+    write_line(key, base.version(), content, base.meta(unknown), out)?;
     out.push(b'\n')?;
     Ok(())
-}
-
-// The metadata of a base, the empty ones where no server has the object.
-fn meta_of<'a>(base: &'a Base, unknown: &'a Meta) -> &'a Meta
-    requires { unknown.now ≡ empty_meta }
-    ensures { result.now ≡ meta_of base.now }
-{
-    match base {
-        Base::New => unknown,
-        Base::Live { meta, .. } | Base::Gone { meta, .. } => meta,
-    }
 }

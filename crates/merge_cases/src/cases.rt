@@ -1,15 +1,14 @@
 //! The case of one object.
 ghost use Rattle.std.specs.Prelude.{◌≡◌, Some};
 ghost use Rattle.std.specs.Option.{option_copied};
-ghost use Rattle.osm_table.specs.Same.{same_mine};
 ghost use Rattle.osm_table.specs.Table.{known_base};
 ghost use Rattle.osm_table.specs.Told.{told_of};
 ghost use Rattle.merge_cases.specs.Case.{verdict_of, version_case, mention_case, same_version_case, withdrawn_case, unchanged_case, changed_case, all_join, is_withdrawn, is_withdrawal};
 
 use crate::join_tests::joins;
 use crate::verdict::Verdict;
-use osm_base::{Content, same};
-use osm_table::{Base, Conflict, EntryParts, SharedEntry, Why};
+use osm_base::Content;
+use osm_table::{Base, Conflict, EntryParts, SharedEntry, Why, same_mine};
 
 /// The case of an object: what a merge does with it, by its entry, if it has one, and by the news
 /// that a download has of it, as a told map keeps them. It takes no memory. Where mine is changed
@@ -156,16 +155,6 @@ pub fn is_withdrawal(why: Why) -> bool
 {
     match why {
         Why::Withdrawn => true,
-        _ => false,
-    }
-}
-
-fn same_mine(a: Option<&Content>, b: Option<&Content>) -> bool
-    ensures { result ≡ same_mine (option_copied a.entry) (option_copied b.entry) }
-{
-    match (a, b) {
-        (None, None) => true,
-        (Some(a), Some(b)) => same(a, b),
         _ => false,
     }
 }

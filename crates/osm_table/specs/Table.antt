@@ -7,6 +7,8 @@ use Rattle.osm_base.specs.Rank.{rank_cmp}
 use Rattle.osm_base.specs.Content.{refers}
 use Rattle.osm_base.specs.declared.key.Key.{Key}
 use Rattle.osm_base.specs.declared.content.Content.{Content}
+use Rattle.osm_base.specs.declared.meta.Meta.{Meta}
+use Rattle.osm_base.specs.Meta.{empty_meta}
 use Rattle.osm_table.specs.declared.entry.Base.{Base}
 use Rattle.osm_table.specs.declared.entry.Base.TheVariants.{New, Live, Gone}
 use Rattle.osm_table.specs.declared.entry.Conflict.{Conflict}
@@ -49,6 +51,12 @@ abbrev pub version_of : Base → ℕ
 version_of New = 0
 version_of (Live version content meta) = version
 version_of (Gone version meta) = version
+
+-- the metadata of a base, the empty ones where no server has the object
+abbrev pub meta_of : Base → Meta
+meta_of New = empty_meta
+meta_of (Live version content meta) = meta
+meta_of (Gone version meta) = meta
 
 -- the conflict's theirs, else the base
 abbrev pub known_base : Base → Option Conflict → Base

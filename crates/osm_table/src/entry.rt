@@ -2,7 +2,8 @@
 ghost use Rattle.std.specs.Prelude.{◌≡◌, IfOk, IsTrue, ◌↔◌};
 ghost use Rattle.std.specs.Option.{option_copied};
 ghost use Rattle.osm_table.specs.Same.{same_base, same_conflict};
-ghost use Rattle.osm_table.specs.Table.{is_new, held_by, version_of};
+ghost use Rattle.osm_base.specs.Meta.{empty_meta};
+ghost use Rattle.osm_table.specs.Table.{is_new, held_by, meta_of, version_of};
 
 use crate::shared::Shared;
 use osm_base::{Content, Meta, same};
@@ -77,6 +78,17 @@ impl Base {
             Base::New => 0,
             Base::Live { version, .. } => *version,
             Base::Gone { version, .. } => *version,
+        }
+    }
+
+    /// Its metadata, and `unknown`, the empty ones, where no server has the object.
+    pub fn meta<'a>(&'a self, unknown: &'a Meta) -> &'a Meta
+        requires { unknown.now ≡ empty_meta }
+        ensures { result.now ≡ meta_of self.now }
+    {
+        match self {
+            Base::New => unknown,
+            Base::Live { meta, .. } | Base::Gone { meta, .. } => meta,
         }
     }
 

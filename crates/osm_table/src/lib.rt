@@ -6,7 +6,7 @@
 //! next new object; `ToldMap` keeps what one download tells. Contracts see both as finite maps in the
 //! rank order of keys. A told map whose keys came by rank finds them by halving (`rising`); all others
 //! are hashed maps of `indexmap`. After a first download the table is the told map, until it is changed:
-//! then it hashes the keys, and shares the entries (`OwnTable`). A table takes any entries:
+//! then it copies the keys by rank, and shares the entries (`OwnTable`). A table takes any entries:
 //! which ones make a sound table is for the layer above to keep. `specs/Table.antt` has the words
 //! on entries and tables (living, known side, changed, users), `specs/Told.antt` those on told
 //! maps.
@@ -31,7 +31,7 @@ pub use law::{same_entry_is_told, same_mine_is_told, same_why_is_told};
 pub use ordered::Ordered;
 pub use own_table::OwnTable;
 pub use shared::Shared;
-pub use shared_entry::{EntryParts, SharedEntry};
+pub use shared_entry::{EntryParts, SharedEntry, same_mine};
 pub use table::Table;
 pub use told::Told;
 pub use told_map::ToldMap;

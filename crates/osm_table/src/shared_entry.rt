@@ -346,7 +346,8 @@ fn copy_conflict(
     }
 }
 
-fn same_mine(a: Option<&Content>, b: Option<&Content>) -> bool
+/// Whether both or neither are living, with the same content.
+pub fn same_mine(a: Option<&Content>, b: Option<&Content>) -> bool
     ensures value { result ≡ same_mine (option_copied a.entry) (option_copied b.entry) }
     ensures decides { IsTrue result ↔ (option_copied a.entry ≡ option_copied b.entry) }
 {

@@ -14,7 +14,7 @@ use Rattle.osm_base.specs.declared.meta.Meta.{Meta}
 use Rattle.osm_base.specs.declared.members.Member.{Member}
 use Rattle.osm_base.specs.declared.content.Content.{Content}
 use Rattle.osm_base.specs.declared.content.Content.TheVariants as content
-use Rattle.osm_table.specs.Table.{held_by, version_of}
+use Rattle.osm_table.specs.Table.{held_by, meta_of, version_of}
 use Rattle.osm_table.specs.declared.entry.Base.{Base}
 use Rattle.osm_table.specs.declared.entry.Base.TheVariants as bases
 use Rattle.osm_table.specs.declared.entry.Why.{Why}
@@ -31,7 +31,7 @@ use Rattle.opl_line.specs.Written.{back_pieces, content_pieces, front_pieces, me
 use Rattle.opl_line.proofs.ListsAgain.{text_unbroken}
 use Rattle.opl_line.proofs.Unbroken.{AllUnbroken, Unbroken, all_unbroken_append, coord_unbroken, decimal_unbroken, key_unbroken, signed_unbroken, unbroken_append, unbroken_from, unbroken_listed, unbroken_spaced}
 use Rattle.saved_session.specs.Words.{base_written, head_written, header_written, mine_word, mine_written, why_written, words_of, words_written}
-use Rattle.saved_session.specs.Saved.{base_lines, entries_lines, entry_lines, meta_of, mine_lines, mine_version, own_written, server_written, theirs_lines}
+use Rattle.saved_session.specs.Saved.{base_lines, entries_lines, entry_lines, mine_lines, mine_version, own_written, server_written, theirs_lines}
 use Rattle.saved_session.specs.Reading.{Entries}
 use Rattle.saved_session.specs.declared.words.BaseWord.{BaseWord}
 use Rattle.saved_session.specs.declared.words.BaseWord.TheVariants.{New, Live, Gone}

@@ -14,9 +14,8 @@ use Rattle.std.specs.List.{flat_map}
 use Rattle.std.specs.FinMap as fin
 use Rattle.osm_base.specs.Meta.{empty_meta}
 use Rattle.osm_base.specs.declared.key.Key.{Key}
-use Rattle.osm_base.specs.declared.meta.Meta.{Meta}
 use Rattle.osm_base.specs.declared.content.Content.{Content}
-use Rattle.osm_table.specs.Table.{TableValue, entry_of, held_by, keys_by_rank, version_of}
+use Rattle.osm_table.specs.Table.{TableValue, entry_of, held_by, keys_by_rank, meta_of, version_of}
 use Rattle.osm_table.specs.declared.entry.Base.{Base}
 use Rattle.osm_table.specs.declared.entry.Base.TheVariants.{New, Live, Gone}
 use Rattle.osm_table.specs.declared.entry.Conflict.{Conflict}
@@ -27,12 +26,6 @@ use Rattle.saved_session.specs.declared.words.MineWord.{MineWord}
 use Rattle.saved_session.specs.declared.words.MineWord.TheVariants.{Same, Absent, Own}
 use Rattle.saved_session.specs.declared.words.Head.TheVariants.{Incomplete, Known}
 use Rattle.saved_session.specs.Words.{words_of, mine_word, end_written, head_written, header_written}
-
--- the metadata of a base, the empty ones where no server has the object
-abbrev pub meta_of : Base → Meta
-meta_of New = empty_meta
-meta_of (Live version content meta) = meta
-meta_of (Gone version meta) = meta
 
 -- the written form of what a server has
 abbrev pub server_written : Key → Base → List ℕ

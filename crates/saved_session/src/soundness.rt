@@ -10,9 +10,8 @@ ghost use Rattle.saved_session.specs.Reading.{table_of};
 ghost use Rattle.saved_session.specs.SoundTest.{is_positive, is_given, is_version, has_version, is_live, is_gone, of_kind, from_server, told_fits, id_fits, why_fits, conflict_fits, limits_fit, is_sound_entry, is_there, refs_there, is_sound_at, first_unsound};
 
 use crate::keyed::KeyedTable;
-use crate::writing::same_mine;
 use osm_base::{Content, Key, fits, push_references, same_key};
-use osm_table::{Base, Conflict, EntryParts, SharedEntry, Why};
+use osm_table::{Base, Conflict, EntryParts, SharedEntry, Why, same_mine};
 use std::alloc::AllocError;
 use std::cell::Cell;
 

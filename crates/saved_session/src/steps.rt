@@ -10,11 +10,11 @@ ghost use Rattle.saved_session.specs.Reading.{object_written, object_text, objec
 use crate::heads::{cut_word, read_head};
 use crate::place::{Place, Step};
 use crate::words::{BaseWord, Head, MineWord, Words};
-use crate::writing::{mine_version, same_mine};
+use crate::writing::mine_version;
 use opl_file::Unread;
 use opl_line::{LineKind, Mode, OplObject, Pool, read_line, write_line};
 use osm_base::{Content, Key, Meta, rank, same_key};
-use osm_table::{Base, Conflict, Entry, Shared, SharedEntry, Why};
+use osm_table::{Base, Conflict, Entry, Shared, SharedEntry, Why, same_mine};
 use std::alloc::{AllocError, Global};
 
 /// What the reader of lines has at hand: its texts, and room for what it writes to compare.

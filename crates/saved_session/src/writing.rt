@@ -4,19 +4,18 @@ ghost use Rattle.std.specs.List.{flat_map};
 ghost use Rattle.std.specs.Option.{option_copied};
 ghost use Rattle.osm_base.specs.Extends.{Extends};
 ghost use Rattle.osm_base.specs.Meta.{empty_meta};
-ghost use Rattle.osm_table.specs.Same.{same_mine};
 ghost use Rattle.osm_table.specs.Table.{held_by};
 ghost use Rattle.osm_table.specs.declared.entry.Entry.TheVariants as entries;
 ghost use Rattle.saved_session.specs.Words.{base_word, mine_word, why_word, words_of, base_written, mine_written, why_written, words_written, head_written, header_written};
 ghost use Rattle.saved_session.specs.declared.words.Head.TheVariants.{Incomplete, Known};
-ghost use Rattle.saved_session.specs.Saved.{base_lines, ended, entry_written, meta_of, mine_lines, mine_version, saved, saved_end, saved_entry, saved_head, server_written, theirs_lines};
+ghost use Rattle.saved_session.specs.Saved.{base_lines, ended, entry_written, mine_lines, mine_version, saved, saved_end, saved_entry, saved_head, server_written, theirs_lines};
 ghost use Rattle.saved_session.specs.Pieces.{known_written, sides_written};
 
 use crate::words::{BaseWord, Head, MineWord, Words};
 use dataset::DataSet;
 use opl_line::write_line;
-use osm_base::{Content, Key, Meta, same, write_digits, write_key};
-use osm_table::{Base, Conflict, EntryParts, SharedEntry, Why};
+use osm_base::{Content, Key, Meta, write_digits, write_key};
+use osm_table::{Base, Conflict, EntryParts, SharedEntry, Why, same_mine};
 use std::alloc::AllocError;
 
 /// The word for a base.
@@ -27,17 +26,6 @@ fn base_word(base: &Base) -> BaseWord
         Base::New => BaseWord::New,
         Base::Live { .. } => BaseWord::Live,
         Base::Gone { .. } => BaseWord::Gone,
-    }
-}
-
-/// Whether both or neither are living, with the same content.
-pub fn same_mine(a: Option<&Content>, b: Option<&Content>) -> bool
-    ensures { result ≡ same_mine (option_copied a.entry) (option_copied b.entry) }
-{
-    match (a, b) {
-        (None, None) => true,
-        (Some(a), Some(b)) => same(a, b),
-        _ => false,
     }
 }
 
@@ -177,16 +165,6 @@ pub fn write_header(next: u64, out: &mut Vec<u8>) -> Result<(), AllocError>
     Ok(())
 }
 
-fn meta_of<'a>(base: &'a Base, unknown: &'a Meta) -> &'a Meta
-    requires { unknown.now ≡ empty_meta }
-    ensures { result.now ≡ meta_of base.now }
-{
-    match base {
-        Base::New => unknown,
-        Base::Live { meta, .. } | Base::Gone { meta, .. } => meta,
-    }
-}
-
 /// The version that stands for mine.
 pub fn mine_version(id: i64) -> u32
     ensures { result ≡ mine_version id }
@@ -201,7 +179,7 @@ fn write_server(key: Key, base: &Base, unknown: &Meta, out: &mut Vec<u8>) -> Res
     ensures written { OnOk result (out.new.items ≡ out.old.items ++ server_written key base.now) }
     ensures kept { OnErr result (Extends out.old.items out.new.items) }
 {
-    let meta = meta_of(base, unknown);
+    let meta = base.meta(unknown);
     write_line(key, base.version(), base.content(), meta, out)
 }
 
