@@ -3,7 +3,7 @@
 use crate::tag_keys::TagKeys;
 
 /// One of the two sides of a conflict.
-#[derive(Clone, Copy, Debug, PartialEq, Eq)]
+#[derive(Clone, Copy)]
 pub enum Side {
     /// What the user has.
     Mine,

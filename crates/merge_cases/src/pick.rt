@@ -6,7 +6,7 @@ ghost use Rattle.merge_cases.specs.Join.{stands, same_value, tag_pick, body_pick
 use osm_base::{Content, Tags};
 
 /// Whose part of an object stands.
-#[derive(Clone, Copy, Debug, PartialEq, Eq)]
+#[derive(Clone, Copy, PartialEq, Eq)]
 pub enum Pick {
     /// Mine: theirs is the same, or only I changed it.
     Mine,

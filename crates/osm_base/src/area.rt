@@ -5,7 +5,7 @@
 /// `west` and `east` bound the longitudes, `south` and `north` the latitudes. Whether the edges
 /// belong to it, and what a box is worth whose `west` is beyond its `east`, is for its user to
 /// say.
-#[derive(Clone, Copy, Debug, PartialEq, Eq)]
+#[derive(Clone, Copy)]
 pub struct Area {
     pub west: i32,
     pub south: i32,

@@ -25,7 +25,7 @@ const MOST_NODES: usize = 2_000;
 const MOST_MEMBERS: usize = 32_000;
 
 /// What an object has beside its key and its metadata.
-#[derive(Debug, Drop)]
+#[derive(Drop)]
 pub enum Content {
     /// A node: a place.
     Node { tags: Tags, at: Coord },

@@ -10,7 +10,7 @@ ghost use Rattle.osm_base.specs.OnMap.{is_on_map};
 ///
 /// The longitude is from -1800000000 to 1800000000 and the latitude from -900000000 to 900000000:
 /// there is no other `Coord`, so nobody has to test one. `coord_of` makes one of any two numbers.
-#[derive(Clone, Copy, Debug, PartialEq, Eq)]
+#[derive(Clone, Copy, PartialEq, Eq)]
 pub struct Coord {
     pub lon: i32,
     pub lat: i32,

@@ -22,7 +22,7 @@ use std::cmp::Ordering;
 use std::hash::{Hash, Hasher};
 
 /// What an object of the map is (API 0.6).
-#[derive(Clone, Copy, Debug, PartialEq, Eq, Hash)]
+#[derive(Clone, Copy, Debug, PartialEq, Eq)]
 pub enum Kind {
     Node,
     Way,

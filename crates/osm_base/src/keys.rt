@@ -6,7 +6,7 @@ use std::alloc::{AllocError, Global};
 use std::marker::Model;
 
 /// A list of keys.
-#[derive(Debug, Drop)]
+#[derive(Drop)]
 pub struct Keys {
     items: Vec<Key>,
 }

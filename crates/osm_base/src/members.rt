@@ -9,7 +9,7 @@ use std::marker::Model;
 use std::rc::Rc;
 
 /// One member of a relation.
-#[derive(Debug, Drop)]
+#[derive(Drop)]
 pub struct Member {
     /// The object that is a member.
     pub key: Key,
@@ -22,7 +22,7 @@ pub struct Member {
 ///
 /// Copies share one list until one of them is changed. An empty list has a block too, so that there
 /// is no option here and a list takes 8 bytes where it is kept.
-#[derive(Debug, Drop)]
+#[derive(Drop)]
 pub struct Members {
     alloc: Global,
     shared: Rc<Vec<Member>>,

@@ -8,7 +8,7 @@ use crate::text::Text;
 use std::alloc::{AllocError, Global};
 
 /// A time in UTC, to the second.
-#[derive(Clone, Copy, Debug, PartialEq, Eq)]
+#[derive(Clone, Copy, PartialEq, Eq)]
 pub struct Stamp {
     /// The year, 1 to 9999.
     pub year: u16,
@@ -30,7 +30,7 @@ pub struct Stamp {
 }
 
 /// What is known of an object's last change (API 0.6).
-#[derive(Debug, Drop)]
+#[derive(Drop)]
 pub struct Meta {
     /// The changeset that it belongs to, 0 where unknown.
     pub changeset: u32,

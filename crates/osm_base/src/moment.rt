@@ -6,13 +6,13 @@ use std::marker::Model;
 
 /// When an object was changed last, or that nobody knows. Clauses see it as an `Option<Stamp>`, which
 /// would take 10 bytes; as it is kept it takes 8, and an object's metadata 24.
-#[derive(Debug, Drop)]
+#[derive(Drop)]
 pub struct Moment {
     kept: Kept,
 }
 
 /// A time as it is kept. Its year stands last, since then no byte is lost behind the tag.
-#[derive(Debug, Drop)]
+#[derive(Drop)]
 enum Kept {
     Unknown,
     Known {

@@ -10,7 +10,7 @@ use std::rc::Rc;
 ///
 /// Copies share one list until one of them is changed. An empty list has a block too, so that there
 /// is no option here and a list takes 8 bytes where it is kept.
-#[derive(Debug, Drop)]
+#[derive(Drop)]
 pub struct Refs {
     alloc: Global,
     shared: Rc<Vec<i64>>,

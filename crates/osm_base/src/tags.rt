@@ -16,7 +16,7 @@ use std::marker::Model;
 /// No key is empty, and none stands twice. The texts are shared with those of other tags, the list
 /// is not. It stands behind a box, so that tags take 16 bytes where they are kept; where no tag is
 /// left there is neither box nor list. Each call finds its place by a binary search.
-#[derive(Debug, Drop)]
+#[derive(Drop)]
 pub struct Tags {
     alloc: Global,
     items: Pairs,

@@ -11,7 +11,7 @@ use thiserror::Error;
 /// A text in UTF-8: a tag's key or value, a member's role, a user's name.
 ///
 /// It is never changed, so all copies of one text share its bytes.
-#[derive(Debug, Drop)]
+#[derive(Drop)]
 pub struct Text {
     shared: Rc<String>,
 }

@@ -10,7 +10,7 @@ use osm_base::{Content, Meta, same};
 use std::alloc::AllocError;
 
 /// The state of an object at a server.
-#[derive(Debug, Drop)]
+#[derive(Drop)]
 pub enum Base {
     /// No server knows it.
     New,
@@ -28,7 +28,7 @@ pub enum Base {
 }
 
 /// Why an object is in conflict.
-#[derive(Clone, Copy, Debug, PartialEq, Eq)]
+#[derive(Clone, Copy, PartialEq, Eq)]
 pub enum Why {
     /// The server has a newer state, and mine is changed too.
     Changed,
@@ -39,14 +39,14 @@ pub enum Why {
 }
 
 /// A state of the server that mine was not merged with.
-#[derive(Debug, Drop)]
+#[derive(Drop)]
 pub struct Conflict {
     pub why: Why,
     pub theirs: Base,
 }
 
 /// What is known of an object. Tables keep it as a `SharedEntry`.
-#[derive(Debug, Drop)]
+#[derive(Drop)]
 pub enum Entry {
     /// It is at the server, since another object refers to it. No more is known.
     Incomplete,

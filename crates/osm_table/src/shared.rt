@@ -6,7 +6,7 @@ use std::marker::Model;
 use std::rc::Rc;
 
 /// A value in a block of its own. It is never changed, so all copies share the block. Clauses see it as the value.
-#[derive(Debug, Drop)]
+#[derive(Drop)]
 pub struct Shared<T> {
     shared: Rc<T>,
 }

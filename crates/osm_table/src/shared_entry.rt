@@ -21,13 +21,13 @@ use std::rc::Rc;
 
 /// An entry in a block of its own. It is never changed, so all copies share the block: those in a told map, a draft, the
 /// table and the patches that led there.
-#[derive(Debug, Drop)]
+#[derive(Drop)]
 pub struct SharedEntry {
     shared: Rc<Kept>,
 }
 
 /// How an entry is kept.
-#[derive(Debug, Drop)]
+#[derive(Drop)]
 enum Kept {
     Incomplete,
     /// Mine is what the base holds, and there is no conflict.
@@ -35,7 +35,7 @@ enum Kept {
     Other { parts: Box<Parts> },
 }
 
-#[derive(Debug, Drop)]
+#[derive(Drop)]
 struct Parts {
     base: Base,
     mine: Option<Content>,
@@ -43,7 +43,7 @@ struct Parts {
 }
 
 /// The parts of an entry, lent.
-#[derive(Clone, Copy, Debug)]
+#[derive(Clone, Copy)]
 pub enum EntryParts<'a> {
     /// It is at the server, since another object refers to it. No more is known.
     Incomplete,

@@ -2,7 +2,7 @@
 use osm_base::{Content, Meta};
 
 /// What a download tells of one object.
-#[derive(Debug, Drop)]
+#[derive(Drop)]
 pub enum Told {
     /// Another object of the download refers to it.
     Mentioned,

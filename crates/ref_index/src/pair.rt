@@ -2,7 +2,7 @@
 use osm_base::Key;
 
 /// An object and one that refers to it.
-#[derive(Clone, Copy, Debug, PartialEq, Eq, Hash)]
+#[derive(Clone, Copy, PartialEq, Eq, Hash)]
 pub struct Pair {
     /// What is referred to.
     pub of: Key,
