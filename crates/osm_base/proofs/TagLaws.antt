@@ -1,11 +1,12 @@
 -- What a change of tags leaves: its look-ups, its order, its place.
-use Rattle.std.proofs.Common.{◌≡◌, ℕ, ◌<◌, Bool, true, false, not, cond, List, [], ◌∷◌, ◌++◌, length, Some, is_some, refl, sym, ◌∙◌, ap, subst}
+use Rattle.std.proofs.Common.{◌≡◌, ℕ, ◌<◌, Bool, true, false, not, cond, List, [], ◌∷◌, ◌++◌, length, Option, Some, is_some, refl, sym, ◌∙◌, ap, subst}
 use Rattle.std.specs.declared.cmp.Ordering.TheVariants.{Less, Equal, Greater}
 use Rattle.std.specs.Ordering.{eq_by_cmp, is_lt, is_eq, ordering_reverse}
+use Rattle.std.specs.Cmp.{Equal-is}
 use Rattle.std.specs.List.{list_all, filter}
 use Rattle.std.specs.Prelude.{nat_lt, T}
 use Rattle.std.specs.FinMap.{slice_cmp-IsAntisymmetric, nat_cmp-IsAntisymmetric, is_sorted}
-use Rattle.std.specs.FinMap.Entries.{is_sorted-put, is_sorted-where_key, find-put, is_some-find, by_order, below_all}
+use Rattle.std.specs.FinMap.Entries.{is_sorted-put, is_sorted-where_key, find-put, is_some-find, by_order, below_all, same_entries}
 use Rattle.std.proofs.lemmas.Bool.{lt-ltb}
 use Rattle.std.proofs.lemmas.Cmp.{nat_list_cmp_total, tied_itself}
 use Rattle.osm_base.proofs.AnyMap.{list_any_map}
@@ -15,6 +16,9 @@ use Rattle.osm_base.proofs.Tests.{both_T, first_T, second_T, less_from_T}
 -- Keys that tie are one.
 pub one_key : (k j : List ℕ) → bytes_cmp k j ≡ Equal → k ≡ j
 one_key = slice_cmp-IsAntisymmetric nat_cmp-IsAntisymmetric
+
+pub same_keys : (k j : List ℕ) → eq_by_cmp bytes_cmp k j ≡ true → k ≡ j
+same_keys k j e = one_key k j ((Equal-is (bytes_cmp k j)).0 e)
 
 pub key_itself : (key : List ℕ) → eq_by_cmp bytes_cmp key key ≡ true
 key_itself key = ap is_eq (tied_itself nat_list_cmp_total key)
@@ -92,3 +96,20 @@ put_last front back t h = sorted_put_last front back t (first_T (is_sorted bytes
 -- and its key is not there yet.
 pub has_last : (front back : List Pair) (t : Pair) → T (are_tags (front ++ t ∷ back)) → has_tag front t.0 ≡ false
 has_last front back t h = sorted_has_last front back t (first_T (is_sorted bytes_cmp (front ++ t ∷ back)) _ h)
+
+two_found : (a b : Bool) (x y z : Option (List ℕ)) → (a ≡ true → b ≡ true → ⊥) → cond a x (cond b y z) ≡ cond b y (cond a x z)
+two_found true true x y z apart = absurd (apart refl refl)
+two_found true false x y z apart = refl
+two_found false b x y z apart = refl
+
+-- Tags of two keys may be put in either order.
+pub either_first : (tags : List Pair) (a b : Pair) → T (is_sorted bytes_cmp tags) → eq_by_cmp bytes_cmp b.0 a.0 ≡ false → with_tag (with_tag tags a.0 a.1) b.0 b.1 ≡ with_tag (with_tag tags b.0 b.1) a.0 a.1
+either_first tags a b sorted apart =
+    let put : (t : Pair) (ts : List Pair) → T (is_sorted bytes_cmp ts) → T (is_sorted bytes_cmp (with_tag ts t.0 t.1)) = λ t ts h. is_sorted-put bytes_cmp nat_list_cmp_total t.0 t.1 ts h in
+    same_entries bytes_cmp nat_list_cmp_total one_key _ _ (put b (with_tag tags a.0 a.1) (put a tags sorted)) (put a (with_tag tags b.0 b.1) (put b tags sorted))
+    (λ q. find-put bytes_cmp nat_list_cmp_total q b.0 b.1 (with_tag tags a.0 a.1) ∙ ap (λ o. cond (eq_by_cmp bytes_cmp q b.0) (Some b.1) o) (find-put bytes_cmp nat_list_cmp_total q a.0 a.1 tags)
+    ∙ two_found (eq_by_cmp bytes_cmp q b.0) (eq_by_cmp bytes_cmp q a.0) (Some b.1) (Some a.1) (value_of tags q)
+    (λ is_b is_a. let same : b.0 ≡ a.0 = sym (same_keys q b.0 is_b) ∙ same_keys q a.0 is_a in
+    let one : eq_by_cmp bytes_cmp b.0 a.0 ≡ true = ap (λ (k : List ℕ). eq_by_cmp bytes_cmp b.0 k) (sym same) ∙ key_itself b.0 in
+    let bad : ⊥ = cc in bad)
+    ∙ ap (λ o. cond (eq_by_cmp bytes_cmp q a.0) (Some a.1) o) (sym (find-put bytes_cmp nat_list_cmp_total q b.0 b.1 tags)) ∙ sym (find-put bytes_cmp nat_list_cmp_total q a.0 a.1 (with_tag tags b.0 b.1)))
