@@ -17,15 +17,14 @@ use Rattle.osm_base.specs.RisingKeys.{is_in, with_key}
 use Rattle.osm_base.specs.declared.key.Key.{Key}
 use Rattle.osm_base.proofs.ByRank.{eq_turned}
 use Rattle.osm_base.proofs.RisingKeys.{one_key, key_itself}
-use Rattle.osm_table.specs.declared.entry.Entry.{Entry}
 use Rattle.osm_table.specs.declared.told.Told.{Told}
-use Rattle.osm_table.specs.Told.{ToldValue, entry_told, told_at, told_of}
+use Rattle.osm_table.specs.Told.{ToldValue, entry_told, told_at}
 use Rattle.ref_index.specs.declared.pair.Pair.{Pair}
 use Rattle.ref_index.specs.Bag.{Bag, count, is_pair, pair_cmp}
 use Rattle.ref_index.specs.Users.{users_of, is_listed}
 use Rattle.ref_index.proofs.Agreement.{one_pair, pair_parts}
 use Rattle.ref_index.proofs.ListViews as views
-use Rattle.dataset.specs.Exact.{refs_at, pairs_of}
+use Rattle.dataset.specs.Exact.{refs_at, pairs_with}
 use Rattle.dataset.specs.ToldIndex.{refs_told, is_kept, AreBeside}
 use Rattle.dataset.proofs.ToldIndex.{apart}
 
@@ -187,13 +186,13 @@ object_case false true of_one of_user new h e = e
 object_case false false of_one of_user new h e = e
 
 -- one object more
-pub more_kept : (m : ToldValue) (i : ℕ) (k : Key) (e : Entry) (old new : List (List Key)) (others added : Bag) → i < length m.order → k ≡ get_or m.order i k → told_at m k ≡ Some (told_of e) → entry_told (told_of e) ≡ e
-    → ((p : Pair) → is_kept m new added p ≡ (list_any (is_pair p) (pairs_of k (Some e)) || is_kept m old others p)) → AreKept m (take i m.order) old others → AreKept m (take (i + 1) m.order) new added
-more_kept m i k e old new others added within at told is puts kept p =
-    object_case (is_key p.user k) (is_in p.user (take i m.order)) (is_in p.of (refs_at (Some e))) (is_in p.of (refs_told m p.user)) (is_kept m new added p)
-    (λ one. ap (λ (o : Option Entry). is_in p.of (refs_at o)) (sym (ap (λ (j : Key). option_map entry_told (told_at m j)) (one_key p.user k one) ∙ ap (option_map entry_told) told ∙ ap Some is)))
-    (puts p ∙ (λ j. pairs_any k (refs_at (Some e)) p j || kept p j))
-    ∙ ap (λ b. b && is_in p.of (refs_told m p.user)) (sym (ap (λ (ks : List Key). is_in p.user ks) (take_more m.order i k within ∙ ap (λ (j : Key). take i m.order ++ j ∷ []) (sym at)) ∙ list_any-append (is_key p.user) (take i m.order) (k ∷ [])))
+pub more_kept : (m : ToldValue) (ks : List Key) (i : ℕ) (k d : Key) (old new : List (List Key)) (others added : Bag) → i < length ks → k ≡ get_or ks i d
+    → ((p : Pair) → is_kept m new added p ≡ (list_any (is_pair p) (pairs_with k (refs_told m k)) || is_kept m old others p)) → AreKept m (take i ks) old others → AreKept m (take (i + 1) ks) new added
+more_kept m ks i k d old new others added within at puts kept p =
+    object_case (is_key p.user k) (is_in p.user (take i ks)) (is_in p.of (refs_told m k)) (is_in p.of (refs_told m p.user)) (is_kept m new added p)
+    (λ one. ap (λ (j : Key). is_in p.of (refs_told m j)) (sym (one_key p.user k one)))
+    (puts p ∙ (λ j. pairs_any k (refs_told m k) p j || kept p j))
+    ∙ ap (λ b. b && is_in p.of (refs_told m p.user)) (sym (ap (λ (js : List Key). is_in p.user js) (take_more ks i d within ∙ ap (λ (j : Key). take i ks ++ j ∷ []) (sym at)) ∙ list_any-append (is_key p.user) (take i ks) (k ∷ [])))
 
 told_case : (of : Key) (o : Option Told) (b : Bool) → b ≡ is_some o → (b && is_in of (refs_at (option_map entry_told o))) ≡ is_in of (refs_at (option_map entry_told o))
 told_case of None true e = cc
@@ -201,10 +200,11 @@ told_case of None false e = refl
 told_case of (Some told) true e = refl
 told_case of (Some told) false e = cc
 
-pub all_kept : (m : ToldValue) (i : ℕ) (users : List (List Key)) (others : Bag) → length m.order ≤ i → ((k : Key) → list_any (is_key k) m.order ≡ is_some (told_at m k)) → length users ≡ length m.order → AreKept m (take i m.order) users others → AreBeside m users others
-all_kept m i users others all each places kept = record {
+-- and all of them
+pub all_kept : (m : ToldValue) (ks : List Key) (i : ℕ) (users : List (List Key)) (others : Bag) → ks ≡ fin.keys m.told → length ks ≤ i → length users ≡ length m.order → AreKept m (take i ks) users others → AreBeside m users others
+all_kept m ks i users others by_rank all places kept = record {
   places = places;
-  exact = λ p. kept p ∙ told_case p.of (told_at m p.user) (is_in p.user (take i m.order)) (ap (λ (ks : List Key). is_in p.user ks) (take_all i m.order all) ∙ each p.user);
+  exact = λ p. kept p ∙ told_case p.of (told_at m p.user) (is_in p.user (take i ks)) (ap (λ (js : List Key). is_in p.user js) (take_all i ks all ∙ by_rank) ∙ sym (fin.contains_key-keys m.told p.user));
 }
 
 -- What is lent.

@@ -88,6 +88,9 @@ pub next_edit : (side : Edit → Option Entry) (es : List Edit) (i : ℕ) (e : E
 next_edit side es i e p within at =
     ap (λ (xs : List Edit). times p (pairs_by side xs)) (take_more es i e within ∙ ap (λ (x : Edit). take i es ++ x ∷ []) (sym at)) ∙ more_edits side (take i es) e p
 
+pub last_edit : (side : Edit → Option Entry) (es : List Edit) (i j : ℕ) (e : Edit) (p : Pair) → i ≡ j + 1 → j < length es → e ≡ get_or es j e → times p (pairs_by side (take i es)) ≡ times p (moved_pairs side e) + times p (pairs_by side (take j es))
+last_edit side es i j e p last within at = ap (λ n. times p (pairs_by side (take n es))) last ∙ next_edit side es j e p within at
+
 -- the pairs of what stands there are counted by an exact index
 pub gone_there : (side : Edit → Option Entry) (es : List Edit) (t : TableValue) (number : Pair → ℕ) → T (in_order es) → ((k : Key) (e : Edit) → edit_at k es ≡ Some e → entry_of t k ≡ side e) → IsExact t number → (p : Pair) → times p (pairs_by side es) ≤ number p
 gone_there side es t number h stands exact p =

@@ -1,7 +1,7 @@
 -- The index of what the objects refer to that are told of as living, object by object.
-use Rattle.std.proofs.Common.{◌≡◌, ℕ, ◌+◌, ◌<◌, ◌≤◌, zero, suc, ◌||◌, Bool, true, false, cond, is_some, Option, Some, None, List, [], ◌∷◌, ◌++◌, length, take, get_or, refl, sym, ◌∙◌, ap, arith}
+use Rattle.std.proofs.Common.{◌≡◌, ℕ, ◌+◌, ◌<◌, ◌≤◌, zero, suc, ◌||◌, Bool, true, false, cond, is_some, Option, Some, None, List, [], ◌∷◌, ◌++◌, length, take, get_or, refl, sym, subst, ◌∙◌, ap, arith}
 use Rattle.std.specs.Option.{option_map, unwrap_or}
-use Rattle.std.specs.List.{AllByRecursion, list_any, IsDistinct}
+use Rattle.std.specs.List.{AllByRecursion, IsDistinct}
 use Rattle.std.specs.FinMap as fin
 use Rattle.std.proofs.lemmas.List.{take_more, take_all}
 use Rattle.std.proofs.lemmas.List.Folds.{list_any-append}
@@ -14,13 +14,14 @@ use Rattle.osm_base.specs.declared.key.Key.{Key}
 use Rattle.osm_base.proofs.RisingKeys.{one_key, key_turned}
 use Rattle.osm_table.specs.declared.entry.Entry.{Entry}
 use Rattle.osm_table.specs.declared.told.Told.{Told}
-use Rattle.osm_table.specs.Told.{ToldEntries, ToldValue, entry_told, told_at, told_of, table_told}
+use Rattle.osm_table.specs.Told.{ToldEntries, ToldValue, entry_told, table_told}
 use Rattle.osm_table.proofs.TableTold.{table_told_at}
 use Rattle.ref_index.specs.declared.pair.Pair.{Pair}
 use Rattle.ref_index.specs.Bag.{Bag, count, times, pair_cmp}
-use Rattle.dataset.specs.Exact.{IsExact, refs_at, times_key, pairs_of}
+use Rattle.dataset.specs.Exact.{IsExact, refs_at, times_key, pairs_with}
 use Rattle.dataset.specs.ToldIndex.{refs_told}
 use Rattle.dataset.proofs.Exactness.{listed_pairs}
+use Rattle.dataset.proofs.Whole.{distinct_keys}
 
 -- the entry of an object of which no more is known than what is told
 abbrev entry_at : ToldEntries → Key → Option Entry
@@ -57,17 +58,20 @@ more_case true false refs here old new n once same en eo e = omega (arith, en, e
 more_case false true refs here old new n once same en eo e = let s : refs ≡ here = same refl in omega (arith, s, en, eo, e)
 more_case false false refs here old new n once same en eo e = omega (arith, en, eo, e)
 
+distinct : (m : ToldValue) (ks : List Key) → ks ≡ fin.keys m.told → IsDistinct eq ks
+distinct m ks by_rank = subst (λ (E : Key → Key → Bool). IsDistinct E ks) (λ i x y. sym (rank_ties x y) i) (subst (IsDistinct is_key) (sym by_rank) (distinct_keys (fin.entries m.told) (fin.entries_sorted m.told)))
+
 -- one object more
-pub more_indexed : (m : ToldValue) (i : ℕ) (k : Key) (e : Entry) (old new : Bag) → IsDistinct eq m.order → i < length m.order → k ≡ get_or m.order i k → told_at m k ≡ Some (told_of e) → entry_told (told_of e) ≡ e
-    → ((p : Pair) → count new p ≡ times p (pairs_of k (Some e)) + count old p) → AreIndexed m.told (take i m.order) old → AreIndexed m.told (take (i + 1) m.order) new
-more_indexed m i k e old new distinct within at told is added indexed of user =
-    more_case (is_in user (take i m.order)) (is_key user k) (times_key of (refs_at (Some e))) (times_key of (refs_at (entry_at m.told user))) (count old (record { of = of; user = user })) (count new (record { of = of; user = user })) (times (record { of = of; user = user }) (pairs_of k (Some e)))
-    (λ t. ap (λ (j : Key). is_in j (take i m.order)) (one_key user k t ∙ at) ∙ once m.order i k distinct within)
-    (λ t. ap (λ (o : Option Entry). times_key of (refs_at o)) (sym (ap (λ (j : Key). entry_at m.told j) (one_key user k t) ∙ ap (option_map entry_told) told ∙ ap Some is)))
-    (listed_pairs of user k (refs_at (Some e)))
+pub more_indexed : (m : ToldValue) (ks : List Key) (i : ℕ) (k d : Key) (old new : Bag) → ks ≡ fin.keys m.told → i < length ks → k ≡ get_or ks i d
+    → ((p : Pair) → count new p ≡ times p (pairs_with k (refs_told m k)) + count old p) → AreIndexed m.told (take i ks) old → AreIndexed m.told (take (i + 1) ks) new
+more_indexed m ks i k d old new by_rank within at added indexed of user =
+    more_case (is_in user (take i ks)) (is_key user k) (times_key of (refs_told m k)) (times_key of (refs_told m user)) (count old (record { of = of; user = user })) (count new (record { of = of; user = user })) (times (record { of = of; user = user }) (pairs_with k (refs_told m k)))
+    (λ t. ap (λ (j : Key). is_in j (take i ks)) (one_key user k t ∙ at) ∙ once ks i d (distinct m ks by_rank) within)
+    (λ t. ap (λ (j : Key). times_key of (refs_told m j)) (sym (one_key user k t)))
+    (listed_pairs of user k (refs_told m k))
     (indexed of user)
     (added (record { of = of; user = user }))
-    ∙ ap (λ b. cond b (times_key of (refs_at (entry_at m.told user))) 0) (sym (ap (λ (ks : List Key). is_in user ks) (take_more m.order i k within ∙ ap (λ (j : Key). take i m.order ++ j ∷ []) (sym at)) ∙ list_any-append (is_key user) (take i m.order) (k ∷ [])))
+    ∙ ap (λ b. cond b (times_key of (refs_told m user)) 0) (sym (ap (λ (js : List Key). is_in user js) (take_more ks i d within ∙ ap (λ (j : Key). take i ks ++ j ∷ []) (sym at)) ∙ list_any-append (is_key user) (take i ks) (k ∷ [])))
 
 there_case : (of : Key) (o : Option Told) (b : Bool) → b ≡ is_some o → cond b (times_key of (refs_at (option_map entry_told o))) 0 ≡ times_key of (refs_at (option_map entry_told o))
 there_case of None true e = cc
@@ -76,10 +80,10 @@ there_case of (Some told) true e = refl
 there_case of (Some told) false e = cc
 
 -- all objects
-pub all_indexed : (m : ToldValue) (i : ℕ) (bag : Bag) → length m.order ≤ i → ((k : Key) → list_any (is_key k) m.order ≡ is_some (told_at m k)) → AreIndexed m.told (take i m.order) bag → (p : Pair) → count bag p ≡ times_key p.of (refs_told m p.user)
-all_indexed m i bag all each indexed p =
+pub all_indexed : (m : ToldValue) (ks : List Key) (i : ℕ) (bag : Bag) → ks ≡ fin.keys m.told → length ks ≤ i → AreIndexed m.told (take i ks) bag → (p : Pair) → count bag p ≡ times_key p.of (refs_told m p.user)
+all_indexed m ks i bag by_rank all indexed p =
     indexed p.of p.user
-    ∙ there_case p.of (fin.get m.told p.user) (is_in p.user (take i m.order)) (ap (λ (ks : List Key). is_in p.user ks) (take_all i m.order all) ∙ each p.user)
+    ∙ there_case p.of (fin.get m.told p.user) (is_in p.user (take i ks)) (ap (λ (js : List Key). is_in p.user js) (take_all i ks all ∙ by_rank) ∙ sym (fin.contains_key-keys m.told p.user))
 
 -- and so is the table of what is told
 pub told_exact : (m : ToldValue) (next : ℕ) (number : Pair → ℕ) → ((p : Pair) → number p ≡ times_key p.of (refs_told m p.user)) → IsExact (table_told m.told next) number

@@ -21,7 +21,7 @@ apart k [] h = tt
 apart k (e ∷ es) h = (no_tie (rank_cmp k e.0) (first_T (is_lt (rank_cmp k e.0)) _ h), apart k es (second_T (is_lt (rank_cmp k e.0)) _ h))
 
 -- no two keys of sorted entries are one
-distinct_keys : {V : Type 0} (es : List (Key × V)) → T (is_sorted rank_cmp es) → IsDistinct is_key (keys_of es)
+pub distinct_keys : {V : Type 0} (es : List (Key × V)) → T (is_sorted rank_cmp es) → IsDistinct is_key (keys_of es)
 unfolding IsDistinct
 distinct_keys [] h = tt
 distinct_keys (e ∷ es) h = (apart e.0 es (first_T (below_all rank_cmp e.0 es) _ h), distinct_keys es (second_T (below_all rank_cmp e.0 es) _ h))

@@ -34,7 +34,8 @@ impl Index {
     }
 
     /// An index of what the objects that are told of as living refer to. Costs one search a reference at
-    /// most, and beside the told map 24 bytes a key and the blocks of those that several use.
+    /// most, and beside the told map 24 bytes a key and the blocks of those that several use. Where they
+    /// weren't told by rank, it sorts a list of their keys and costs one search an object more.
     ///
     /// # Errors
     ///

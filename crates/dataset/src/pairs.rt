@@ -1,12 +1,13 @@
 //! The pairs that come and go with edits, and those of one content. They enter the index one by one,
 //! so no list of them takes memory.
-ghost use Rattle.std.specs.Prelude.{◌≡◌, ◌+◌, ◌<◌, ◌≤◌, not, if◌then◌else◌, None, Some, length, take, slice_index_or, OnOk, OnErr, IfOk};
+ghost use Rattle.std.specs.Prelude.{◌≡◌, ◌+◌, ◌<◌, ◌≤◌, not, if◌then◌else◌, None, length, take, slice_index_or, OnOk, OnErr, IfOk};
 ghost use Rattle.std.specs.List.{list_all};
-ghost use Rattle.std.specs.Option.{option_copied};
+ghost use Rattle.std.specs.Option.{option_copied, option_map};
 ghost use Rattle.osm_base.specs.Content.{refs_of};
+ghost use Rattle.osm_table.specs.Told.{entry_told, told_at};
 ghost use Rattle.ref_index.specs.declared.pair.Pair.{Pair};
 ghost use Rattle.ref_index.specs.Bag.{count, times};
-ghost use Rattle.dataset.specs.Exact.{is_none_of, keeps_pairs, keeps_refs, mine_at, moved_pairs, pairs_by, pairs_of, pairs_with, refs_at, same_lists, times_key};
+ghost use Rattle.dataset.specs.Exact.{is_none_of, keeps_pairs, keeps_refs, mine_at, moved_pairs, pairs_by, pairs_with, refs_at, same_lists, times_key};
 ghost use Rattle.dataset.specs.Sides.{side};
 ghost use Rattle.dataset.specs.ToldIndex.{refs_told};
 
@@ -15,6 +16,7 @@ use osm_base::{Content, Key, node_key};
 use osm_table::{SharedEntry, ToldMap};
 use ref_index::{Pair, RefIndex};
 use std::alloc::AllocError;
+use std::cell::Cell;
 
 /// Adds the pairs of one side of edits, or none of them. Costs the index one look-up a reference,
 /// and nothing for an edit that keeps the references.
@@ -36,13 +38,13 @@ fn add_pairs(index: &mut RefIndex, edits: &[Edit], forth: bool) -> Result<(), Al
 }
 
 /// Takes the pairs of one side of edits, which are there. Costs what adding them does, and takes no
-/// memory.
+/// memory. It begins at the last, since edits come by rank, and the last of a key's users goes at least cost.
 fn take_pairs(index: &mut RefIndex, edits: &[Edit], forth: bool)
     requires { (p : Pair) → times p (pairs_by (side forth) edits.now) ≤ count index.old p }
     ensures { (p : Pair) → times p (pairs_by (side forth) edits.now) + count index.new p ≡ count index.old p }
 {
-    for edit in edits {
-        take_moved(index, edit, forth);
+    for i in (0..edits.len()).rev() {
+        take_moved(index, &edits[i], forth);
     }
 }
 
@@ -70,7 +72,8 @@ pub fn keep_pairs(edits: &[Edit]) -> bool
     edits.iter().all(|edit| keeps_pairs(edit))
 }
 
-/// An index of what the objects that are told of as living refer to. It costs one look-up a reference.
+/// An index of what the objects that are told of as living refer to. It costs one look-up a reference, and
+/// goes over the objects by rank, so that a user comes behind all that a list has.
 ///
 /// # Errors
 ///
@@ -78,24 +81,39 @@ pub fn keep_pairs(edits: &[Edit]) -> bool
 pub fn index_of(told: &ToldMap) -> Result<RefIndex, AllocError>
     ensures { IfOk result (λ index. (p : Pair) → count index p ≡ times_key p.of (refs_told told.now p.user)) }
 {
-    told.sound();
     let mut index = RefIndex::new(told.alloc());
-    for i in 0..told.len() {
-        let (key, entry) = told.entry_at(i);
-        add_entry(&mut index, key, entry)?;
+    let keys = told.ordered()?;
+    let at = Cell::new(0);
+    for key in keys.as_slice() {
+        add_object(&mut index, told, &at, *key)?;
     }
     Ok(index)
 }
 
-/// Adds the pairs of an entry, or none of them.
-fn add_entry(index: &mut RefIndex, key: Key, entry: &SharedEntry) -> Result<(), AllocError>
-    ensures ok { OnOk result ((p : Pair) → count index.new p ≡ times p (pairs_of key (Some entry.now)) + count index.old p) }
+/// Adds the pairs of an object, or none of them. It is sought as in `content_along`.
+fn add_object(
+    index: &mut RefIndex,
+    told: &ToldMap,
+    at: &Cell<usize>,
+    key: Key,
+) -> Result<(), AllocError>
+    ensures ok { OnOk result ((p : Pair) → count index.new p ≡ times p (pairs_with key (refs_told told.now key)) + count index.old p) }
     ensures err { OnErr result ((p : Pair) → count index.new p ≡ count index.old p) }
 {
-    match entry.mine() {
+    match content_along(told, at, key) {
         Some(content) => add_content(index, key, content),
         None => Ok(()),
     }
+}
+
+/// The content of an object that is told of as living. Its key is sought first at the place `at`, which then
+/// is the one behind it. So who goes over keys in the order in which they were told pays no search.
+pub fn content_along<'a>(told: &'a ToldMap, at: &Cell<usize>, key: Key) -> Option<&'a Content>
+    ensures { option_copied result ≡ mine_at (option_map entry_told (told_at told.now key)) }
+{
+    let (behind, entry) = told.get_near(at.get(), key)?;
+    at.set(behind);
+    entry.mine()
 }
 
 fn add_moved(index: &mut RefIndex, edit: &Edit, forth: bool) -> Result<(), AllocError>

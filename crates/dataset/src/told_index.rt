@@ -3,21 +3,22 @@
 //! The users of a key that is told of stand in a list at the place where the told map has the key, so
 //! neither keys nor their hashes are kept a second time. Only the pairs of keys that aren't told of
 //! are in an index by hash; a closed map has none. How often a pair is there stands in what is told.
-ghost use Rattle.std.specs.Prelude.{◌≡◌, ◌||◌, false, Some, T, length, IfOk, OnOk};
+ghost use Rattle.std.specs.Prelude.{◌≡◌, ◌||◌, false, T, length, IfOk, OnOk};
 ghost use Rattle.std.specs.List.{list_any};
 ghost use Rattle.osm_base.specs.Content.{refs_of};
 ghost use Rattle.osm_base.specs.RisingKeys.{rises, is_in};
 ghost use Rattle.osm_base.specs.declared.key.Key.{Key};
 ghost use Rattle.ref_index.specs.declared.pair.Pair.{Pair};
 ghost use Rattle.ref_index.specs.Bag.{count, is_pair};
-ghost use Rattle.dataset.specs.Exact.{pairs_of, pairs_with, times_key};
+ghost use Rattle.dataset.specs.Exact.{pairs_with, times_key};
 ghost use Rattle.dataset.specs.ToldIndex.{AreBeside, is_kept, refs_told};
 
-use crate::pairs::{index_of, pair_at, references};
+use crate::pairs::{content_along, index_of, pair_at, references};
 use osm_base::{Content, Key, is_among};
-use osm_table::{Shared, SharedEntry, ToldMap};
+use osm_table::{Shared, ToldMap};
 use ref_index::{Pair, RefIndex, Users};
 use std::alloc::AllocError;
+use std::cell::Cell;
 use std::marker::Model;
 
 /// Who refers to what in all that is told.
@@ -50,7 +51,8 @@ impl Model for ToldIndex {
 
 impl ToldIndex {
     /// The index of what the objects that are told of as living refer to. Costs one search a reference,
-    /// and none for one that stands behind the one before it.
+    /// and none for one that stands behind the one before it; where they weren't told by rank, one sort of a
+    /// list of their keys and one search an object more.
     ///
     /// # Errors
     ///
@@ -103,16 +105,17 @@ fn users_at<'a>(told: &ToldMap, lists: &'a Lists, of: Key) -> &'a [Key]
     }
 }
 
-/// The lists of all that is told. It goes over the objects once.
+/// The lists of all that is told. It goes over the objects once, by rank, so that a user comes behind all
+/// that a list has.
 fn lists_of(told: &ToldMap) -> Result<Lists, AllocError>
     ensures { IfOk result (λ lists. AreBeside told.now lists.users.items lists.others) }
 {
-    told.sound();
     let mut lists = empty_lists(told)?;
+    let keys = told.ordered()?;
+    let at = Cell::new(0);
     let mut near = 0;
-    for i in 0..told.len() {
-        let (key, entry) = told.entry_at(i);
-        near = put_entry(&mut lists, told, near, key, entry)?;
+    for key in keys.as_slice() {
+        near = put_object(&mut lists, told, &at, near, *key)?;
     }
     Ok(lists)
 }
@@ -133,26 +136,26 @@ fn empty_lists(told: &ToldMap) -> Result<Lists, AllocError>
     })
 }
 
-/// Puts an object in as the user of all that its entry refers to, and answers where the next reference
-/// is sought first.
-fn put_entry(
+/// Puts an object in as the user of all that it refers to, and answers where the next reference is sought
+/// first. The object is sought as in `content_along`.
+fn put_object(
     lists: &mut Lists,
     told: &ToldMap,
+    at: &Cell<usize>,
     near: usize,
     key: Key,
-    entry: &SharedEntry,
 ) -> Result<usize, AllocError>
     requires { length lists.old.users.items ≡ length told.now.order }
     ensures places { OnOk result (length lists.new.users.items ≡ length told.now.order) }
-    ensures kept { OnOk result ((p : Pair) → is_kept told.now lists.new.users.items lists.new.others p ≡ (list_any (is_pair p) (pairs_of key (Some entry.now)) || is_kept told.now lists.old.users.items lists.old.others p)) }
+    ensures kept { OnOk result ((p : Pair) → is_kept told.now lists.new.users.items lists.new.others p ≡ (list_any (is_pair p) (pairs_with key (refs_told told.now key)) || is_kept told.now lists.old.users.items lists.old.others p)) }
 {
-    match entry.mine() {
+    match content_along(told, at, key) {
         Some(content) => put_content(lists, told, near, key, content),
         None => Ok(near),
     }
 }
 
-/// As `put_entry`, for a content.
+/// As `put_object`, for its content.
 fn put_content(
     lists: &mut Lists,
     told: &ToldMap,

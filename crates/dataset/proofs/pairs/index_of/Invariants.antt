@@ -2,5 +2,5 @@ use Rattle.std.proofs.Common.{take}
 use Rattle.dataset.proofs.ToldIndex.{AreIndexed}
 use Rattle.dataset.proofs.pairs.index_of.Given as goal
 
-abbrev pub invariant-loop-i : goal.invariant-loop-i
-invariant-loop-i l = AreIndexed l.told.told (take l.i l.told.order) l.index
+abbrev pub invariant-loop-key : goal.invariant-loop-key
+invariant-loop-key l = AreIndexed l.told.told (take l.key-index l.key-items) l.index
