@@ -11,7 +11,7 @@ use std::alloc::{AllocError, Global};
 const SLOTS: usize = 1024;
 
 /// A written form and the text that it spells.
-#[derive(Debug, Drop)]
+#[derive(Drop)]
 struct Spelled {
     written: Text,
     text: Text,
@@ -23,7 +23,7 @@ struct Spelled {
 /// A pool that is used has 1024 slots and never more. A text has its slot by its written form, and
 /// stays there until another with this slot comes. What is found is compared before it is lent, and
 /// each slot is proved to hold what its written form spells, so a pool gives just what reading gives.
-#[derive(Debug, Drop)]
+#[derive(Drop)]
 pub struct Pool {
     slots: Vec<Spelled>,
     ghost few: { vec_len slots ≤ 1024 },
