@@ -1,15 +1,13 @@
 -- Tags that are listed, and then added in any order.
 use Rattle.std.proofs.Common.{◌≡◌, ℕ, zero, suc, ◌<◌, Bool, true, false, T, cond, is_some, List, [], ◌∷◌, ◌++◌, length, get_or, set, swap, Option, Some, Result, Ok, Err, refl, sym, ap, subst, ◌∙◌, arith, ◌||◌, IsPermutation}
 use Rattle.std.specs.Prelude.{◌==◌}
-use Rattle.std.specs.declared.cmp.Ordering.{Ordering}
-use Rattle.std.specs.declared.cmp.Ordering.TheVariants.{Less, Equal, Greater}
-use Rattle.std.specs.Ordering.{eq_by_cmp, is_eq}
+use Rattle.std.specs.Ordering.{eq_by_cmp}
 use Rattle.std.specs.FinMap.{is_sorted}
-use Rattle.std.specs.FinMap.Entries.{is_sorted-put, find-put, same_entries}
+use Rattle.std.specs.FinMap.Entries.{is_sorted-put, find-put}
 use Rattle.std.proofs.lemmas.Cmp.{nat_list_cmp_total}
 use Rattle.std.proofs.lemmas.List.Sorted.{IsPermutation-keeps}
 use Rattle.osm_base.specs.Tags.{Pair, bytes_cmp, value_of, with_tag, has_tag}
-use Rattle.osm_base.proofs.TagLaws.{one_key, key_itself, has_tag_is}
+use Rattle.osm_base.proofs.TagLaws.{key_itself, has_tag_is, same_keys, either_first}
 use Rattle.opl_line.specs.declared.fault.LineFault.{LineFault}
 use Rattle.opl_line.specs.declared.fault.LineFault.TheVariants as faults
 use Rattle.opl_line.specs.declared.fault.LineAnswer.{LineAnswer}
@@ -105,14 +103,6 @@ earlier_given (answers.Bad other) list fault read added given = given ∙ ap (λ
 
 -- Two tags in either order.
 
-equal : (o : Ordering) → is_eq o ≡ true → o ≡ Equal
-equal Less e = cc
-equal Equal e = refl
-equal Greater e = cc
-
-tied : (k j : List ℕ) → eq_by_cmp bytes_cmp k j ≡ true → k ≡ j
-tied k j e = one_key k j (equal (bytes_cmp k j) e)
-
 some_put : (b : Bool) (v : List ℕ) (o : Option (List ℕ)) → is_some (cond b (Some v) o) ≡ (b || is_some o)
 some_put true v o = refl
 some_put false v o = refl
@@ -121,22 +111,6 @@ has_put : (tags : List Pair) (t : Pair) (q : List ℕ) → has_tag (with_tag tag
 has_put tags t q =
     has_tag_is (with_tag tags t.0 t.1) q ∙ ap is_some (find-put bytes_cmp nat_list_cmp_total q t.0 t.1 tags) ∙ some_put (eq_by_cmp bytes_cmp q t.0) t.1 (value_of tags q)
     ∙ ap (λ b. eq_by_cmp bytes_cmp q t.0 || b) (sym (has_tag_is tags q))
-
-two_found : (a b : Bool) (x y z : Option (List ℕ)) → (a ≡ true → b ≡ true → ⊥) → cond a x (cond b y z) ≡ cond b y (cond a x z)
-two_found true true x y z apart = absurd (apart refl refl)
-two_found true false x y z apart = refl
-two_found false b x y z apart = refl
-
-either_first : (tags : List Pair) (a b : Pair) → T (is_sorted bytes_cmp tags) → eq_by_cmp bytes_cmp b.0 a.0 ≡ false → with_tag (with_tag tags a.0 a.1) b.0 b.1 ≡ with_tag (with_tag tags b.0 b.1) a.0 a.1
-either_first tags a b sorted apart =
-    let put : (t : Pair) (ts : List Pair) → T (is_sorted bytes_cmp ts) → T (is_sorted bytes_cmp (with_tag ts t.0 t.1)) = λ t ts h. is_sorted-put bytes_cmp nat_list_cmp_total t.0 t.1 ts h in
-    same_entries bytes_cmp nat_list_cmp_total one_key _ _ (put b (with_tag tags a.0 a.1) (put a tags sorted)) (put a (with_tag tags b.0 b.1) (put b tags sorted))
-    (λ q. find-put bytes_cmp nat_list_cmp_total q b.0 b.1 (with_tag tags a.0 a.1) ∙ ap (λ o. cond (eq_by_cmp bytes_cmp q b.0) (Some b.1) o) (find-put bytes_cmp nat_list_cmp_total q a.0 a.1 tags)
-    ∙ two_found (eq_by_cmp bytes_cmp q b.0) (eq_by_cmp bytes_cmp q a.0) (Some b.1) (Some a.1) (value_of tags q)
-    (λ is_b is_a. let same : b.0 ≡ a.0 = sym (tied q b.0 is_b) ∙ tied q a.0 is_a in
-    let one : eq_by_cmp bytes_cmp b.0 a.0 ≡ true = ap (λ (k : List ℕ). eq_by_cmp bytes_cmp b.0 k) (sym same) ∙ key_itself b.0 in
-    let bad : ⊥ = cc in bad)
-    ∙ ap (λ o. cond (eq_by_cmp bytes_cmp q a.0) (Some a.1) o) (sym (find-put bytes_cmp nat_list_cmp_total q b.0 b.1 tags)) ∙ sym (find-put bytes_cmp nat_list_cmp_total q a.0 a.1 (with_tag tags b.0 b.1)))
 
 -- whether the first or the second is refused, by their emptiness, presence and sameness
 turned : {A : Type 0} (empty_a has_a empty_b has_b same : Bool) (refused x y : A) → (same ≡ false → x ≡ y)
@@ -165,11 +139,11 @@ two_added tags a b ts =
     ∙ ap (λ h. cond (length b.0 == 0 || h) fault (tags_added (with_tag (with_tag tags a.0 a.1) b.0 b.1) ts)) (has_put tags a b.0))
 
 eq_turned : (k j : List ℕ) (s : Bool) → eq_by_cmp bytes_cmp k j ≡ s → eq_by_cmp bytes_cmp j k ≡ s
-eq_turned k j true e = ap (λ (x : List ℕ). eq_by_cmp bytes_cmp x k) (sym (tied k j e)) ∙ key_itself k
+eq_turned k j true e = ap (λ (x : List ℕ). eq_by_cmp bytes_cmp x k) (sym (same_keys k j e)) ∙ key_itself k
 eq_turned k j false e = other (eq_by_cmp bytes_cmp j k) refl
   where
     other : (b : Bool) → eq_by_cmp bytes_cmp j k ≡ b → eq_by_cmp bytes_cmp j k ≡ false
-    other true f = let g : eq_by_cmp bytes_cmp k j ≡ true = ap (λ (x : List ℕ). eq_by_cmp bytes_cmp x j) (sym (tied j k f)) ∙ key_itself j in (let bad : ⊥ = cc in absurd bad)
+    other true f = let g : eq_by_cmp bytes_cmp k j ≡ true = ap (λ (x : List ℕ). eq_by_cmp bytes_cmp x j) (sym (same_keys j k f)) ∙ key_itself j in (let bad : ⊥ = cc in absurd bad)
     other false f = f
 
 -- the same of two lists, from tags in order
