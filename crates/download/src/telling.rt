@@ -14,7 +14,7 @@ use osm_table::{Told, ToldMap};
 use std::alloc::{AllocError, Global};
 
 /// What a way or a relation refers to, in the list that it has itself.
-#[derive(Debug, Drop)]
+#[derive(Drop)]
 pub(crate) enum ReferenceList {
     Way(Refs),
     Relation(Members),

@@ -6,7 +6,7 @@ use osm_base::Key;
 use std::marker::Model;
 
 /// Something that a mapper may want to mend.
-#[derive(Clone, Copy, Debug, PartialEq, Eq)]
+#[derive(Clone, Copy)]
 pub enum Finding {
     /// A living node at the place of a living node of lower rank, with the least such.
     Doubled { key: Key, of: Key },
@@ -29,7 +29,7 @@ impl Finding {
 }
 
 /// All that a check finds, in order.
-#[derive(Debug, Drop)]
+#[derive(Drop)]
 pub struct Findings {
     list: Vec<Finding>,
 }

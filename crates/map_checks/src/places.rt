@@ -37,7 +37,7 @@ pub fn are_together(ds: &DataSet, a: Key, b: Key) -> bool
 }
 
 /// A place as it is hashed.
-#[derive(Clone, Copy, Debug, PartialEq, Eq, Hash)]
+#[derive(Clone, Copy, PartialEq, Eq, Hash)]
 pub struct Place {
     lon: i32,
     lat: i32,

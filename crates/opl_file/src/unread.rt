@@ -8,7 +8,7 @@ use osm_base::TextFault;
 use std::alloc::AllocError;
 
 /// Why a word or a line gives nothing.
-#[derive(Clone, Copy, Debug, PartialEq, Eq)]
+#[derive(Clone, Copy)]
 pub enum Unread {
     /// It is outside the grammar, or can't stand where it does.
     Outside,

@@ -12,7 +12,7 @@ const GREATEST_ID: i64 = 1_000_000_000_000_000_000;
 const GREATEST_VERSION: u32 = 2_000_000_000;
 
 /// The answer to one change.
-#[derive(Clone, Copy, Debug)]
+#[derive(Clone, Copy)]
 pub enum Answer {
     /// The object of the placeholder was made, and got the id.
     Create { placeholder: Key, id: i64 },
