@@ -1,5 +1,6 @@
 pub mod Least
 pub mod Chains
 pub mod Walk
-pub mod KeyLaws
+pub mod Held
+mod Indexed
 mod Examples

@@ -1,11 +1,10 @@
 -- What a walk with marks keeps, and has at its end.
-use Rattle.std.proofs.Common.{◌≡◌, ℕ, ◌≤◌, ◌<◌, ◌+◌, Bool, true, false, List, [], ◌∷◌, ◌++◌, length, take, get_or, refl, sym, ◌∙◌, ap, subst, arith, inl, inr, ◌⊎◌, append-nil, append_assoc, ◌↔◌, if◌then◌else◌}
+use Rattle.std.proofs.Common.{◌≡◌, ℕ, ◌≤◌, ◌<◌, ◌+◌, Bool, true, false, List, [], ◌∷◌, ◌++◌, length, take, get_or, refl, sym, ◌∙◌, ap, subst, arith, inl, inr, ◌⊎◌, append-nil, append_assoc, fold, ◌↔◌, if◌then◌else◌}
 use Rattle.std.specs.List.{list_any}
 use Rattle.std.proofs.lemmas.Bool.{or_cases, or_left, or_right, true≢false}
 use Rattle.std.proofs.lemmas.List.{length-append, take-append-le, take_all, take_more}
 use Rattle.std.proofs.lemmas.List.Folds.{list_any-append, list_any_at}
-use Rattle.indexmap.specs.IndexSet.{insert_key, insert_all}
-use Rattle.closure.specs.Closure.{has, Chain, begins, goes}
+use Rattle.closure.specs.Closure.{has, with_key, Chain, begins, goes}
 use Rattle.closure.proofs.Chains.{chain_within}
 
 module _ {K : Type 0} (eq : K → K → Bool) (self : (k : K) → eq k k ≡ true) (one : (j k : K) → eq j k ≡ true → j ≡ k) where
@@ -26,7 +25,7 @@ module _ {K : Type 0} (eq : K → K → Bool) (self : (k : K) → eq k k ≡ tru
     pub among : (k : K) → has eq fresh k ≡ true → has eq xs k ≡ true
     pub all : (k : K) → has eq xs k ≡ true → has eq ns k ≡ true
 
-  adds_key : (ms : List K) (x : K) → Adds ms (x ∷ []) (insert_key eq ms x)
+  adds_key : (ms : List K) (x : K) → Adds ms (x ∷ []) (with_key eq ms x)
   adds_key ms x = by (list_any (eq x) ms) refl
     where
       only : (k : K) → has eq (x ∷ []) k ≡ true → k ≡ x
@@ -56,9 +55,9 @@ module _ {K : Type 0} (eq : K → K → Bool) (self : (k : K) → eq k k ≡ tru
       every k (inl e) = subst (λ (l : List K). has eq l k ≡ true) (sym b.whole) (has_first ns b.fresh k (a.all k (or_left (eq k x) false e)))
       every k (inr e) = b.all k e
 
-  pub adds : (ms xs : List K) → Adds ms xs (insert_all eq ms xs)
+  pub adds : (ms xs : List K) → Adds ms xs (fold (with_key eq) ms xs)
   adds ms [] = record { fresh = []; whole = sym (append-nil ms); among = λ k h. h; all = λ k h. absurd (true≢false (sym h)) }
-  adds ms (x ∷ xs) = adds_then ms (insert_key eq ms x) (insert_all eq (insert_key eq ms x) xs) x xs (adds_key ms x) (adds (insert_key eq ms x) xs)
+  adds ms (x ∷ xs) = adds_then ms (with_key eq ms x) (fold (with_key eq) (with_key eq ms x) xs) x xs (adds_key ms x) (adds (with_key eq ms x) xs)
 
   module _ (next : K → List K) (starts : List K) where
     -- marked are ends of chains, the starts among them; the first d have all that they lead to marked

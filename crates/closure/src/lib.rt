@@ -1,4 +1,6 @@
-//! Sets of keys that are closed under a rule.
+//! Sets of keys, and those that are closed under a rule.
+//!
+//! `KeySet` is a list of keys in which one look-up finds a key.
 //!
 //! Whoever merges, plans an upload or purges asks which objects hang on others: those at the ends of
 //! chains, in which each object leads to the next, or those all of whose needs are met. `reach`
@@ -9,10 +11,12 @@
 //! say that the two agree.
 #![tactic(auto)]
 
+mod key_set;
 mod law;
 mod links;
 mod marks;
 
+pub use key_set::KeySet;
 pub use law::{ends_of_chains_are_least, others_are_stuck, ready_ones_are_least};
 pub use links::Links;
-pub use marks::{is_among, reach, set_of};
+pub use marks::reach;

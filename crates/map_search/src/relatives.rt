@@ -9,9 +9,8 @@ ghost use Rattle.osm_base.specs.Rank.{is_key};
 ghost use Rattle.osm_base.specs.RisingKeys.{is_in};
 ghost use Rattle.osm_table.specs.Table.{entry_of};
 
-use closure::{is_among, set_of};
+use closure::KeySet;
 use dataset::DataSet;
-use indexmap::IndexSet;
 use osm_base::{Content, Key, Kind, Member, node_key, push_references};
 use osm_table::SharedEntry;
 use std::alloc::{AllocError, Global};
@@ -23,16 +22,16 @@ pub fn children(ds: &DataSet, keys: &[Key], found: &[Key]) -> Result<Vec<Key>, A
     ensures { IfOk result (λ met. met.items ≡ filter (λ k. list_any (λ user. is_in k (refs_at (entry_of ds.now user))) found.now) keys.now) }
 {
     let refs = references(ds, found)?;
-    let set = set_of(ds.alloc(), &refs)?;
+    let set = KeySet::from_vec(refs)?;
     those_among(ds.alloc(), keys, &set)
 }
 
-fn those_among(alloc: Global, keys: &[Key], set: &IndexSet<Key>) -> Result<Vec<Key>, AllocError>
-    ensures { IfOk result (λ met. met.items ≡ filter (has is_key set.now.keys) keys.now) }
+fn those_among(alloc: Global, keys: &[Key], set: &KeySet) -> Result<Vec<Key>, AllocError>
+    ensures { IfOk result (λ met. met.items ≡ filter (has is_key set.now) keys.now) }
 {
     keys.iter()
         .copied()
-        .filter(|key| is_among(set, *key))
+        .filter(|key| set.contains(*key))
         .collect(alloc)
 }
 
@@ -82,12 +81,12 @@ fn push_living(entry: Option<&SharedEntry>, refs: &mut Vec<Key>) -> Result<(), A
 pub fn parents(ds: &DataSet, keys: &[Key], found: &[Key]) -> Result<Vec<Key>, AllocError>
     ensures { IfOk result (λ met. met.items ≡ filter (λ k. list_any (λ of. is_in of found.now) (refs_at (entry_of ds.now k))) keys.now) }
 {
-    let found = set_of(ds.alloc(), found)?;
+    let found = KeySet::from_slice(ds.alloc(), found)?;
     users_of(ds, keys, &found)
 }
 
-fn users_of(ds: &DataSet, keys: &[Key], found: &IndexSet<Key>) -> Result<Vec<Key>, AllocError>
-    ensures { IfOk result (λ met. met.items ≡ filter (λ k. list_any (has is_key found.now.keys) (refs_at (entry_of ds.now k))) keys.now) }
+fn users_of(ds: &DataSet, keys: &[Key], found: &KeySet) -> Result<Vec<Key>, AllocError>
+    ensures { IfOk result (λ met. met.items ≡ filter (λ k. list_any (has is_key found.now) (refs_at (entry_of ds.now k))) keys.now) }
 {
     let near = Cell::new(0);
     keys.iter()
@@ -98,8 +97,8 @@ fn users_of(ds: &DataSet, keys: &[Key], found: &IndexSet<Key>) -> Result<Vec<Key
 
 /// Whether the key's object lives and refers to a found one. Nodes refer to nothing, so a node's key isn't looked up.
 #[tactic(auto, using(crate::proofs::OfKinds::nodes_have_no_refs))]
-fn is_user(ds: &DataSet, near: &Cell<usize>, key: Key, found: &IndexSet<Key>) -> bool
-    ensures { result ≡ list_any (has is_key found.now.keys) (refs_at (entry_of ds.now key)) }
+fn is_user(ds: &DataSet, near: &Cell<usize>, key: Key, found: &KeySet) -> bool
+    ensures { result ≡ list_any (has is_key found.now) (refs_at (entry_of ds.now key)) }
 {
     ds.sound();
     match key.kind {
@@ -108,8 +107,8 @@ fn is_user(ds: &DataSet, near: &Cell<usize>, key: Key, found: &IndexSet<Key>) ->
     }
 }
 
-fn refers_among(entry: Option<&SharedEntry>, found: &IndexSet<Key>) -> bool
-    ensures { result ≡ list_any (has is_key found.now.keys) (refs_at (option_copied entry.entry)) }
+fn refers_among(entry: Option<&SharedEntry>, found: &KeySet) -> bool
+    ensures { result ≡ list_any (has is_key found.now) (refs_at (option_copied entry.entry)) }
 {
     entry.is_some_and(|entry| match entry.mine() {
         None => false,
@@ -118,8 +117,8 @@ fn refers_among(entry: Option<&SharedEntry>, found: &IndexSet<Key>) -> bool
 }
 
 #[tactic(auto, using(osm_base::proofs::AnyMap::list_any_map))]
-fn has_reference_among(content: &Content, found: &IndexSet<Key>) -> bool
-    ensures { result ≡ list_any (has is_key found.now.keys) (refs_of content.now) }
+fn has_reference_among(content: &Content, found: &KeySet) -> bool
+    ensures { result ≡ list_any (has is_key found.now) (refs_of content.now) }
 {
     match content {
         Content::Node { .. } => false,
@@ -128,14 +127,14 @@ fn has_reference_among(content: &Content, found: &IndexSet<Key>) -> bool
     }
 }
 
-fn any_node_among(ids: &[i64], found: &IndexSet<Key>) -> bool
-    ensures { result ≡ list_any (λ id. has is_key found.now.keys (node id)) ids.now }
+fn any_node_among(ids: &[i64], found: &KeySet) -> bool
+    ensures { result ≡ list_any (λ id. has is_key found.now (node id)) ids.now }
 {
-    ids.iter().any(|id| is_among(found, node_key(*id)))
+    ids.iter().any(|id| found.contains(node_key(*id)))
 }
 
-fn any_member_among(members: &[Member], found: &IndexSet<Key>) -> bool
-    ensures { result ≡ list_any (λ member. has is_key found.now.keys member.key) members.now }
+fn any_member_among(members: &[Member], found: &KeySet) -> bool
+    ensures { result ≡ list_any (λ member. has is_key found.now member.key) members.now }
 {
-    members.iter().any(|member| is_among(found, member.key))
+    members.iter().any(|member| found.contains(member.key))
 }

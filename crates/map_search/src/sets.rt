@@ -5,8 +5,7 @@ ghost use Rattle.closure.specs.Closure.{has};
 ghost use Rattle.osm_base.specs.Rank.{is_key};
 ghost use Rattle.osm_base.specs.RisingKeys.{is_in};
 
-use closure::{is_among, set_of};
-use indexmap::IndexSet;
+use closure::KeySet;
 use osm_base::Key;
 use std::alloc::{AllocError, Global};
 
@@ -14,16 +13,16 @@ use std::alloc::{AllocError, Global};
 pub fn others(alloc: Global, keys: &[Key], found: &[Key]) -> Result<Vec<Key>, AllocError>
     ensures { IfOk result (λ rest. rest.items ≡ filter (λ k. not (is_in k found.now)) keys.now) }
 {
-    let found = set_of(alloc, found)?;
+    let found = KeySet::from_slice(alloc, found)?;
     outside(alloc, keys, &found)
 }
 
-fn outside(alloc: Global, keys: &[Key], found: &IndexSet<Key>) -> Result<Vec<Key>, AllocError>
-    ensures { IfOk result (λ rest. rest.items ≡ filter (λ k. not (has is_key found.now.keys k)) keys.now) }
+fn outside(alloc: Global, keys: &[Key], found: &KeySet) -> Result<Vec<Key>, AllocError>
+    ensures { IfOk result (λ rest. rest.items ≡ filter (λ k. not (has is_key found.now k)) keys.now) }
 {
     keys.iter()
         .copied()
-        .filter(|key| !is_among(found, *key))
+        .filter(|key| !found.contains(*key))
         .collect(alloc)
 }
 
@@ -36,21 +35,21 @@ pub fn those_of(
 ) -> Result<Vec<Key>, AllocError>
     ensures { IfOk result (λ both. both.items ≡ filter (λ k. is_in k left.now || is_in k right.now) keys.now) }
 {
-    let left = set_of(alloc, left)?;
-    let right = set_of(alloc, right)?;
+    let left = KeySet::from_slice(alloc, left)?;
+    let right = KeySet::from_slice(alloc, right)?;
     inside(alloc, keys, &left, &right)
 }
 
 fn inside(
     alloc: Global,
     keys: &[Key],
-    left: &IndexSet<Key>,
-    right: &IndexSet<Key>,
+    left: &KeySet,
+    right: &KeySet,
 ) -> Result<Vec<Key>, AllocError>
-    ensures { IfOk result (λ both. both.items ≡ filter (λ k. has is_key left.now.keys k || has is_key right.now.keys k) keys.now) }
+    ensures { IfOk result (λ both. both.items ≡ filter (λ k. has is_key left.now k || has is_key right.now k) keys.now) }
 {
     keys.iter()
         .copied()
-        .filter(|key| is_among(left, *key) || is_among(right, *key))
+        .filter(|key| left.contains(*key) || right.contains(*key))
         .collect(alloc)
 }

@@ -1,12 +1,14 @@
 -- A key put behind others.
-use Rattle.std.proofs.Common.{◌≡◌, ◌<◌, ◌&&◌, ◌||◌, Bool, true, false, cond, not, ℕ, List, [], ◌∷◌, ◌++◌, length, nat_lt, refl, sym, ◌∙◌, ap}
+use Rattle.std.proofs.Common.{◌≡◌, ◌<◌, ◌&&◌, ◌||◌, Bool, true, false, cond, not, ℕ, List, [], ◌∷◌, ◌++◌, length, nat_lt, is_some, refl, sym, subst, ◌∙◌, ap}
 use Rattle.std.specs.Prelude.{T}
 use Rattle.std.specs.Bool.{passes}
 use Rattle.std.specs.Cmp.Lexicographic.{nat_list_eq_equiv}
 use Rattle.std.specs.List.{list_any}
 use Rattle.std.proofs.lemmas.Bool.{true≢false, lt-ltb, or_parts}
 use Rattle.std.proofs.lemmas.List.Folds.{list_any-append}
-use Rattle.indexmap.specs.IndexSet.{insert_key}
+use Rattle.std.specs.Map.{keys_of, lookup}
+use Rattle.std.proofs.lemmas.Map.Made.{is_some-lookup}
+use Rattle.indexmap.specs.IndexMap.{insert_entry}
 use Rattle.osm_base.specs.Same.{same_text}
 use Rattle.osm_base.proofs.SameLaws.{same_text_decides}
 use Rattle.osm_base.proofs.Tests.{both_T, first_T, second_T}
@@ -19,14 +21,23 @@ turned a b e = by (same_text b a) refl
     by true g = absurd (true≢false (sym ((same_text_decides a b).1 (sym ((same_text_decides b a).0 g))) ∙ e))
     by false g = g
 
+among : (key : List ℕ) (keys : List (List ℕ)) → list_any (same_text key) keys ≡ is_listed keys key
+among key [] = refl
+among key (x ∷ xs) = λ i. nat_list_eq_equiv.symm key x i || among key xs i
+
 -- the key is among others where one of them is the key
-pub found : (key : List ℕ) (keys : List (List ℕ)) → list_any (same_text key) keys ≡ is_listed keys key
-found key [] = refl
-found key (x ∷ xs) = λ i. nat_list_eq_equiv.symm key x i || found key xs i
+pub found : {X : Type 0} (key : List ℕ) (es : List (List ℕ × X)) → is_some (lookup (same_text key) es) ≡ is_listed (keys_of es) key
+found key es = is_some-lookup (same_text key) es ∙ among key (keys_of es)
+
+behind : {X : Type 0} (key : List ℕ) (x : X) (es : List (List ℕ × X)) → is_listed (keys_of es) key ≡ false → keys_of (insert_entry same_text es key x) ≡ keys_of es ++ key ∷ []
+behind key x [] out = refl
+behind key x (e ∷ es) out =
+    let o = or_parts (same_text e.0 key) (is_listed (keys_of es) key) out in
+    ap (λ there. keys_of (cond there ((e.0, x) ∷ es) (e ∷ insert_entry same_text es key x))) (turned e.0 key o.0) ∙ ap (λ keys. e.0 ∷ keys) (behind key x es o.1)
 
 -- a key that isn't among others comes behind them
-pub pushed_last : (key : List ℕ) (keys : List (List ℕ)) → is_listed keys key ≡ false → insert_key same_text keys key ≡ keys ++ key ∷ []
-pushed_last key keys out = ap (λ there. cond there keys (keys ++ key ∷ [])) (found key keys ∙ out)
+pub pushed_last : {X : Type 0} (key : List ℕ) (x : X) (es fs : List (List ℕ × X)) → fs ≡ insert_entry same_text es key x → is_listed (keys_of es) key ≡ false → keys_of fs ≡ keys_of es ++ key ∷ []
+pushed_last key x es fs put out = ap keys_of put ∙ behind key x es out
 
 -- a key that isn't among others isn't among them with one more that is unlike
 still : (keys : List (List ℕ)) (x key : List ℕ) → T (not (is_listed keys x)) → same_text key x ≡ false → T (not (is_listed (keys ++ key ∷ []) x))
@@ -45,5 +56,5 @@ added key (x ∷ xs) n out h =
     (still xs x key (first_T (not (is_listed xs x)) _ (second_T (nat_lt 0 (length x)) _ h)) (turned x key o.0))
     (added key xs n o.1 (second_T (not (is_listed xs x)) _ (second_T (nat_lt 0 (length x)) _ h))))
 
-pub pushed : (key : List ℕ) (keys : List (List ℕ)) → 0 < length key → is_listed keys key ≡ false → T (are_tag_keys keys) → T (are_tag_keys (keys ++ key ∷ []))
-pushed key keys n = added key keys (passes (nat_lt 0 (length key)) (lt-ltb 0 (length key) n))
+pub pushed : {X : Type 0} (key : List ℕ) (x : X) (es fs : List (List ℕ × X)) → fs ≡ insert_entry same_text es key x → 0 < length key → is_listed (keys_of es) key ≡ false → T (are_tag_keys (keys_of es)) → T (are_tag_keys (keys_of fs))
+pushed key x es fs put n out h = subst (λ keys. T (are_tag_keys keys)) (sym (pushed_last key x es fs put out)) (added key (keys_of es) (passes (nat_lt 0 (length key)) (lt-ltb 0 (length key) n)) out h)

@@ -3,7 +3,7 @@ ghost use Rattle.std.specs.Prelude.{◌≡◌, ◌==◌, ◌<◌, ◌++◌, ◌�
 ghost use Rattle.merge_cases.specs.Keys.{is_listed};
 
 use crate::tag_key::TagKey;
-use indexmap::IndexSet;
+use indexmap::IndexMap;
 use osm_base::Text;
 use std::alloc::{AllocError, Global};
 use std::marker::Model;
@@ -12,18 +12,19 @@ use std::marker::Model;
 /// by one look-up.
 #[derive(Drop)]
 pub struct TagKeys {
-    keys: IndexSet<TagKey>,
+    keys: IndexMap<TagKey, ()>,
 }
 
 impl Model for TagKeys {
     ghost use Rattle.std.specs.Prelude.{List, ℕ, T};
+    ghost use Rattle.std.specs.Map.{keys_of};
     ghost use Rattle.merge_cases.specs.Keys.{are_tag_keys};
 
     ghost Value = { List (List ℕ) };
 
-    ghost view = { λ k. k.keys.keys };
+    ghost view = { λ k. keys_of k.keys.entries };
 
-    ghost invariant = { λ k. T (are_tag_keys k.keys.keys) };
+    ghost invariant = { λ k. T (are_tag_keys (keys_of k.keys.entries)) };
 }
 
 impl TagKeys {
@@ -32,7 +33,7 @@ impl TagKeys {
         ensures { result ≡ [] }
     {
         TagKeys {
-            keys: IndexSet::new(alloc),
+            keys: IndexMap::new(alloc),
         }
     }
 
@@ -40,14 +41,14 @@ impl TagKeys {
     pub fn len(&self) -> usize
         ensures { result ≡ length self.now }
     {
-        self.keys.len()
+        self.as_slice().len()
     }
 
     /// Whether there are no keys.
     pub fn is_empty(&self) -> bool
         ensures { result ≡ (length self.now == 0) }
     {
-        self.keys.is_empty()
+        self.as_slice().is_empty()
     }
 
     /// The key at a place.
@@ -62,7 +63,7 @@ impl TagKeys {
     pub fn as_slice(&self) -> &[TagKey]
         ensures { result.now ≡ self.now }
     {
-        self.keys.as_slice()
+        self.keys.keys().as_slice()
     }
 
     /// Whether the key is listed. One look-up.
@@ -70,7 +71,7 @@ impl TagKeys {
     pub fn has(&self, key: &[u8]) -> bool
         ensures { result ≡ is_listed self.now key.now }
     {
-        self.keys.contains(key)
+        self.keys.contains_key(key)
     }
 
     /// Adds a key at the end. It must not be empty, and not be there. One look-up.
@@ -84,7 +85,7 @@ impl TagKeys {
         ensures ok { OnOk result (self.new ≡ self.old ++ key ∷ []) }
         ensures err { OnErr result (self.new ≡ self.old) }
     {
-        self.keys.insert(TagKey::new(key))?;
+        self.keys.insert(TagKey::new(key), ())?;
         Ok(())
     }
 }

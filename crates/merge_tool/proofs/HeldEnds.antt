@@ -40,8 +40,8 @@ module _ (t : TableValue) (m : ToldValue) (sound : IsSound t) (each : (k : Key) 
       by None e = absurd (true≢false (sym c ∙ ap (λ (s : Option Told). is_candidate (verdict_by (entry_of t k) s)) e))
 
   -- the candidates of the first pass
-  pub going_are : (listed set : List Key) → listed ≡ filter (is_going t m.told) m.order → ((k : Key) → has is_key set k ≡ has is_key listed k) → (k : Key) → has is_key set k ≡ is_going t m.told k
-  going_are listed set are same k = same k ∙ ap (λ (ks : List Key). has is_key ks k) are ∙ in_filter (is_going t m.told) k m.order ∙ by (is_going t m.told k) refl
+  pub going_are : (listed set : List Key) → listed ≡ filter (is_going t m.told) m.order → set ≡ listed → (k : Key) → has is_key set k ≡ is_going t m.told k
+  going_are listed set are same k = ap (λ (ks : List Key). has is_key ks k) (same ∙ are) ∙ in_filter (is_going t m.told) k m.order ∙ by (is_going t m.told k) refl
     where
       by : (b : Bool) → is_going t m.told k ≡ b → (is_going t m.told k && has is_key m.order k) ≡ is_going t m.told k
       by true e = ap (λ c. c && has is_key m.order k) e ∙ in_order k e ∙ sym e

@@ -11,9 +11,8 @@ ghost use Rattle.merge_tool.specs.Passes.{has_resting_user, held_starts};
 
 use crate::naming::name_all;
 use crate::staging::has_resting_user;
-use closure::{Links, is_among, reach};
+use closure::{KeySet, Links, reach};
 use dataset::{DataSet, Draft};
-use indexmap::IndexSet;
 use osm_base::Key;
 use osm_table::ToldMap;
 use std::alloc::AllocError;
@@ -23,16 +22,16 @@ use tool_api::{living, push_refs_by};
 #[derive(Clone, Copy)]
 pub struct CandidateLinks<'a> {
     pub ds: &'a DataSet,
-    pub candidates: &'a IndexSet<Key>,
+    pub candidates: &'a KeySet,
 }
 
 impl<'a> Links for CandidateLinks<'a> {
     ghost use Rattle.merge_tool.specs.Walks.{going_links};
 
-    ghost next = { λ s k. going_links s.candidates.now.keys s.ds.now k };
+    ghost next = { λ s k. going_links s.candidates.now s.ds.now k };
 
     fn append(&self, key: Key, out: &mut Vec<Key>) -> Result<(), AllocError> {
-        if is_among(self.candidates, key) {
+        if self.candidates.contains(key) {
             let mut refs = Vec::new(self.ds.alloc());
             push_refs_by(living(self.ds.entry(key)), &mut refs)?;
             push_going(self.candidates, &refs, out)?;
@@ -42,17 +41,13 @@ impl<'a> Links for CandidateLinks<'a> {
 }
 
 /// Appends the candidates of these keys.
-fn push_going(
-    candidates: &IndexSet<Key>,
-    keys: &[Key],
-    out: &mut Vec<Key>,
-) -> Result<(), AllocError>
-    ensures { OnOk result (out.new.items ≡ out.old.items ++ filter (has is_key candidates.now.keys) keys.now) }
+fn push_going(candidates: &KeySet, keys: &[Key], out: &mut Vec<Key>) -> Result<(), AllocError>
+    ensures { OnOk result (out.new.items ≡ out.old.items ++ filter (has is_key candidates.now) keys.now) }
 {
     let going: Vec<Key> = keys
         .iter()
         .copied()
-        .filter(|key| is_among(candidates, *key))
+        .filter(|key| candidates.contains(*key))
         .collect(*out.allocator())?;
     out.extend_from_slice(&going)?;
     Ok(())
@@ -62,10 +57,10 @@ fn push_going(
 fn push_used(
     ds: &DataSet,
     told: &ToldMap,
-    keys: &IndexSet<Key>,
+    keys: &KeySet,
     out: &mut Vec<Key>,
 ) -> Result<(), AllocError>
-    ensures { OnOk result (out.new.items ≡ out.old.items ++ filter (has_resting_user ds.now told.now.told) keys.now.keys) }
+    ensures { OnOk result (out.new.items ≡ out.old.items ++ filter (has_resting_user ds.now told.now.told) keys.now) }
 {
     let used: Vec<Key> = keys
         .as_slice()
@@ -82,11 +77,11 @@ fn push_used(
 fn held_starts(
     ds: &DataSet,
     told: &ToldMap,
-    candidates: &IndexSet<Key>,
+    candidates: &KeySet,
     names: &[Key],
     late: &[Key],
 ) -> Result<Vec<Key>, AllocError>
-    ensures { IfOk result (λ starts. starts.items ≡ held_starts ds.now told.now.told candidates.now.keys names.now late.now) }
+    ensures { IfOk result (λ starts. starts.items ≡ held_starts ds.now told.now.told candidates.now names.now late.now) }
 {
     let mut starts = Vec::new(ds.alloc());
     if candidates.is_empty() {
@@ -108,15 +103,15 @@ pub fn hold(
     ds: &DataSet,
     told: &ToldMap,
     draft: &mut Draft,
-    candidates: &IndexSet<Key>,
+    candidates: &KeySet,
     names: &[Key],
     late: &[Key],
-) -> Result<IndexSet<Key>, AllocError>
+) -> Result<KeySet, AllocError>
     requires sound { IsSound ds.now }
-    requires candidates { AreGoing ds.now told.now candidates.now.keys }
+    requires candidates { AreGoing ds.now told.now candidates.now }
     requires names { names.now ≡ renewed_names ds.now told.now }
     requires late { AreWantedNames ds.now told.now late.now }
-    ensures held { IfOk result (λ h. AreHeld ds.now told.now h.keys) }
+    ensures held { IfOk result (λ h. AreHeld ds.now told.now h) }
     ensures entries { IfOk result (λ h. NamesEnter ds.now (is_held_name ds.now told.now.told) draft.old draft.new) }
     ensures number { IfOk result (λ h. draft.new.next ≡ draft.old.next) }
 {
@@ -136,11 +131,11 @@ pub fn hold(
 fn held_walk(
     ds: &DataSet,
     told: &ToldMap,
-    candidates: &IndexSet<Key>,
+    candidates: &KeySet,
     names: &[Key],
     late: &[Key],
-) -> Result<IndexSet<Key>, AllocError>
-    ensures { IfOk result (λ marks. AreHeldEnds ds.now told.now candidates.now.keys names.now late.now marks.keys) }
+) -> Result<KeySet, AllocError>
+    ensures { IfOk result (λ marks. AreHeldEnds ds.now told.now candidates.now names.now late.now marks) }
 {
     let starts = held_starts(ds, told, candidates, names, late)?;
     reach(ds.alloc(), &starts, &CandidateLinks { ds, candidates })
@@ -150,8 +145,8 @@ fn held_walk(
 ///
 /// # Errors
 /// No memory was left.
-fn held_names(ds: &DataSet, keys: &IndexSet<Key>) -> Result<Vec<Key>, AllocError>
-    ensures { IfOk result (λ names. names.items ≡ flat_map (mine_refs ds.now) keys.now.keys) }
+fn held_names(ds: &DataSet, keys: &KeySet) -> Result<Vec<Key>, AllocError>
+    ensures { IfOk result (λ names. names.items ≡ flat_map (mine_refs ds.now) keys.now) }
 {
     let mut names = Vec::new(ds.alloc());
     for i in 0..keys.len() {

@@ -11,7 +11,7 @@ use crate::holding::hold;
 use crate::staging::Staging;
 use crate::wanting::want;
 use crate::writing::write;
-use closure::set_of;
+use closure::KeySet;
 use dataset::{DataSet, Draft};
 use osm_base::{Key, Keys};
 use osm_table::{Shared, ToldMap};
@@ -36,7 +36,7 @@ fn merged(
 {
     told.sound();
     let mut draft = staged;
-    let candidates = set_of(ds.alloc(), candidates)?;
+    let candidates = KeySet::from_slice(ds.alloc(), candidates)?;
     let wanted = want(ds, told, &mut draft, names)?;
     let held = hold(ds, told, &mut draft, &candidates, names, &wanted.names)?;
     write(ds, told, &mut draft, &candidates, &wanted.keys, &held)?;

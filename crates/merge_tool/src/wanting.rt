@@ -8,9 +8,8 @@ ghost use Rattle.merge_tool.specs.Walks.{is_lost, lost_refs, lost_links};
 
 use crate::entries::{is_lost, lost};
 use crate::naming::name_all;
-use closure::{Links, reach};
+use closure::{KeySet, Links, reach};
 use dataset::{DataSet, Draft};
-use indexmap::IndexSet;
 use osm_base::Key;
 use osm_table::ToldMap;
 use std::alloc::AllocError;
@@ -57,7 +56,7 @@ fn push_lost(
 /// The lost objects that come back, and to what they refer, each as often as it stands.
 #[derive(Drop)]
 pub struct Wanted {
-    pub keys: IndexSet<Key>,
+    pub keys: KeySet,
     pub names: Vec<Key>,
 }
 
@@ -75,7 +74,7 @@ pub fn want(
     requires sound { IsSound ds.now }
     requires entries { IsStaged ds.now told.now draft.old }
     requires names { names.now ≡ renewed_names ds.now told.now }
-    ensures wanted { IfOk result (λ w. AreWanted ds.now told.now w.keys.keys) }
+    ensures wanted { IfOk result (λ w. AreWanted ds.now told.now w.keys) }
     ensures names { IfOk result (λ w. AreWantedNames ds.now told.now w.names.items) }
     ensures entries { IfOk result (λ w. BothEnter ds.now names.now w.names.items draft.old draft.new) }
     ensures number { IfOk result (λ w. draft.new.next ≡ draft.old.next) }
@@ -94,8 +93,8 @@ pub fn want(
 ///
 /// # Errors
 /// No memory was left.
-fn lost_walk(ds: &DataSet, draft: &Draft, starts: &[Key]) -> Result<IndexSet<Key>, AllocError>
-    ensures { IfOk result (λ marks. AreEnds starts.now (lost_links (drafted draft.now ds.now)) marks.keys) }
+fn lost_walk(ds: &DataSet, draft: &Draft, starts: &[Key]) -> Result<KeySet, AllocError>
+    ensures { IfOk result (λ marks. AreEnds starts.now (lost_links (drafted draft.now ds.now)) marks) }
 {
     reach(ds.alloc(), starts, &LostLinks { ds, draft })
 }
@@ -104,8 +103,8 @@ fn lost_walk(ds: &DataSet, draft: &Draft, starts: &[Key]) -> Result<IndexSet<Key
 ///
 /// # Errors
 /// No memory was left.
-fn lost_names(ds: &DataSet, draft: &Draft, keys: &IndexSet<Key>) -> Result<Vec<Key>, AllocError>
-    ensures { IfOk result (λ names. names.items ≡ flat_map (lost_refs (drafted draft.now ds.now)) keys.now.keys) }
+fn lost_names(ds: &DataSet, draft: &Draft, keys: &KeySet) -> Result<Vec<Key>, AllocError>
+    ensures { IfOk result (λ names. names.items ≡ flat_map (lost_refs (drafted draft.now ds.now)) keys.now) }
 {
     let mut names = Vec::new(ds.alloc());
     for i in 0..keys.len() {

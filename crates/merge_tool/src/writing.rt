@@ -6,9 +6,8 @@ ghost use Rattle.merge_tool.specs.Drafts.{AreGoing, ComeBack, GoUnlessHeld, IsWr
 ghost use Rattle.merge_tool.specs.Passes.{is_going, left};
 
 use crate::entries::{against, back};
-use closure::is_among;
+use closure::KeySet;
 use dataset::{DataSet, Draft};
-use indexmap::IndexSet;
 use osm_base::Key;
 use osm_table::{SharedEntry, ToldMap, Why};
 use std::alloc::AllocError;
@@ -21,12 +20,12 @@ pub fn write(
     ds: &DataSet,
     told: &ToldMap,
     draft: &mut Draft,
-    candidates: &IndexSet<Key>,
-    wanted: &IndexSet<Key>,
-    held: &IndexSet<Key>,
+    candidates: &KeySet,
+    wanted: &KeySet,
+    held: &KeySet,
 ) -> Result<(), AllocError>
-    requires going { AreGoing ds.now told.now candidates.now.keys }
-    ensures entries { OnOk result (IsWritten ds.now told.now candidates.now.keys wanted.now.keys held.now.keys draft.old draft.new) }
+    requires going { AreGoing ds.now told.now candidates.now }
+    ensures entries { OnOk result (IsWritten ds.now told.now candidates.now wanted.now held.now draft.old draft.new) }
     ensures number { OnOk result (draft.new.next ≡ draft.old.next) }
 {
     bring_back(ds, draft, wanted)?;
@@ -35,8 +34,8 @@ pub fn write(
 }
 
 /// Brings lost objects back, each as its known side.
-fn bring_back(ds: &DataSet, draft: &mut Draft, wanted: &IndexSet<Key>) -> Result<(), AllocError>
-    ensures entries { OnOk result (ComeBack ds.now (has is_key wanted.now.keys) draft.old draft.new) }
+fn bring_back(ds: &DataSet, draft: &mut Draft, wanted: &KeySet) -> Result<(), AllocError>
+    ensures entries { OnOk result (ComeBack ds.now (has is_key wanted.now) draft.old draft.new) }
     ensures number { OnOk result (draft.new.next ≡ draft.old.next) }
 {
     for i in 0..wanted.len() {
@@ -64,11 +63,11 @@ fn let_go(
     ds: &DataSet,
     told: &ToldMap,
     draft: &mut Draft,
-    candidates: &IndexSet<Key>,
-    held: &IndexSet<Key>,
+    candidates: &KeySet,
+    held: &KeySet,
 ) -> Result<(), AllocError>
-    requires going { AreGoing ds.now told.now candidates.now.keys }
-    ensures entries { OnOk result (GoUnlessHeld ds.now told.now held.now.keys (has is_key candidates.now.keys) draft.old draft.new) }
+    requires going { AreGoing ds.now told.now candidates.now }
+    ensures entries { OnOk result (GoUnlessHeld ds.now told.now held.now (has is_key candidates.now) draft.old draft.new) }
     ensures number { OnOk result (draft.new.next ≡ draft.old.next) }
 {
     for i in 0..candidates.len() {
@@ -81,11 +80,11 @@ fn let_one_go(
     ds: &DataSet,
     told: &ToldMap,
     draft: &mut Draft,
-    held: &IndexSet<Key>,
+    held: &KeySet,
     key: Key,
 ) -> Result<(), AllocError>
     requires going { is_going ds.now told.now.told key ≡ true }
-    ensures entries { OnOk result (GoUnlessHeld ds.now told.now held.now.keys (λ q. is_key q key) draft.old draft.new) }
+    ensures entries { OnOk result (GoUnlessHeld ds.now told.now held.now (λ q. is_key q key) draft.old draft.new) }
     ensures number { OnOk result (draft.new.next ≡ draft.old.next) }
 {
     let entry = left(ds, told, held, key)?;
@@ -94,17 +93,12 @@ fn let_one_go(
 }
 
 /// What is left of a candidate: it stays in conflict with what is told where it is held, else it goes.
-fn left(
-    ds: &DataSet,
-    told: &ToldMap,
-    held: &IndexSet<Key>,
-    key: Key,
-) -> Result<SharedEntry, AllocError>
+fn left(ds: &DataSet, told: &ToldMap, held: &KeySet, key: Key) -> Result<SharedEntry, AllocError>
     requires going { is_going ds.now told.now.told key ≡ true }
-    ensures { IfOk result (λ entry. Some entry ≡ left ds.now told.now.told held.now.keys key) }
+    ensures { IfOk result (λ entry. Some entry ≡ left ds.now told.now.told held.now key) }
 {
     let news = told.get(key).unwrap();
-    if is_among(held, key) {
+    if held.contains(key) {
         let old = ds.entry(key).unwrap();
         against(ds.alloc(), Why::Held, news, old)
     } else {

@@ -1,5 +1,5 @@
 -- Keys found among objects.
-use Rattle.std.proofs.Common.{◌≡◌, true, not, List, [], ◌∷◌, ◌++◌, refl, sym, ap, ◌∙◌}
+use Rattle.std.proofs.Common.{◌≡◌, Bool, true, not, List, [], ◌∷◌, ◌++◌, refl, sym, ap, ◌∙◌}
 use Rattle.std.specs.List.{list_any}
 use Rattle.std.specs.Bool.{passes}
 use Rattle.osm_base.specs.KeyEq.{eq}
@@ -11,13 +11,13 @@ use Rattle.opl_file.specs.Objects.{has_key, keys_of}
 use Rattle.opl_file.proofs.Rising.{last_new}
 
 -- a key is among the keys of the objects where an object has it
-found_key : (objects : List OplObject) (key : Key) → list_any (eq key) (keys_of objects) ≡ has_key objects key
+pub found_key : (objects : List OplObject) (key : Key) → list_any (eq key) (keys_of objects) ≡ has_key objects key
 found_key [] key = refl
 found_key (object ∷ objects) key = rw (rank_ties key object.key, found_key objects key) refl
 
--- a key is new among the objects where it is new among their keys
-pub new_key : (objects : List OplObject) (keys : List Key) (key : Key) → keys ≡ keys_of objects → not (list_any (eq key) keys) ≡ not (has_key objects key)
-new_key objects keys key e = ap (λ ks. not (list_any (eq key) ks)) e ∙ ap not (found_key objects key)
+-- a key is new among the objects where it isn't found among their keys
+pub new_key : (objects : List OplObject) (found : Bool) (key : Key) → found ≡ list_any (eq key) (keys_of objects) → not found ≡ not (has_key objects key)
+new_key objects found key e = ap not (e ∙ found_key objects key)
 
 -- and where it rises behind them
 pub new_last : (objects : List OplObject) (key : Key) → rises (keys_of objects ++ key ∷ []) ≡ true → true ≡ not (has_key objects key)

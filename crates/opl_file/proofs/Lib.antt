@@ -1,5 +1,6 @@
 pub mod Batches
 pub mod Cutting
+mod Finding
 mod LinesTold
 mod Examples
 pub mod Keys

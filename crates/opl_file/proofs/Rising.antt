@@ -1,13 +1,12 @@
 -- Keys that rise by rank, with one more behind them.
-use Rattle.std.proofs.Common.{◌≡◌, ◌||◌, false, List, [], ◌∷◌, ◌++◌, if◌then◌else◌, refl, sym, ap, subst, ◌∙◌}
+use Rattle.std.proofs.Common.{◌≡◌, ◌||◌, false, List, [], ◌∷◌, ◌++◌, refl, sym, ap, subst, ◌∙◌}
 use Rattle.std.specs.Cmp.{both_ways}
 use Rattle.std.specs.FinMap.Entries.{below_all}
-use Rattle.std.specs.List.{fold, list_any}
+use Rattle.std.specs.List.{list_any}
 use Rattle.std.specs.Ordering.{is_lt, is_eq}
 use Rattle.std.specs.Prelude.{T}
 use Rattle.std.specs.Bool.{passes}
-use Rattle.std.proofs.lemmas.List.{append_assoc, append-nil, map_push}
-use Rattle.indexmap.specs.IndexSet.{insert_key}
+use Rattle.std.proofs.lemmas.List.{map_push}
 use Rattle.osm_base.proofs.RisingKeys.{key_turned}
 use Rattle.osm_base.specs.KeyEq.{eq}
 use Rattle.osm_base.specs.Rank.{rank_cmp}
@@ -65,15 +64,3 @@ pub comes_last : (objects front : List OplObject) (last : OplObject) (key : Key)
 comes_last objects front last key e h =
     let keys : keys_of objects ≡ keys_of front ++ last.key ∷ [] = ap keys_of e ∙ map_push _ front last in
     rises_last (keys_of front) last.key key (subst (λ ks. T (rises ks)) keys h) ∙ ap (λ ks. rises (ks ++ key ∷ [])) (sym keys)
-
--- rising keys that are inserted one by one all stay, in their order
-inserted_behind : (front keys : List Key) → T (rises (front ++ keys)) → fold (insert_key eq) front keys ≡ front ++ keys
-inserted_behind front [] h = sym (append-nil front)
-inserted_behind front (k ∷ ks) h =
-    let parts : (front ++ k ∷ []) ++ ks ≡ front ++ k ∷ ks = append_assoc front (k ∷ []) ks in
-    let rising : T (rises ((front ++ k ∷ []) ++ ks)) = subst (λ js. T (rises js)) (sym parts) h in
-    let other : list_any (eq k) front ≡ false = last_new front k (rises_front (front ++ k ∷ []) ks rising) in
-    ap (λ b. fold (insert_key eq) (if b then front else front ++ k ∷ []) ks) other ∙ inserted_behind (front ++ k ∷ []) ks rising ∙ parts
-
-pub all_inserted : (keys : List Key) → T (rises keys) → fold (insert_key eq) [] keys ≡ keys
-all_inserted keys h = inserted_behind [] keys h

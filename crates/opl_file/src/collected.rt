@@ -51,11 +51,12 @@ impl Collected {
         ensures ok { IfOk result (λ added. self.new ≡ (if added then self.old ++ object ∷ [] else self.old)) }
         ensures err { OnErr result (self.new ≡ self.old) }
     {
-        if !self.known.note(self.alloc, &self.objects, object.key)? {
+        let key = object.key;
+        if !self.known.note(self.alloc, &self.objects, key)? {
             return Ok(false);
         }
         if self.objects.push(object).is_err() {
-            self.known.forget_last();
+            self.known.forget(key);
             return Err(AllocError);
         }
         Ok(true)

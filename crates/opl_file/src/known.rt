@@ -3,20 +3,21 @@
 //! Nearly every file stands in rank order. There a key is new where it comes after the last one,
 //! so beside the objects nothing is kept. The first key that doesn't rise has all keys hashed
 //! once, and from then on each is looked up.
-ghost use Rattle.std.specs.Prelude.{◌≡◌, ◌∷◌, ◌++◌, [], not, if◌then◌else◌, List, T, IfOk, OnOk, OnErr};
+ghost use Rattle.std.specs.Prelude.{◌≡◌, ◌∷◌, ◌++◌, [], false, not, if◌then◌else◌, List, T, IfOk, OnOk, OnErr};
+ghost use Rattle.std.specs.HashSet.{contains};
 ghost use Rattle.std.specs.List.{fold};
-ghost use Rattle.indexmap.specs.IndexSet.{insert_key};
 ghost use Rattle.osm_base.specs.KeyEq.{eq};
 ghost use Rattle.osm_base.specs.RisingKeys.{rises};
 ghost use Rattle.osm_base.specs.declared.key.Key.{Key};
+ghost use Rattle.opl_line.specs.declared.object.OplObject.{OplObject};
 ghost use Rattle.opl_file.specs.Objects.{has_key, keys_of};
-ghost use Rattle.opl_file.specs.Known.{Knows};
+ghost use Rattle.opl_file.specs.Known.{Knows, finds, Finds};
 
 use crate::Objects;
-use indexmap::IndexSet;
 use opl_line::OplObject;
 use osm_base::{Key, rank};
 use std::alloc::{AllocError, Global};
+use std::collections::HashSet;
 
 /// How the keys so far are known.
 #[derive(Drop)]
@@ -24,7 +25,7 @@ pub(crate) enum Known {
     /// They strictly rise by rank.
     Rising,
     /// They are those of the set.
-    Hashed(IndexSet<Key>),
+    Hashed(HashSet<Key>),
 }
 
 impl Known {
@@ -59,14 +60,14 @@ impl Known {
         }
     }
 
-    /// Forgets the last key.
-    pub(crate) fn forget_last(&mut self)
-        ensures { (keys : List Key) (key : Key) → Knows self.old (keys ++ key ∷ []) → Knows self.new keys }
+    /// Forgets a key that came last, and is that of none of the objects before it.
+    pub(crate) fn forget(&mut self, key: Key)
+        ensures { (objects : List OplObject) → has_key objects key ≡ false → Knows self.old (keys_of objects ++ key ∷ []) → Knows self.new (keys_of objects) }
     {
         match self {
             Known::Rising => {}
             Known::Hashed(keys) => {
-                let _key = keys.pop();
+                keys.remove(&key);
             }
         }
     }
@@ -84,19 +85,18 @@ fn comes_last(objects: &Objects, key: Key) -> bool
 }
 
 // The keys of the objects, each hashed once.
-fn hashed(alloc: Global, objects: &Objects) -> Result<IndexSet<Key>, AllocError>
-    requires { T (rises (keys_of objects.now)) }
-    ensures { IfOk result (λ set. set.keys ≡ keys_of objects.now) }
+fn hashed(alloc: Global, objects: &Objects) -> Result<HashSet<Key>, AllocError>
+    ensures { IfOk result (λ set. Finds (contains eq set) (keys_of objects.now)) }
 {
-    let mut keys = IndexSet::new(alloc);
+    let mut keys = HashSet::new(alloc);
     for batch in objects.batches() {
         hash_all(&mut keys, batch)?;
     }
     Ok(keys)
 }
 
-fn hash_all(keys: &mut IndexSet<Key>, objects: &[OplObject]) -> Result<(), AllocError>
-    ensures { OnOk result (keys.new.keys ≡ fold (insert_key eq) keys.old.keys (keys_of objects.now)) }
+fn hash_all(keys: &mut HashSet<Key>, objects: &[OplObject]) -> Result<(), AllocError>
+    ensures { OnOk result ((k : Key) → contains eq keys.new k ≡ fold (finds k) (contains eq keys.old k) (keys_of objects.now)) }
 {
     for object in objects {
         keys.insert(object.key)?;

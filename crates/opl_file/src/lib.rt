@@ -6,7 +6,7 @@
 //! far and one unfinished line, and reads a line that lies whole in a piece in place. Where the
 //! file isn't in rank order it keeps the objects' keys too. Files that aren't OPL's, as scripts, are
 //! cut by `next_line`, and `Unread` says why one of their lines gives nothing. It stands on `opl_line` for one line,
-//! on `memchr` for the ends of lines, and on `indexmap` for the keys.
+//! and on `memchr` for the ends of lines.
 //!
 //! For who changes it: `Lines` has the state of the lines and all that reads them, `Reader` adds
 //! the limit of the file and the want of memory. What `Lines` keeps true of itself is that its

@@ -11,8 +11,8 @@ ghost use Rattle.tool_api.specs.Checks.{is_named, entry_test, target_test, twice
 
 use crate::kinds::Kinds;
 use crate::refusal::Refusal;
+use closure::KeySet;
 use dataset::DataSet;
-use indexmap::IndexSet;
 use osm_base::{Key, node_key, same_key};
 use osm_table::{EntryParts, SharedEntry};
 use std::alloc::{AllocError, Global};
@@ -80,9 +80,9 @@ pub fn target_tests(ds: &DataSet, kinds: Kinds, keys: &[Key]) -> Option<Refusal>
 pub fn twice_test(alloc: Global, keys: &[Key]) -> Result<Option<Refusal>, AllocError>
     ensures { IfOk result (λ r. r ≡ twice_test [] keys.now) }
 {
-    let mut seen = IndexSet::new(alloc);
+    let mut seen = KeySet::new(alloc);
     for key in keys {
-        if !seen.insert(*key)? {
+        if !seen.put(*key)? {
             return Ok(Some(Refusal::NamedTwice(*key)));
         }
     }

@@ -1,34 +1,26 @@
 //! Lists of keys in which a key is found without a walk.
 ghost use Rattle.std.specs.Prelude.{◌≡◌, ◌++◌, ◌∷◌, [], if◌then◌else◌, IfOk, OnOk, OnErr};
 ghost use Rattle.tool_api.specs.Checks.{is_named};
-ghost use Rattle.tool_api.specs.Distinct.{distinct};
 
-use indexmap::IndexSet;
 use osm_base::Key;
 use std::alloc::{AllocError, Global};
 use std::marker::Model;
 
-/// A list of keys that knows at once whether a key is one of them.
+/// A list of keys that knows at once whether a key is one of them: the set of `closure`, in the words of jobs.
 ///
 /// Clauses see it as the list.
 #[derive(Drop)]
 pub struct KeySet {
-    keys: Vec<Key>,
-    index: IndexSet<Key>,
+    keys: closure::KeySet,
 }
 
 impl Model for KeySet {
-    ghost use Rattle.std.specs.Prelude.{◌≡◌, List};
-    ghost use Rattle.indexmap.specs.IndexSet.{contains};
-    ghost use Rattle.osm_base.specs.KeyEq.{eq};
+    ghost use Rattle.std.specs.Prelude.{List};
     ghost use Rattle.osm_base.specs.declared.key.Key.{Key};
-    ghost use Rattle.tool_api.specs.Checks.{is_named};
 
     ghost Value = { List Key };
 
-    ghost view = { λ s. s.keys.items };
-
-    ghost invariant = { λ s. (key : Key) → contains eq s.index key ≡ is_named s.keys.items key };
+    ghost view = { λ s. s.keys };
 }
 
 impl KeySet {
@@ -37,8 +29,7 @@ impl KeySet {
         ensures { result ≡ [] }
     {
         KeySet {
-            keys: Vec::new(alloc),
-            index: IndexSet::new(alloc),
+            keys: closure::KeySet::new(alloc),
         }
     }
 
@@ -49,8 +40,8 @@ impl KeySet {
     pub fn from_vec(keys: Vec<Key>) -> Result<KeySet, AllocError>
         ensures { IfOk result (λ set. set ≡ keys.items) }
     {
-        let index = index_of(*keys.allocator(), &keys)?;
-        Ok(KeySet { keys, index })
+        let keys = closure::KeySet::from_vec(keys)?;
+        Ok(KeySet { keys })
     }
 
     /// A copy of these keys. Each is hashed once.
@@ -60,22 +51,23 @@ impl KeySet {
     pub fn from_slice(alloc: Global, keys: &[Key]) -> Result<KeySet, AllocError>
         ensures { IfOk result (λ set. set ≡ keys.now) }
     {
-        KeySet::from_vec(Vec::from_slice(alloc, keys)?)
+        let keys = closure::KeySet::from_slice(alloc, keys)?;
+        Ok(KeySet { keys })
     }
 
     /// The allocator that it takes its memory from.
     pub fn alloc(&self) -> Global {
-        *self.keys.allocator()
+        self.keys.alloc()
     }
 
     /// Whether the key is one of those. One look-up.
     pub fn contains(&self, key: Key) -> bool
         ensures { result ≡ is_named self.now key }
     {
-        self.index.contains(&key)
+        self.keys.contains(key)
     }
 
-    /// Puts a key at the end, unless it is one of those already. One look-up, and one more to put it.
+    /// Puts a key at the end, unless it is one of those already. One look-up.
     ///
     /// # Errors
     /// No memory was left, and nothing has changed.
@@ -83,15 +75,8 @@ impl KeySet {
         ensures ok { OnOk result (self.new ≡ (if is_named self.old key then self.old else self.old ++ key ∷ [])) }
         ensures err { OnErr result (self.new ≡ self.old) }
     {
-        if self.contains(key) {
-            return Ok(());
-        }
-        self.keys.reserve(1)?;
-        self.index.insert(key)?;
-        match self.keys.push(key) {
-            Ok(()) => Ok(()),
-            Err(_) => unreachable!(),
-        }
+        self.keys.put(key)?;
+        Ok(())
     }
 
     /// The keys, in order.
@@ -100,25 +85,4 @@ impl KeySet {
     {
         self.keys.as_slice()
     }
-}
-
-/// Each of the keys once, in the order in which it comes first. It hashes each key once.
-///
-/// # Errors
-/// No memory was left.
-pub fn distinct(alloc: Global, keys: &[Key]) -> Result<Vec<Key>, AllocError>
-    ensures { IfOk result (λ once. once.items ≡ distinct keys.now) }
-{
-    let index = index_of(alloc, keys)?;
-    Vec::from_slice(alloc, index.as_slice())
-}
-
-fn index_of(alloc: Global, keys: &[Key]) -> Result<IndexSet<Key>, AllocError>
-    ensures { IfOk result (λ index. index.keys ≡ distinct keys.now) }
-{
-    let mut index = IndexSet::new(alloc);
-    for key in keys {
-        index.insert(*key)?;
-    }
-    Ok(index)
 }

@@ -10,6 +10,6 @@ use Rattle.map_search.proofs.relatives.children.Goals as goal
 pub returns : goal.returns
 returns c =
     let of = λ (k : Key). refs_at (entry_of c.args.ds.now k) in
-    let all = c.deref.ensures.value ∙ c.in_ok-refs.ensures in
+    let all = c.in_ok-set.ensures ∙ c.in_ok-refs.ensures in
     let P : (Key → Bool) → Type 0 = λ p. IfOk c.those_among.result (λ met. met.items ≡ filter p c.args.keys.now) in
-    subst P (λ i k. (c.in_ok-set.ensures k ∙ ap (λ (ks : List Key). is_in k ks) all ∙ in_each of k c.args.found.now) i) c.those_among.ensures
+    subst P (λ i k. (ap (λ (ks : List Key). is_in k ks) all ∙ in_each of k c.args.found.now) i) c.those_among.ensures

@@ -1,11 +1,12 @@
-use Rattle.std.proofs.Common.{◌≡◌, Bool, IfOk, subst}
+use Rattle.std.proofs.Common.{◌≡◌, IfOk, List, subst}
 use Rattle.std.specs.List.{filter, list_any}
+use Rattle.closure.specs.Closure.{has}
 use Rattle.dataset.specs.Exact.{refs_at}
+use Rattle.osm_base.specs.Rank.{is_key}
 use Rattle.osm_base.specs.declared.key.Key.{Key}
 use Rattle.osm_table.specs.Table.{entry_of}
 use Rattle.map_search.proofs.relatives.parents.Goals as goal
 
 pub returns : goal.returns
 returns c =
-    let P : (Key → Bool) → Type 0 = λ p. IfOk c.users_of.result (λ met. met.items ≡ filter p c.args.keys.now) in
-    subst P (λ i k. list_any (λ of. c.in_ok-found.ensures of i) (refs_at (entry_of c.args.ds.now k))) c.users_of.ensures
+    subst (λ (ks : List Key). IfOk c.users_of.result (λ met. met.items ≡ filter (λ k. list_any (has is_key ks) (refs_at (entry_of c.args.ds.now k))) c.args.keys.now)) c.in_ok-found.ensures c.users_of.ensures

@@ -13,24 +13,24 @@ want-requires c = record { sound = c.requires.sound; entries = c.requires.entrie
 pub hold-requires : goal.hold-requires
 hold-requires c = record {
   sound = c.requires.sound;
-  candidates = going_are c.args.ds.now c.args.told.now c.requires.sound c.sound.ensures.each c.args.candidates.now c.in_ok-candidates.candidates.keys c.requires.candidates c.in_ok-candidates.ensures;
+  candidates = going_are c.args.ds.now c.args.told.now c.requires.sound c.sound.ensures.each c.args.candidates.now c.in_ok-candidates.candidates c.requires.candidates c.in_ok-candidates.ensures;
   names = c.requires.names;
   late = λ k. ap (λ (ks : List Key). has is_key ks k) c.deref.ensures.value ∙ c.in_ok-wanted.ensures.names k;
 }
 
 pub write-requires : goal.write-requires
-write-requires c = record { going = going_are c.args.ds.now c.args.told.now c.requires.sound c.sound.ensures.each c.args.candidates.now c.in_ok-candidates.candidates.keys c.requires.candidates c.in_ok-candidates.ensures }
+write-requires c = record { going = going_are c.args.ds.now c.args.told.now c.requires.sound c.sound.ensures.each c.args.candidates.now c.in_ok-candidates.candidates c.requires.candidates c.in_ok-candidates.ensures }
 
 pub returns-clause-entries : goal.returns-clause-entries
 returns-clause-entries c =
     let t = c.args.ds.now in
     let m = c.args.told.now in
     finally t m c.requires.sound c.sound.ensures.each (drafted c.args.staged t) (drafted c.want.new.draft t) (drafted c.hold.new.draft t) (drafted c.write.new.draft t)
-    c.args.names.now c.in_ok-candidates.candidates.keys c.in_ok-wanted.wanted.keys.keys c.in_ok-wanted.wanted.names.items c.in_ok-held.held.keys
+    c.args.names.now c.in_ok-candidates.candidates c.in_ok-wanted.wanted.keys c.in_ok-wanted.wanted.names.items c.in_ok-held.held
     (record {
       staged = c.requires.entries;
       names = c.requires.names;
-      going = going_are t m c.requires.sound c.sound.ensures.each c.args.candidates.now c.in_ok-candidates.candidates.keys c.requires.candidates c.in_ok-candidates.ensures;
+      going = going_are t m c.requires.sound c.sound.ensures.each c.args.candidates.now c.in_ok-candidates.candidates c.requires.candidates c.in_ok-candidates.ensures;
       wants = c.in_ok-wanted.ensures.wanted;
       late = c.in_ok-wanted.ensures.names;
       came = c.in_ok-wanted.ensures.entries;

@@ -5,4 +5,4 @@ use Rattle.merge_tool.specs.Walks.{lost_refs}
 use Rattle.merge_tool.proofs.wanting.lost_names.Given as goal
 
 abbrev pub invariant-loop-i : goal.invariant-loop-i
-invariant-loop-i l = l.names.items ≡ flat_map (lost_refs (drafted l.draft l.ds)) (take l.i l.keys.keys)
+invariant-loop-i l = l.names.items ≡ flat_map (lost_refs (drafted l.draft l.ds)) (take l.i l.keys)

@@ -10,7 +10,7 @@ returns-clause-wanted c =
     let t = c.args.ds.now in
     let m = c.args.told.now in
     wants_are t m c.requires.sound c.sound.ensures.each (drafted c.args.draft.now t) (drafted c.name_all.new.draft t) c.args.names.now c.name_all.new.out.items c.requires.entries c.requires.names c.in_ok-name_all.ensures.entries
-    c.deref.result.now c.in_ok-keys.keys.keys (c.in_ok-name_all.ensures.lost ∙ ap (λ (ks : List Key). ks ++ filter (is_lost (drafted c.args.draft.now t)) c.args.names.now) c.new-lost.ensures.items) c.deref.ensures.value c.in_ok-keys.ensures
+    c.deref.result.now c.in_ok-keys.keys (c.in_ok-name_all.ensures.lost ∙ ap (λ (ks : List Key). ks ++ filter (is_lost (drafted c.args.draft.now t)) c.args.names.now) c.new-lost.ensures.items) c.deref.ensures.value c.in_ok-keys.ensures
 
 pub returns-clause-names : goal.returns-clause-names
 returns-clause-names c =
@@ -18,7 +18,7 @@ returns-clause-names c =
     let m = c.args.told.now in
     late_are t m c.requires.sound c.sound.ensures.each (drafted c.name_all.new.draft t)
     (lost_named t m c.requires.sound c.sound.ensures.each (drafted c.args.draft.now t) (drafted c.name_all.new.draft t) c.args.names.now c.name_all.new.out.items c.requires.entries c.requires.names c.in_ok-name_all.ensures.entries)
-    c.in_ok-keys.keys.keys c.in_ok-late.late.items
+    c.in_ok-keys.keys c.in_ok-late.late.items
     (wants_are t m c.requires.sound c.sound.ensures.each (drafted c.args.draft.now t) (drafted c.name_all.new.draft t) c.args.names.now c.name_all.new.out.items c.requires.entries c.requires.names c.in_ok-name_all.ensures.entries
-    c.deref.result.now c.in_ok-keys.keys.keys (c.in_ok-name_all.ensures.lost ∙ ap (λ (ks : List Key). ks ++ filter (is_lost (drafted c.args.draft.now t)) c.args.names.now) c.new-lost.ensures.items) c.deref.ensures.value c.in_ok-keys.ensures)
+    c.deref.result.now c.in_ok-keys.keys (c.in_ok-name_all.ensures.lost ∙ ap (λ (ks : List Key). ks ++ filter (is_lost (drafted c.args.draft.now t)) c.args.names.now) c.new-lost.ensures.items) c.deref.ensures.value c.in_ok-keys.ensures)
     c.in_ok-late.ensures

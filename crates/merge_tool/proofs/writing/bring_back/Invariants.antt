@@ -10,5 +10,5 @@ use Rattle.merge_tool.proofs.writing.bring_back.Given as goal
 
 abbrev pub invariant-loop-i : goal.invariant-loop-i
 invariant-loop-i l =
-    ((q : Key) → entry_of (drafted l.draft l.ds) q ≡ cond (has is_key (take l.i l.wanted.keys) q) (option_map back (entry_of (drafted l.initial.draft l.ds) q)) (entry_of (drafted l.initial.draft l.ds) q))
+    ((q : Key) → entry_of (drafted l.draft l.ds) q ≡ cond (has is_key (take l.i l.wanted) q) (option_map back (entry_of (drafted l.initial.draft l.ds) q)) (entry_of (drafted l.initial.draft l.ds) q))
     × (l.draft.next ≡ l.initial.draft.next)

@@ -9,5 +9,5 @@ use Rattle.merge_tool.proofs.writing.let_go.Given as goal
 
 abbrev pub invariant-loop-i : goal.invariant-loop-i
 invariant-loop-i l =
-    ((q : Key) → entry_of (drafted l.draft l.ds) q ≡ cond (has is_key (take l.i l.candidates.keys) q) (left l.ds l.told.told l.held.keys q) (entry_of (drafted l.initial.draft l.ds) q))
+    ((q : Key) → entry_of (drafted l.draft l.ds) q ≡ cond (has is_key (take l.i l.candidates) q) (left l.ds l.told.told l.held q) (entry_of (drafted l.initial.draft l.ds) q))
     × (l.draft.next ≡ l.initial.draft.next)

@@ -5,9 +5,9 @@ use Rattle.tool_api.proofs.checks.twice_test.Goals as goal
 pub returns-then-not-branch : goal.returns-then-not-branch
 returns-then-not-branch c =
     let within : c.loop-key.key-index < length c.args.keys.now = omega arith in
-    named_again c.args.keys.now c.loop-key.seen.keys c.loop-key.key-index _ _ within (is_not false _ (sym c.if-not-branch.true ∙ c.in_ok-insert.ensures.added)) c.loop-key.invariant
+    named_again c.args.keys.now c.loop-key.seen c.loop-key.key-index _ _ within (is_not false _ (sym c.if-not-branch.true ∙ c.in_ok-put.ensures.new)) c.loop-key.invariant
 
 pub loop-key-preserved : goal.loop-key-preserved
 loop-key-preserved c =
     let within : c.loop-key.key-index < length c.args.keys.now = omega arith in
-    named_once c.args.keys.now c.loop-key.seen.keys _ c.loop-key.key-index _ _ within (is_not true _ (sym c.if-not-branch.false ∙ c.in_ok-insert.ensures.added)) c.in_ok-insert.ensures.keys c.loop-key.invariant
+    named_once c.args.keys.now c.loop-key.seen _ c.loop-key.key-index _ _ within (is_not true _ (sym c.if-not-branch.false ∙ c.in_ok-put.ensures.new)) c.in_ok-put.ensures.ok c.loop-key.invariant

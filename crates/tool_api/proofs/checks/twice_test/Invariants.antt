@@ -3,4 +3,4 @@ use Rattle.tool_api.specs.Checks.{twice_test}
 use Rattle.tool_api.proofs.checks.twice_test.Given as goal
 
 abbrev pub invariant-loop-key : goal.invariant-loop-key
-invariant-loop-key l = twice_test l.seen.keys (drop l.key-index l.keys) ≡ twice_test [] l.keys
+invariant-loop-key l = twice_test l.seen (drop l.key-index l.keys) ≡ twice_test [] l.keys
