@@ -5,7 +5,7 @@ ghost use Rattle.edit_script.specs.Place.{begins_meeting, belongs, is_meeting, m
 use crate::step::{Act, Purpose, Step};
 
 /// Where a step stands.
-#[derive(Clone, Copy, Debug, PartialEq, Eq)]
+#[derive(Clone, Copy)]
 pub enum Place {
     /// Before all others.
     Start,
