@@ -4,3 +4,4 @@ pub mod Lookup
 mod MeetingExamples
 pub mod Orderly
 pub mod TagKeys
+pub mod Texts

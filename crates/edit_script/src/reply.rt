@@ -116,8 +116,7 @@ fn write_more_keys(keys: &[Key], out: &mut Vec<u8>) -> Result<(), AllocError>
     ensures kept { OnErr result (Extends out.old.items out.new.items) }
 {
     for key in keys {
-        out.push(b',')?;
-        write_key(*key, out)?;
+        write_key_after(b',', *key, out)?;
     }
     Ok(())
 }
@@ -127,7 +126,15 @@ fn write_key_behind(key: Key, out: &mut Vec<u8>) -> Result<(), AllocError>
     ensures written { OnOk result (out.new.items ≡ out.old.items ++ key_behind key) }
     ensures kept { OnErr result (Extends out.old.items out.new.items) }
 {
-    out.push(b' ')?;
+    write_key_after(b' ', key, out)
+}
+
+#[tactic(auto, using(osm_base::proofs::ExtendLaws::extends_steps))]
+fn write_key_after(mark: u8, key: Key, out: &mut Vec<u8>) -> Result<(), AllocError>
+    ensures written { OnOk result (out.new.items ≡ out.old.items ++ (mark ∷ key_written key)) }
+    ensures kept { OnErr result (Extends out.old.items out.new.items) }
+{
+    out.push(mark)?;
     write_key(key, out)
 }
 

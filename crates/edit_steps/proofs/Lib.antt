@@ -10,3 +10,4 @@ mod Ran
 mod Refusing
 mod Settles
 pub mod Steps
+mod Texts

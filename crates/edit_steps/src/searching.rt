@@ -5,6 +5,7 @@ ghost use Rattle.edit_script.specs.declared.reply.StepReply.TheVariants.{Done};
 ghost use Rattle.map_search.specs.Meets.{found};
 ghost use Rattle.map_search.specs.Query.{depth};
 ghost use Rattle.map_checks.specs.Findings.{findings};
+ghost use Rattle.map_checks.specs.declared.finding.Finding.TheVariants.{Doubled};
 ghost use Rattle.edit_steps.specs.Planned.{IsSized};
 ghost use Rattle.edit_steps.specs.declared.response.Behind.TheVariants as behind;
 ghost use Rattle.edit_steps.specs.Searched.{finding_line, findings_lines, key_line};
@@ -76,12 +77,7 @@ fn write_finding(finding: Finding, out: &mut Vec<u8>) -> Result<(), AllocError>
     ensures kept { OnErr result (Extends out.old.items out.new.items) }
 {
     match finding {
-        Finding::Doubled { key, of } => {
-            out.extend_from_slice(b"doubled ")?;
-            write_key(key, out)?;
-            out.push(b' ')?;
-            write_key_line(of, out)
-        }
+        Finding::Doubled { key, of } => write_doubled(key, of, out),
         Finding::Repeated(key) => {
             out.extend_from_slice(b"repeated ")?;
             write_key_line(key, out)
@@ -91,4 +87,15 @@ fn write_finding(finding: Finding, out: &mut Vec<u8>) -> Result<(), AllocError>
             write_key_line(key, out)
         }
     }
+}
+
+#[tactic(auto, using(osm_base::proofs::ExtendLaws::extends_steps))]
+fn write_doubled(key: Key, of: Key, out: &mut Vec<u8>) -> Result<(), AllocError>
+    ensures written { OnOk result (out.new.items ≡ out.old.items ++ finding_line (Doubled key of)) }
+    ensures kept { OnErr result (Extends out.old.items out.new.items) }
+{
+    out.extend_from_slice(b"doubled ")?;
+    write_key(key, out)?;
+    out.push(b' ')?;
+    write_key_line(of, out)
 }

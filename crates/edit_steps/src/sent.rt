@@ -1,10 +1,11 @@
 //! The text of `send`.
 ghost use Rattle.std.specs.Prelude.{◌≡◌, ◌++◌, ◌+◌, ◌<◌, ◌^◌, OnOk, OnErr};
 ghost use Rattle.osm_base.specs.Extends.{Extends};
+ghost use Rattle.edit_script.specs.Reply.{key_behind};
 ghost use Rattle.edit_steps.specs.Sent.{carried, refused_text, sent_text};
 
 use crate::counting::write_part;
-use osm_base::write_key;
+use osm_base::{Key, write_key};
 use server_world::WorldRefusal;
 use std::alloc::AllocError;
 
@@ -53,10 +54,16 @@ fn write_carried(why: WorldRefusal, out: &mut Vec<u8>) -> Result<(), AllocError>
 {
     match why {
         WorldRefusal::OldVersion { has } => write_part(b" ", has, out),
-        WorldRefusal::BadRef(key) | WorldRefusal::Used(key) => {
-            out.push(b' ')?;
-            write_key(key, out)
-        }
+        WorldRefusal::BadRef(key) | WorldRefusal::Used(key) => write_key_behind(key, out),
         WorldRefusal::Exists | WorldRefusal::Missing | WorldRefusal::Unfit => Ok(()),
     }
+}
+
+#[tactic(auto, using(osm_base::proofs::ExtendLaws::extends_steps))]
+fn write_key_behind(key: Key, out: &mut Vec<u8>) -> Result<(), AllocError>
+    ensures written { OnOk result (out.new.items ≡ out.old.items ++ key_behind key) }
+    ensures kept { OnErr result (Extends out.old.items out.new.items) }
+{
+    out.push(b' ')?;
+    write_key(key, out)
 }

@@ -1,0 +1,12 @@
+use Rattle.std.proofs.Common.{append_assoc}
+use Rattle.std.proofs.lemmas.Result.{err_from_is_err_and}
+use Rattle.osm_base.proofs.ExtendLaws.{extends_more}
+use Rattle.saved_session.proofs.writing.write_incomplete.Goals as goal
+
+pub returns-in_err-write_key : goal.returns-in_err-write_key
+returns-in_err-write_key c =
+    let p = err_from_is_err_and c.from_residual-in_err-write_key.result c.from_residual-in_err-write_key.ensures.1 in
+    rw p.1 (record { written = tt; kept = extends_more _ _ _ _ c.in_ok-extend_from_slice.ensures.items c.in_err-write_key.ensures.kept })
+
+pub returns : goal.returns
+returns c = record { written = rw (c.in_ok-write_key.ensures.written, c.in_ok-extend_from_slice.ensures.items) (simp append_assoc); kept = tt }
