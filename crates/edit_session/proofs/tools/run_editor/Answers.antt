@@ -19,50 +19,110 @@ is_new at verb i y x made new =
     let T = (dyn-1-ghosts (own-1, lawful-own-1)).0 in
     (read_made T (T.entry at) at refl _ (λ j z. j.1.kind z) i y x made ∙ new.0, read_made T (T.entry at) at refl _ (λ j z. j.1.done z) i y x made ∙ new.1, read_made T (T.entry at) at refl _ (λ j z. j.1.undone z) i y x made ∙ new.2)
 
-pub with_four-requires-clause-new : goal.with_four-requires-clause-new
-with_four-requires-clause-new g c = (is_new at-1-1 Add _ _ _ c.into_dyn_box.ensures.1 c.in_ok-first.ensures.first, is_new at-1-1 Add _ _ _ c.into_dyn_box-2.ensures.1 c.in_ok-first.ensures.second, is_new at-1-1 Add _ _ _ c.into_dyn_box-3.ensures.1 c.in_ok-first.ensures.third, is_new at-1-1 Add _ _ _ c.into_dyn_box-4.ensures.1 c.in_ok-first.ensures.fourth)
+pub with_four-requires : goal.with_four-requires
+with_four-requires g c = record {
+  dones = c.no_boxes-tools.ensures.dones;
+  undones = c.no_boxes-tools.ensures.undones;
+  new = (is_new at-1-1 Add _ _ _ c.into_dyn_box.ensures.1 c.in_ok-first.ensures.first, is_new at-1-1 Add _ _ _ c.into_dyn_box-2.ensures.1 c.in_ok-first.ensures.second, is_new at-1-1 Add _ _ _ c.into_dyn_box-3.ensures.1 c.in_ok-first.ensures.third, is_new at-1-1 Add _ _ _ c.into_dyn_box-4.ensures.1 c.in_ok-first.ensures.fourth);
+}
 
-pub with_four-requires-2-clause-new : goal.with_four-requires-2-clause-new
-with_four-requires-2-clause-new g c = (is_new at-1-2 Tag _ _ _ c.into_dyn_box-5.ensures.1 c.in_ok-first-2.ensures.first, is_new at-1-2 Tag _ _ _ c.into_dyn_box-6.ensures.1 c.in_ok-first-2.ensures.second, is_new at-1-2 Tag _ _ _ c.into_dyn_box-7.ensures.1 c.in_ok-first-2.ensures.third, is_new at-1-2 Tag _ _ _ c.into_dyn_box-8.ensures.1 c.in_ok-first-2.ensures.fourth)
+pub with_four-requires-2 : goal.with_four-requires-2
+with_four-requires-2 g c = record {
+  dones = c.in_ok-tools.ensures.dones;
+  undones = c.in_ok-tools.ensures.undones;
+  new = (is_new at-1-2 Tag _ _ _ c.into_dyn_box-5.ensures.1 c.in_ok-first-2.ensures.first, is_new at-1-2 Tag _ _ _ c.into_dyn_box-6.ensures.1 c.in_ok-first-2.ensures.second, is_new at-1-2 Tag _ _ _ c.into_dyn_box-7.ensures.1 c.in_ok-first-2.ensures.third, is_new at-1-2 Tag _ _ _ c.into_dyn_box-8.ensures.1 c.in_ok-first-2.ensures.fourth);
+}
 
-pub with_four-requires-3-clause-new : goal.with_four-requires-3-clause-new
-with_four-requires-3-clause-new g c = (is_new at-1-3 Move _ _ _ c.into_dyn_box-9.ensures.1 c.in_ok-first-3.ensures.first, is_new at-1-3 Move _ _ _ c.into_dyn_box-10.ensures.1 c.in_ok-first-3.ensures.second, is_new at-1-3 Move _ _ _ c.into_dyn_box-11.ensures.1 c.in_ok-first-3.ensures.third, is_new at-1-3 Move _ _ _ c.into_dyn_box-12.ensures.1 c.in_ok-first-3.ensures.fourth)
+pub with_four-requires-3 : goal.with_four-requires-3
+with_four-requires-3 g c = record {
+  dones = c.in_ok-tools-2.ensures.dones;
+  undones = c.in_ok-tools-2.ensures.undones;
+  new = (is_new at-1-3 Move _ _ _ c.into_dyn_box-9.ensures.1 c.in_ok-first-3.ensures.first, is_new at-1-3 Move _ _ _ c.into_dyn_box-10.ensures.1 c.in_ok-first-3.ensures.second, is_new at-1-3 Move _ _ _ c.into_dyn_box-11.ensures.1 c.in_ok-first-3.ensures.third, is_new at-1-3 Move _ _ _ c.into_dyn_box-12.ensures.1 c.in_ok-first-3.ensures.fourth);
+}
 
-pub with_four-requires-4-clause-new : goal.with_four-requires-4-clause-new
-with_four-requires-4-clause-new g c = (is_new at-1-4 Change _ _ _ c.into_dyn_box-13.ensures.1 c.in_ok-first-4.ensures.first, is_new at-1-4 Change _ _ _ c.into_dyn_box-14.ensures.1 c.in_ok-first-4.ensures.second, is_new at-1-4 Change _ _ _ c.into_dyn_box-15.ensures.1 c.in_ok-first-4.ensures.third, is_new at-1-4 Change _ _ _ c.into_dyn_box-16.ensures.1 c.in_ok-first-4.ensures.fourth)
+pub with_four-requires-4 : goal.with_four-requires-4
+with_four-requires-4 g c = record {
+  dones = c.in_ok-tools-3.ensures.dones;
+  undones = c.in_ok-tools-3.ensures.undones;
+  new = (is_new at-1-4 Change _ _ _ c.into_dyn_box-13.ensures.1 c.in_ok-first-4.ensures.first, is_new at-1-4 Change _ _ _ c.into_dyn_box-14.ensures.1 c.in_ok-first-4.ensures.second, is_new at-1-4 Change _ _ _ c.into_dyn_box-15.ensures.1 c.in_ok-first-4.ensures.third, is_new at-1-4 Change _ _ _ c.into_dyn_box-16.ensures.1 c.in_ok-first-4.ensures.fourth);
+}
 
-pub with_four-requires-5-clause-new : goal.with_four-requires-5-clause-new
-with_four-requires-5-clause-new g c = (is_new at-1-5 Delete _ _ _ c.into_dyn_box-17.ensures.1 c.in_ok-first-5.ensures.first, is_new at-1-5 Delete _ _ _ c.into_dyn_box-18.ensures.1 c.in_ok-first-5.ensures.second, is_new at-1-5 Delete _ _ _ c.into_dyn_box-19.ensures.1 c.in_ok-first-5.ensures.third, is_new at-1-5 Delete _ _ _ c.into_dyn_box-20.ensures.1 c.in_ok-first-5.ensures.fourth)
+pub with_four-requires-5 : goal.with_four-requires-5
+with_four-requires-5 g c = record {
+  dones = c.in_ok-tools-4.ensures.dones;
+  undones = c.in_ok-tools-4.ensures.undones;
+  new = (is_new at-1-5 Delete _ _ _ c.into_dyn_box-17.ensures.1 c.in_ok-first-5.ensures.first, is_new at-1-5 Delete _ _ _ c.into_dyn_box-18.ensures.1 c.in_ok-first-5.ensures.second, is_new at-1-5 Delete _ _ _ c.into_dyn_box-19.ensures.1 c.in_ok-first-5.ensures.third, is_new at-1-5 Delete _ _ _ c.into_dyn_box-20.ensures.1 c.in_ok-first-5.ensures.fourth);
+}
 
-pub with_four-requires-6-clause-new : goal.with_four-requires-6-clause-new
-with_four-requires-6-clause-new g c = (is_new at-1-6 Erase _ _ _ c.into_dyn_box-21.ensures.1 c.in_ok-first-6.ensures.first, is_new at-1-6 Erase _ _ _ c.into_dyn_box-22.ensures.1 c.in_ok-first-6.ensures.second, is_new at-1-6 Erase _ _ _ c.into_dyn_box-23.ensures.1 c.in_ok-first-6.ensures.third, is_new at-1-6 Erase _ _ _ c.into_dyn_box-24.ensures.1 c.in_ok-first-6.ensures.fourth)
+pub with_four-requires-6 : goal.with_four-requires-6
+with_four-requires-6 g c = record {
+  dones = c.in_ok-tools-5.ensures.dones;
+  undones = c.in_ok-tools-5.ensures.undones;
+  new = (is_new at-1-6 Erase _ _ _ c.into_dyn_box-21.ensures.1 c.in_ok-first-6.ensures.first, is_new at-1-6 Erase _ _ _ c.into_dyn_box-22.ensures.1 c.in_ok-first-6.ensures.second, is_new at-1-6 Erase _ _ _ c.into_dyn_box-23.ensures.1 c.in_ok-first-6.ensures.third, is_new at-1-6 Erase _ _ _ c.into_dyn_box-24.ensures.1 c.in_ok-first-6.ensures.fourth);
+}
 
-pub with_four-requires-7-clause-new : goal.with_four-requires-7-clause-new
-with_four-requires-7-clause-new g c = (is_new at-1-7 Purge _ _ _ c.into_dyn_box-25.ensures.1 c.in_ok-first-7.ensures.first, is_new at-1-7 Purge _ _ _ c.into_dyn_box-26.ensures.1 c.in_ok-first-7.ensures.second, is_new at-1-7 Purge _ _ _ c.into_dyn_box-27.ensures.1 c.in_ok-first-7.ensures.third, is_new at-1-7 Purge _ _ _ c.into_dyn_box-28.ensures.1 c.in_ok-first-7.ensures.fourth)
+pub with_four-requires-7 : goal.with_four-requires-7
+with_four-requires-7 g c = record {
+  dones = c.in_ok-tools-6.ensures.dones;
+  undones = c.in_ok-tools-6.ensures.undones;
+  new = (is_new at-1-7 Purge _ _ _ c.into_dyn_box-25.ensures.1 c.in_ok-first-7.ensures.first, is_new at-1-7 Purge _ _ _ c.into_dyn_box-26.ensures.1 c.in_ok-first-7.ensures.second, is_new at-1-7 Purge _ _ _ c.into_dyn_box-27.ensures.1 c.in_ok-first-7.ensures.third, is_new at-1-7 Purge _ _ _ c.into_dyn_box-28.ensures.1 c.in_ok-first-7.ensures.fourth);
+}
 
-pub with_four-requires-8-clause-new : goal.with_four-requires-8-clause-new
-with_four-requires-8-clause-new g c = (is_new at-1-8 Split _ _ _ c.into_dyn_box-29.ensures.1 c.in_ok-first-8.ensures.first, is_new at-1-8 Split _ _ _ c.into_dyn_box-30.ensures.1 c.in_ok-first-8.ensures.second, is_new at-1-8 Split _ _ _ c.into_dyn_box-31.ensures.1 c.in_ok-first-8.ensures.third, is_new at-1-8 Split _ _ _ c.into_dyn_box-32.ensures.1 c.in_ok-first-8.ensures.fourth)
+pub with_four-requires-8 : goal.with_four-requires-8
+with_four-requires-8 g c = record {
+  dones = c.in_ok-tools-7.ensures.dones;
+  undones = c.in_ok-tools-7.ensures.undones;
+  new = (is_new at-1-8 Split _ _ _ c.into_dyn_box-29.ensures.1 c.in_ok-first-8.ensures.first, is_new at-1-8 Split _ _ _ c.into_dyn_box-30.ensures.1 c.in_ok-first-8.ensures.second, is_new at-1-8 Split _ _ _ c.into_dyn_box-31.ensures.1 c.in_ok-first-8.ensures.third, is_new at-1-8 Split _ _ _ c.into_dyn_box-32.ensures.1 c.in_ok-first-8.ensures.fourth);
+}
 
-pub with_four-requires-9-clause-new : goal.with_four-requires-9-clause-new
-with_four-requires-9-clause-new g c = (is_new at-1-9 Combine _ _ _ c.into_dyn_box-33.ensures.1 c.in_ok-first-9.ensures.first, is_new at-1-9 Combine _ _ _ c.into_dyn_box-34.ensures.1 c.in_ok-first-9.ensures.second, is_new at-1-9 Combine _ _ _ c.into_dyn_box-35.ensures.1 c.in_ok-first-9.ensures.third, is_new at-1-9 Combine _ _ _ c.into_dyn_box-36.ensures.1 c.in_ok-first-9.ensures.fourth)
+pub with_four-requires-9 : goal.with_four-requires-9
+with_four-requires-9 g c = record {
+  dones = c.in_ok-tools-8.ensures.dones;
+  undones = c.in_ok-tools-8.ensures.undones;
+  new = (is_new at-1-9 Combine _ _ _ c.into_dyn_box-33.ensures.1 c.in_ok-first-9.ensures.first, is_new at-1-9 Combine _ _ _ c.into_dyn_box-34.ensures.1 c.in_ok-first-9.ensures.second, is_new at-1-9 Combine _ _ _ c.into_dyn_box-35.ensures.1 c.in_ok-first-9.ensures.third, is_new at-1-9 Combine _ _ _ c.into_dyn_box-36.ensures.1 c.in_ok-first-9.ensures.fourth);
+}
 
-pub with_four-requires-10-clause-new : goal.with_four-requires-10-clause-new
-with_four-requires-10-clause-new g c = (is_new at-1-10 Reverse _ _ _ c.into_dyn_box-37.ensures.1 c.in_ok-first-10.ensures.first, is_new at-1-10 Reverse _ _ _ c.into_dyn_box-38.ensures.1 c.in_ok-first-10.ensures.second, is_new at-1-10 Reverse _ _ _ c.into_dyn_box-39.ensures.1 c.in_ok-first-10.ensures.third, is_new at-1-10 Reverse _ _ _ c.into_dyn_box-40.ensures.1 c.in_ok-first-10.ensures.fourth)
+pub with_four-requires-10 : goal.with_four-requires-10
+with_four-requires-10 g c = record {
+  dones = c.in_ok-tools-9.ensures.dones;
+  undones = c.in_ok-tools-9.ensures.undones;
+  new = (is_new at-1-10 Reverse _ _ _ c.into_dyn_box-37.ensures.1 c.in_ok-first-10.ensures.first, is_new at-1-10 Reverse _ _ _ c.into_dyn_box-38.ensures.1 c.in_ok-first-10.ensures.second, is_new at-1-10 Reverse _ _ _ c.into_dyn_box-39.ensures.1 c.in_ok-first-10.ensures.third, is_new at-1-10 Reverse _ _ _ c.into_dyn_box-40.ensures.1 c.in_ok-first-10.ensures.fourth);
+}
 
-pub with_four-requires-11-clause-new : goal.with_four-requires-11-clause-new
-with_four-requires-11-clause-new g c = (is_new at-1-11 Merge _ _ _ c.into_dyn_box-41.ensures.1 c.in_ok-first-11.ensures.first, is_new at-1-11 Merge _ _ _ c.into_dyn_box-42.ensures.1 c.in_ok-first-11.ensures.second, is_new at-1-11 Merge _ _ _ c.into_dyn_box-43.ensures.1 c.in_ok-first-11.ensures.third, is_new at-1-11 Merge _ _ _ c.into_dyn_box-44.ensures.1 c.in_ok-first-11.ensures.fourth)
+pub with_four-requires-11 : goal.with_four-requires-11
+with_four-requires-11 g c = record {
+  dones = c.in_ok-tools-10.ensures.dones;
+  undones = c.in_ok-tools-10.ensures.undones;
+  new = (is_new at-1-11 Merge _ _ _ c.into_dyn_box-41.ensures.1 c.in_ok-first-11.ensures.first, is_new at-1-11 Merge _ _ _ c.into_dyn_box-42.ensures.1 c.in_ok-first-11.ensures.second, is_new at-1-11 Merge _ _ _ c.into_dyn_box-43.ensures.1 c.in_ok-first-11.ensures.third, is_new at-1-11 Merge _ _ _ c.into_dyn_box-44.ensures.1 c.in_ok-first-11.ensures.fourth);
+}
 
-pub with_four-requires-12-clause-new : goal.with_four-requires-12-clause-new
-with_four-requires-12-clause-new g c = (is_new at-1-12 Import _ _ _ c.into_dyn_box-45.ensures.1 c.in_ok-first-12.ensures.first, is_new at-1-12 Import _ _ _ c.into_dyn_box-46.ensures.1 c.in_ok-first-12.ensures.second, is_new at-1-12 Import _ _ _ c.into_dyn_box-47.ensures.1 c.in_ok-first-12.ensures.third, is_new at-1-12 Import _ _ _ c.into_dyn_box-48.ensures.1 c.in_ok-first-12.ensures.fourth)
+pub with_four-requires-12 : goal.with_four-requires-12
+with_four-requires-12 g c = record {
+  dones = c.in_ok-tools-11.ensures.dones;
+  undones = c.in_ok-tools-11.ensures.undones;
+  new = (is_new at-1-12 Import _ _ _ c.into_dyn_box-45.ensures.1 c.in_ok-first-12.ensures.first, is_new at-1-12 Import _ _ _ c.into_dyn_box-46.ensures.1 c.in_ok-first-12.ensures.second, is_new at-1-12 Import _ _ _ c.into_dyn_box-47.ensures.1 c.in_ok-first-12.ensures.third, is_new at-1-12 Import _ _ _ c.into_dyn_box-48.ensures.1 c.in_ok-first-12.ensures.fourth);
+}
 
-pub with_four-requires-13-clause-new : goal.with_four-requires-13-clause-new
-with_four-requires-13-clause-new g c = (is_new at-1-13 Resolve _ _ _ c.into_dyn_box-49.ensures.1 c.in_ok-first-13.ensures.first, is_new at-1-13 Resolve _ _ _ c.into_dyn_box-50.ensures.1 c.in_ok-first-13.ensures.second, is_new at-1-13 Resolve _ _ _ c.into_dyn_box-51.ensures.1 c.in_ok-first-13.ensures.third, is_new at-1-13 Resolve _ _ _ c.into_dyn_box-52.ensures.1 c.in_ok-first-13.ensures.fourth)
+pub with_four-requires-13 : goal.with_four-requires-13
+with_four-requires-13 g c = record {
+  dones = c.in_ok-tools-12.ensures.dones;
+  undones = c.in_ok-tools-12.ensures.undones;
+  new = (is_new at-1-13 Resolve _ _ _ c.into_dyn_box-49.ensures.1 c.in_ok-first-13.ensures.first, is_new at-1-13 Resolve _ _ _ c.into_dyn_box-50.ensures.1 c.in_ok-first-13.ensures.second, is_new at-1-13 Resolve _ _ _ c.into_dyn_box-51.ensures.1 c.in_ok-first-13.ensures.third, is_new at-1-13 Resolve _ _ _ c.into_dyn_box-52.ensures.1 c.in_ok-first-13.ensures.fourth);
+}
 
-pub with_four-requires-14-clause-new : goal.with_four-requires-14-clause-new
-with_four-requires-14-clause-new g c = (is_new at-1-14 Squeeze _ _ _ c.into_dyn_box-53.ensures.1 c.in_ok-first-14.ensures.first, is_new at-1-14 Squeeze _ _ _ c.into_dyn_box-54.ensures.1 c.in_ok-first-14.ensures.second, is_new at-1-14 Squeeze _ _ _ c.into_dyn_box-55.ensures.1 c.in_ok-first-14.ensures.third, is_new at-1-14 Squeeze _ _ _ c.into_dyn_box-56.ensures.1 c.in_ok-first-14.ensures.fourth)
+pub with_four-requires-14 : goal.with_four-requires-14
+with_four-requires-14 g c = record {
+  dones = c.in_ok-tools-13.ensures.dones;
+  undones = c.in_ok-tools-13.ensures.undones;
+  new = (is_new at-1-14 Squeeze _ _ _ c.into_dyn_box-53.ensures.1 c.in_ok-first-14.ensures.first, is_new at-1-14 Squeeze _ _ _ c.into_dyn_box-54.ensures.1 c.in_ok-first-14.ensures.second, is_new at-1-14 Squeeze _ _ _ c.into_dyn_box-55.ensures.1 c.in_ok-first-14.ensures.third, is_new at-1-14 Squeeze _ _ _ c.into_dyn_box-56.ensures.1 c.in_ok-first-14.ensures.fourth);
+}
 
-pub with_four-requires-15-clause-new : goal.with_four-requires-15-clause-new
-with_four-requires-15-clause-new g c = (is_new at-1-15 Fuse _ _ _ c.into_dyn_box-57.ensures.1 c.in_ok-first-15.ensures.first, is_new at-1-15 Fuse _ _ _ c.into_dyn_box-58.ensures.1 c.in_ok-first-15.ensures.second, is_new at-1-15 Fuse _ _ _ c.into_dyn_box-59.ensures.1 c.in_ok-first-15.ensures.third, is_new at-1-15 Fuse _ _ _ c.into_dyn_box-60.ensures.1 c.in_ok-first-15.ensures.fourth)
+pub with_four-requires-15 : goal.with_four-requires-15
+with_four-requires-15 g c = record {
+  dones = c.in_ok-tools-14.ensures.dones;
+  undones = c.in_ok-tools-14.ensures.undones;
+  new = (is_new at-1-15 Fuse _ _ _ c.into_dyn_box-57.ensures.1 c.in_ok-first-15.ensures.first, is_new at-1-15 Fuse _ _ _ c.into_dyn_box-58.ensures.1 c.in_ok-first-15.ensures.second, is_new at-1-15 Fuse _ _ _ c.into_dyn_box-59.ensures.1 c.in_ok-first-15.ensures.third, is_new at-1-15 Fuse _ _ _ c.into_dyn_box-60.ensures.1 c.in_ok-first-15.ensures.fourth);
+}
 
 -- Boxes made one after the other have all verbs four times, and so no step misses its tool.
 
@@ -95,6 +155,9 @@ four Fuse = omega arith
 
 none_missed : (verb : Verb) → Misses four_of_each verb → ⊥
 none_missed = never_missed four_of_each four
+
+pub run_session-requires : goal.run_session-requires
+run_session-requires g c = record { dones = c.in_ok-tools-15.ensures.dones; undones = c.in_ok-tools-15.ensures.undones }
 
 pub returns-clause-right : goal.returns-clause-right
 returns-clause-right g c =
