@@ -18,7 +18,7 @@ REFUSED, MISSED, BAD, UNSURE = 'refused', 'NOT REFUSED', 'BAD EDIT', 'NOT TRIED'
 
 # what is read of each `rt`, and what the one has that keeps what it proved
 READ_OF_ALL = ['Crate', 'crates_of', 'free', 'handles_of', 'must_fail', 'need', 'processors', 'read_edit', 'rtlib']
-READ_OF_KEEPING = ['AT_LIMIT', 'BAD', 'Kept', 'MISSED', 'REFUSED', 'copy_crates', 'stamp_of']
+READ_OF_KEEPING = ['AT_LIMIT', 'BAD', 'Kept', 'MISSED', 'REFUSED', 'checked', 'copy_crates', 'stamp_of']
 # the parts of a crate's folder that its proof reads
 PARTS = ('src', 'specs', 'proofs')
 
@@ -74,7 +74,7 @@ class Keeping(Kit):
     def __init__(self, rt, top, root, room):
         super().__init__(rt, top, root, room)
         rt.Kept.drop = lambda kept, path: None      # the store is the gate's: it is read, and nothing in it is removed
-        self.kept, self.stamps = rt.Kept(list(self.crates.values())), {}
+        self.kept, self.stamps, self.seeds = rt.Kept(list(self.crates.values())), {}, {}
 
     def copy(self):
         self.rt.copy_crates(self.top, self.root)
@@ -93,10 +93,27 @@ class Keeping(Kit):
     def laid(self, crate):
         self.kept.is_built(crate)
 
+    def begin(self, name):
+        """Checks a crate as it stands, so that edits of it which are tried alone go over what that leaves."""
+        seed = '{}/seed-{}'.format(self.room, name)
+        os.mkdir(seed)
+        if self.rt.checked(self.crates[name], {}, ['--jobs', '1'], seed).returncode == 0:
+            self.seeds[name] = seed
+
     def must_fail(self, name, edit):
-        """What comes of an edit that is tried alone, and rt's line on it."""
-        rt = self.rt
-        kind, text = rt.must_fail(self.crates[name], edit, ['--jobs', '1'])
+        """What comes of an edit that is tried alone, and rt's line on it: over what a check of the crate as it stands left, if there
+        is that, and else, or where that doesn't refuse it, from nothing."""
+        if name in self.seeds:
+            with tempfile.TemporaryDirectory(dir=self.room) as over:
+                shutil.copytree(self.seeds[name], over, dirs_exist_ok=True)
+                told = self.told(self.rt.must_fail(self.crates[name], edit, ['--jobs', '1'], over))
+            if told[0] == REFUSED:
+                return told
+        return self.told(self.rt.must_fail(self.crates[name], edit, ['--jobs', '1']))
+
+    def told(self, tried):
+        """What rt says of an edit, in the words of this file."""
+        rt, (kind, text) = self.rt, tried
         return {rt.REFUSED: REFUSED, rt.AT_LIMIT: REFUSED, rt.BAD: BAD, rt.MISSED: MISSED}.get(kind, UNSURE), text
 
 
@@ -132,6 +149,9 @@ class Building(Kit):
 
         self.rt.rtlib.Crate.stamp = self.rt.Crate.stamp = stamp_once
         return found
+
+    def begin(self, name):
+        """Nothing: this `rt` tries each edit from nothing."""
 
     def stamp(self, name):
         """A sum of all that a verdict on a crate stands on."""

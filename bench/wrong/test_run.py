@@ -166,6 +166,10 @@ class Lanes(unittest.TestCase):
         self.assertEqual([1], seen)
 
 
+# the crates that were checked as they stand
+BEGUN = []
+
+
 class Rounds(RUN.Rounds):
     """Rounds over words that are given, in place of rattle's."""
 
@@ -189,6 +193,8 @@ class Rounds(RUN.Rounds):
     def alone(self, edit):
         self.alone_ones.append(edit.path.name)
         return RUN.Task(0, lambda: [])
+
+    kit = types.SimpleNamespace(begin=lambda crate: BEGUN.append(crate))
 
 
 def edit(name, of):
@@ -229,6 +235,13 @@ class TheRounds(unittest.TestCase):
     def test_one_that_is_proved_is_tried_alone(self):
         rounds = self.run_all([edit('one', 'f')], lambda edits: 'fn low::f: proved\n')
         self.assertEqual(['one'], rounds.alone_ones)
+
+    def test_a_crate_with_many_in_no_body_is_checked_as_it_stands(self):
+        for names, begun in [(['one', 'two'], []), (['one', 'two', 'three'], ['low'])]:
+            BEGUN.clear()
+            with contextlib.redirect_stdout(io.StringIO()):
+                rounds = self.run_all([RUN.Edit('low', pathlib.Path(name), None) for name in names], lambda edits: '')
+            self.assertEqual((names, begun), (rounds.alone_ones, BEGUN))
 
     def test_a_check_that_was_killed_says_nothing(self):
         self.assertEqual({'one': RUN.UNSURE}, self.run_all([edit('one', 'f')], lambda edits: '').told)
@@ -404,7 +417,7 @@ class AKitThatKeeps(OverACheckout):
         """The kit over the chain of crates."""
         StandInKept.told = []
         rt = stand_in(Kept=StandInKept, copy_crates=lambda top, root: os.mkdir(root), stamp_of=lambda crate, stamps: 'sum of ' + crate.name,
-                      REFUSED='refused', AT_LIMIT='at its limit', BAD='bad', MISSED='missed')
+                      REFUSED='refused', AT_LIMIT='at its limit', BAD='bad', MISSED='missed', checked=None)
         rt.crates_of = lambda root, of_all=rt.crates_of: of_all(root, None)
         (self.room / 'try').mkdir()
         return rt, kits.kit_of(rt, self.top, str(self.room / 'try' / 'repo'), str(self.room / 'try'))
@@ -441,6 +454,31 @@ class AKitThatKeeps(OverACheckout):
         for kind, result in [('refused', kits.REFUSED), ('at its limit', kits.REFUSED), ('bad', kits.BAD), ('missed', kits.MISSED), ('?', kits.UNSURE)]:
             rt.must_fail = lambda crate, edit, flags: (kind, 'must-fail low/x.edit: said')
             self.assertEqual((result, 'must-fail low/x.edit: said'), kit.must_fail('low', 'x.edit'))
+
+
+    def test_what_is_not_refused_over_a_seed_is_tried_from_nothing(self):
+        rt, kit = self.kit()
+        rt.checked = lambda crate, texts, flags, kept: pathlib.Path(kept, 'a.oantt').write_text('proved') and types.SimpleNamespace(returncode=0)
+        kit.begin('low')
+        for over, wanted in [('refused', ['over a seed']), ('missed', ['over a seed', 'from nothing']), ('?', ['over a seed', 'from nothing'])]:
+            seen = []
+
+            def must_fail(crate, edit, flags, kept=None, over=over, seen=seen):
+                seen.append('over a seed' if kept else 'from nothing')
+                if kept:
+                    self.assertEqual('proved', pathlib.Path(kept, 'a.oantt').read_text())
+                    pathlib.Path(kept, 'a.oantt').write_text('with the edit')
+                return (over if kept else 'refused'), 'said'
+            rt.must_fail = must_fail
+            self.assertEqual((kits.REFUSED, 'said'), kit.must_fail('low', 'x.edit'))
+            self.assertEqual(wanted, seen)
+
+    def test_no_seed_where_the_crate_is_not_proved(self):
+        rt, kit = self.kit()
+        rt.checked = lambda crate, texts, flags, kept: types.SimpleNamespace(returncode=1)
+        kit.begin('low')
+        rt.must_fail = lambda crate, edit, flags: ('refused', 'said')
+        self.assertEqual((kits.REFUSED, 'said'), kit.must_fail('low', 'x.edit'))
 
 
 class WhichKit(unittest.TestCase):
