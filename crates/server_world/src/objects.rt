@@ -6,7 +6,7 @@ ghost use Rattle.std.specs.Option.{option_copied};
 ghost use Rattle.std.specs.FinMap as fin;
 ghost use Rattle.indexmap.specs.IndexMap.{spare, Updates};
 ghost use Rattle.osm_base.specs.KeyEq.{eq};
-ghost use Rattle.upload_order.specs.World.{user_among};
+ghost use Rattle.upload_order.specs.Pieces.{user_among};
 ghost use Rattle.server_world.specs.Free.{last_id};
 ghost use Rattle.server_world.specs.Starts.{key_at, IsStartOf, AreStartsOf};
 
