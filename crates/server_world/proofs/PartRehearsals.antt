@@ -1,7 +1,7 @@
 -- A rehearsal at the part of the server that the changes meet goes as at the whole server.
 use Rattle.std.proofs.Common.{◌≡◌, ◌<◌, ℕ, ℤ, ◌+◌, List, None, Some, Ok, Option, refl, sym, ◌∙◌, ap, subst, get_or, drop, length}
 use Rattle.std.specs.List.{AllByRecursion}
-use Rattle.std.specs.Option.{option_map, option_map_or}
+use Rattle.std.specs.Option.{option_map_or}
 use Rattle.osm_base.specs.declared.key.Key.{Key}
 use Rattle.osm_table.specs.Table.{TableValue}
 use Rattle.dataset.specs.Sound.{IsSound}

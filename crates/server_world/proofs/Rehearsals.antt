@@ -1,7 +1,7 @@
 -- Rehearsals: the world of the bases serves the plan, and what is accepted whatever is picked is never refused.
 use Rattle.std.proofs.Common.{◌≡◌, ℕ, ◌+◌, Bool, true, false, cond, ◌&&◌, List, ◌∷◌, Option, Some, None, is_some, Result, Ok, Err, refl, sym, ◌∙◌, ap, subst, ◌<◌, suc, get_or, drop, drop-cons, add-one, length}
 use Rattle.std.specs.List.{list_any}
-use Rattle.std.specs.Option.{option_map, option_map_or}
+use Rattle.std.specs.Option.{option_map_or}
 use Rattle.std.specs.FinMap as fin
 use Rattle.osm_base.specs.RisingKeys.{is_in}
 use Rattle.osm_base.specs.Content.{refers}

@@ -6,7 +6,8 @@ ghost use Rattle.std.specs.Option.{option_copied, option_map};
 ghost use Rattle.osm_base.specs.Content.{node};
 ghost use Rattle.upload_order.specs.declared.change.Change.TheVariants.{Create, Modify, Delete};
 ghost use Rattle.upload_order.specs.Rename.{called, is_positive};
-ghost use Rattle.upload_order.specs.World.{stands, content_at, reaches, bad_ref, on_content, refusal, after};
+ghost use Rattle.upload_order.specs.World.{stands, content_at, reaches, bad_ref, on_content, user_of, refusal, after};
+ghost use Rattle.upload_order.specs.declared.world.WorldRefusal.TheVariants.{Used};
 ghost use Rattle.server_world.specs.Answer.{Answers};
 ghost use Rattle.server_world.specs.Starts.{AreStartsOf};
 
@@ -183,6 +184,12 @@ impl World {
                 has: entry.version(),
             });
         }
+        self.user_refusal(key)
+    }
+
+    fn user_refusal(&self, key: Key) -> Option<WorldRefusal>
+        ensures { result ≡ option_map Used (user_of self.now key) }
+    {
         self.objects.first_user(key).map(WorldRefusal::Used)
     }
 

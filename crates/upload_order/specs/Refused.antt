@@ -1,5 +1,5 @@
 -- Why a table is not sent.
-use Rattle.std.specs.Prelude.{◌≡◌, ◌&&◌, Bool, true, false, not, is_some, if◌then◌else◌, Option, Some, None, Result, Ok, Err, List, [], ◌∷◌, length}
+use Rattle.std.specs.Prelude.{◌≡◌, ◌&&◌, Bool, true, not, is_some, if◌then◌else◌, Option, Some, None, Result, Ok, Err, List, [], ◌∷◌, length}
 use Rattle.std.specs.List.{list_any, find, filter}
 use Rattle.std.specs.Option.{option_map_or, option_map, option_or}
 use Rattle.osm_base.specs.Content.{refers, refs_of}
