@@ -189,7 +189,7 @@ class Source(File):
             model = self.models[name]
             value = VALUE.search(model[2])[0]
             number = self.text[:self.text.index(value, model.start())].count('\n') + 1
-            return Definition(self.crate, self.place, number, name, 2, model[0].split('\n')[0] + '\n' + value)
+            return Definition(self.crate, self.place, number, name, 3, '\n'.join((model[0].split('\n')[0], value, '}')))
         lines = [without_comment(line, '//') for line in hit[0].split('\n')]
         lines = [line for line in lines if line.strip() and not line.strip().startswith('#[')]
         number = self.text[:hit.start()].count('\n') + 1
