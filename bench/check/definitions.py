@@ -8,12 +8,17 @@ lists, equality) aren't followed.
 A law may settle a definition: it says of every answer when the definition gives it, in other words. Then what the law says is
 followed in the definition's place, since it leaves no other answer; the law is proved of it.
 
+A type with an `impl Model` is in definitions and contracts what its `Value` says: so that is followed in the type's place, and how the
+type is kept isn't.
+
 Lines are counted without comments and empty ones.
 """
 import collections
+import copy
 import pathlib
 import re
 import shutil
+import textwrap
 
 TOP = pathlib.Path(__file__).resolve().parents[2]
 CRATES = TOP / 'crates'
@@ -24,6 +29,9 @@ KIT_HEAD = re.compile(r'(\s*)(?:(?:abbrev|unfoldable) )?(?:pub )?(?:(record|data
 ENDS = ('use ', 'pub use ', 'pub mod ', 'module ')
 WORD = re.compile(r'[^\s(){}\[\],;:λ→×≡]+')
 TYPE = re.compile(r'^(?:pub(?:\([a-z]+\))? )?(?:enum|struct|trait) (\w+)\b(?:[^\n]*[;}]$|.*?^\}$)', re.M | re.S)
+# what a type with private fields is in the logic
+MODEL = re.compile(r'^impl(?:<[^>]*>)? Model for (\w+)[^\n]*\{$(.*?)^\}$', re.M | re.S)
+VALUE = re.compile(r'^ +ghost Value = \{.*\};$', re.M)
 USE = re.compile(r'^(?:pub |ghost )?use ((?:Rattle|lib)\.[\w.]+?)(?:\.\{([^}\n]*)\}| as (\w+));?$', re.M)
 
 # the definitions that a law settles, by their crates, and where the law stands in src/ with its name
@@ -84,9 +92,14 @@ class File:
 
     def __init__(self, path, home, crate):
         self.path, self.names, self.aliases, self.own, self.crate = path, {}, {}, {}, crate
+        self.key = path
         self.place = str(path.relative_to(home))
         self.text = path.read_text()
-        for place, listed, alias in USE.findall(self.text):
+        self.take(self.text)
+
+    def take(self, text):
+        """Notes what the `use` lines of a text take from others."""
+        for place, listed, alias in USE.findall(text):
             place = place[len('Rattle.'):] if place.startswith('Rattle.') else place
             if alias:
                 self.aliases[alias] = place
@@ -156,12 +169,27 @@ class Source(File):
         self.types = {}
         for hit in TYPE.finditer(self.text):
             self.types.setdefault(hit[1], hit)
+        self.models = {hit[1]: hit for hit in MODEL.finditer(self.text) if VALUE.search(hit[2])}
+
+    def seen(self, name):
+        """The file by which the words of the type's declaration are followed: with what its `impl Model` takes, if it has one."""
+        if name not in self.models:
+            return self
+        within = copy.copy(self)
+        within.key, within.names, within.aliases = (self.path, name), {}, {}
+        within.take(textwrap.dedent(self.models[name][2]))
+        return within
 
     def declared(self, name):
         """The type of this name that the file declares, or None."""
         hit = self.types.get(name)
         if not hit:
             return None
+        if name in self.models:
+            model = self.models[name]
+            value = VALUE.search(model[2])[0]
+            number = self.text[:self.text.index(value, model.start())].count('\n') + 1
+            return Definition(self.crate, self.place, number, name, 3, '\n'.join((model[0].split('\n')[0], value, '}')))
         lines = [without_comment(line, '//') for line in hit[0].split('\n')]
         lines = [line for line in lines if line.strip() and not line.strip().startswith('#[')]
         number = self.text[:hit.start()].count('\n') + 1
@@ -189,10 +217,10 @@ class Tree:
         for base in [CRATES / crate / 'src' / pathlib.Path(*modules)] if modules else []:
             for path in (base.with_suffix('.rt'), base / 'mod.rt'):
                 if path in self.sources and self.sources[path].declared(name):
-                    return self.sources[path], self.sources[path].declared(name)
+                    return self.sources[path].seen(name), self.sources[path].declared(name)
         for path, source in self.sources.items():
             if source.crate == crate and source.declared(name):
-                return source, source.declared(name)
+                return source.seen(name), source.declared(name)
         return None
 
     def passed_on(self, parts):
@@ -261,7 +289,7 @@ class Tree:
 
     def meaning(self, file, word):
         """What a word of a file leads to, if it is another definition."""
-        key = (file.path, word)
+        key = (file.key, word)
         if key not in self.meanings:
             hit = self.sought(file, word)
             self.meanings[key] = self.law(hit[1].crate, hit[1].name)[:2] if hit and (hit[1].crate, hit[1].name) in SETTLED else hit
@@ -300,7 +328,7 @@ class Tree:
             return self.found(*file.names[first])
         if isinstance(file, Source) and first[:1].isupper():
             if file.declared(first):
-                return file, file.declared(first)
+                return file.seen(first), file.declared(first)
             place = file.uses.get(first, '').split('::')
             if place[0] == 'crate' and len(place) > 1:
                 return self.source_type(file.crate, place[1:], first) if file.path in self.sources else None

@@ -13,7 +13,8 @@ use Rattle.dataset.proofs.Ids.{positive_id, given_id}
 use Rattle.upload_order.specs.declared.change.Change.{Change}
 use Rattle.upload_order.specs.declared.change.Change.TheVariants.{Create, Modify, Delete}
 use Rattle.upload_order.specs.Plan.{plan}
-use Rattle.upload_order.specs.Refused.{unless, upload, upload_refusal}
+use Rattle.upload_order.specs.Refused.{upload, upload_refusal}
+use Rattle.upload_order.specs.Pieces.{unless}
 use Rattle.upload_order.specs.Run.{pick_for, picks_left}
 use Rattle.placeholder.specs.Answers.{AreWithin}
 use Rattle.placeholder.specs.Confirm.{answers_of, confirm, confirms, on_upload, patch_to}

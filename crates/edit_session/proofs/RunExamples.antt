@@ -53,7 +53,8 @@ use Rattle.upload_order.specs.Bases.{base_in, is_based}
 use Rattle.upload_order.specs.Kinds.{held_of}
 use Rattle.upload_order.specs.Refused as plans
 use Rattle.upload_order.specs.Run.{run_from, Ended, AreFresh}
-use Rattle.upload_order.specs.World.{World, WorldEntry, content_at, content_in, refusal, stands, Alone, Holds, IsEdited, IsSoundWorld}
+use Rattle.upload_order.specs.World.{World, WorldEntry, content_at, refusal, stands, Alone, Holds, IsEdited, IsSoundWorld}
+use Rattle.upload_order.specs.Pieces.{content_in}
 use Rattle.edit_script.specs.Grammar.{act_of}
 use Rattle.edit_script.specs.Items.{keys_word, number_word, place_texts, place_words, tags_word}
 use Rattle.edit_script.specs.Script.{kind_of_line, steps_of}

@@ -5,9 +5,9 @@
 use Rattle.std.specs.Prelude.{ℕ, ◌+◌, List, [], ◌∷◌, ◌++◌, Option, codes}
 use Rattle.std.specs.Option.{option_map_or}
 use Rattle.osm_base.specs.Number.{key_written}
-use Rattle.server_world.specs.declared.refusal.WorldRefusal.{WorldRefusal}
-use Rattle.server_world.specs.declared.refusal.WorldRefusal.TheVariants.{OldVersion, BadRef, Used}
-use Rattle.server_world.specs.Answer.{number_of}
+use Rattle.upload_order.specs.declared.world.WorldRefusal.{WorldRefusal}
+use Rattle.upload_order.specs.declared.world.WorldRefusal.TheVariants.{OldVersion, BadRef, Used}
+use Rattle.upload_order.specs.World.{number_of}
 use Rattle.edit_steps.specs.Counted.{part}
 
 -- what the server's refusal carries, behind a blank

@@ -7,9 +7,8 @@ ghost use Rattle.edit_steps.specs.Turn.{reply_alone};
 use edit_script::StepReply;
 use map_checks::Findings;
 use osm_base::Keys;
-use server_world::WorldRefusal;
 use std::alloc::Global;
-use upload_order::Changes;
+use upload_order::{Changes, WorldRefusal};
 
 /// What stands behind the reply line of a step.
 #[derive(Drop)]

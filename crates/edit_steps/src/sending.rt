@@ -28,9 +28,8 @@ use map_checks::Findings;
 use osm_base::{Key, Meta};
 use osm_outside::{Failed, Sink, pass_full};
 use saved_session::{write_saved_end, write_saved_entry, write_saved_head};
-use server_world::WorldRefusal;
 use std::alloc::{AllocError, Global};
-use upload_order::Changes;
+use upload_order::{Changes, WorldRefusal};
 
 // Gives the sink a text.
 fn put<K: Sink>(out: &mut K, text: &[u8]) -> Result<(), Stop>

@@ -6,8 +6,8 @@ ghost use Rattle.edit_steps.specs.Sent.{carried, refused_text, sent_text};
 
 use crate::counting::write_part;
 use osm_base::{Key, write_key};
-use server_world::WorldRefusal;
 use std::alloc::AllocError;
+use upload_order::WorldRefusal;
 
 /// Appends how many changes a server accepted, and why it refused the next one, in a line.
 ///

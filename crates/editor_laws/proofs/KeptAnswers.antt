@@ -21,7 +21,8 @@ use Rattle.upload_order.specs.declared.change.Change.{Change}
 use Rattle.upload_order.specs.declared.change.Change.TheVariants.{Create, Modify, Delete}
 use Rattle.upload_order.specs.declared.refusal.PlanRefusal.{PlanRefusal}
 use Rattle.upload_order.specs.Plan.{plan}
-use Rattle.upload_order.specs.Refused.{upload_refusal, unless}
+use Rattle.upload_order.specs.Refused.{upload_refusal}
+use Rattle.upload_order.specs.Pieces.{unless}
 use Rattle.upload_order.specs.Rename.{Names, called, named, with_id, is_positive}
 use Rattle.upload_order.specs.World.{is_known}
 use Rattle.upload_order.proofs.Renaming.{renamed_itself}

@@ -27,7 +27,8 @@ use Rattle.upload_order.specs.declared.refusal.PlanRefusal.{PlanRefusal}
 use Rattle.upload_order.specs.declared.down.Down.{Down}
 use Rattle.upload_order.specs.declared.down.Down.TheVariants.{Clear, Remove}
 use Rattle.upload_order.specs.Plan.{down_of, downs, plan, up_entry, up_known, up_of, ups}
-use Rattle.upload_order.specs.Refused.{unless, upload_refusal}
+use Rattle.upload_order.specs.Refused.{upload_refusal}
+use Rattle.upload_order.specs.Pieces.{unless}
 use Rattle.upload_order.specs.Rename.{Names, called, with_id}
 use Rattle.placeholder.specs.declared.answer.Answer.{Answer}
 use Rattle.placeholder.specs.declared.fault.ConfirmFault.{ConfirmFault}

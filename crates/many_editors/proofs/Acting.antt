@@ -19,7 +19,7 @@ use Rattle.edit_history.specs.Steps.{edited, job_move}
 use Rattle.upload_order.specs.declared.change.Change.{Change}
 use Rattle.upload_order.specs.declared.refusal.PlanRefusal.{PlanRefusal}
 use Rattle.upload_order.specs.Refused.{upload}
-use Rattle.upload_order.specs.World.{content_in}
+use Rattle.upload_order.specs.Pieces.{content_in}
 use Rattle.upload_order.proofs.Basics.{none_some}
 use Rattle.placeholder.specs.declared.answer.Answer.{Answer}
 use Rattle.server_world.specs.Codes.{Objects}

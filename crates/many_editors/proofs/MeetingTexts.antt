@@ -24,9 +24,11 @@ use Rattle.upload_order.specs.declared.change.Change.{Change}
 use Rattle.upload_order.specs.declared.change.Change.TheVariants.{Create, Modify, Delete}
 use Rattle.upload_order.specs.declared.refusal.PlanRefusal.{PlanRefusal}
 use Rattle.upload_order.specs.Plan.{plan}
-use Rattle.upload_order.specs.Refused.{unless, upload_refusal}
+use Rattle.upload_order.specs.Refused.{upload_refusal}
+use Rattle.upload_order.specs.Pieces.{unless}
 use Rattle.upload_order.specs.Rename.{called, with_id}
-use Rattle.upload_order.specs.World.{Refusal, World, WorldEntry, after}
+use Rattle.upload_order.specs.World.{World, WorldEntry, after}
+use Rattle.upload_order.specs.declared.world.WorldRefusal.{WorldRefusal}
 use Rattle.upload_order.proofs.Basics.{none_some}
 use Rattle.upload_order.proofs.Entries.{IsIn, has_listed}
 use Rattle.server_world.specs.Codes.{Objects}
@@ -138,7 +140,7 @@ record SentTexts (s : Sent) : Type 0 where
   world : IsTextState s.world.entries
   earlier : AllByRecursion IsTextState s.earlier
 
-on_texts : (o : Option Refusal) (w : World) (ms : List Objects) (a : Answer) (others : Sent) → IsTextState w.entries → AllByRecursion IsTextState ms → SentTexts others → SentTexts (sent_on o w ms a others)
+on_texts : (o : Option WorldRefusal) (w : World) (ms : List Objects) (a : Answer) (others : Sent) → IsTextState w.entries → AllByRecursion IsTextState ms → SentTexts others → SentTexts (sent_on o w ms a others)
 on_texts None w ms a others h i j = record { world = j.world; earlier = j.earlier }
 on_texts (Some r) w ms a others h i j = record { world = h; earlier = i }
 

@@ -26,7 +26,7 @@ use Rattle.upload_order.specs.Refused.{upload}
 use Rattle.upload_order.proofs.Basics.{both}
 use Rattle.upload_order.specs.World.{World}
 use Rattle.server_world.specs.Codes.{Objects}
-use Rattle.server_world.specs.declared.refusal.WorldRefusal.{WorldRefusal}
+use Rattle.upload_order.specs.declared.world.WorldRefusal.{WorldRefusal}
 use Rattle.many_editors.specs.declared.act.MeetAct.TheVariants as act
 use Rattle.many_editors.specs.declared.editor.Editor.{Editor}
 use Rattle.many_editors.specs.declared.editor.Waiting.{Waiting}

@@ -2,7 +2,8 @@
 use Rattle.std.proofs.Common.{◌≡◌, suc, ◌+◌, List, [], ◌∷◌, length, Option, Some, None, refl, subst, arith}
 use Rattle.osm_table.specs.Table.{TableValue}
 use Rattle.upload_order.specs.declared.change.Change.{Change}
-use Rattle.upload_order.specs.World.{World, Refusal, refusal, after}
+use Rattle.upload_order.specs.World.{World, refusal, after}
+use Rattle.upload_order.specs.declared.world.WorldRefusal.{WorldRefusal}
 use Rattle.placeholder.specs.Confirm.{answer_of}
 use Rattle.server_world.specs.Codes.{Objects}
 use Rattle.server_world.specs.Picks.{RunsTo}
@@ -15,7 +16,7 @@ use Rattle.many_editors.specs.Sending.{Sent, sent, sent_on}
 abbrev Runs : TableValue → World → List Change → Sent → Type 0
 Runs t w cs s = RunsTo t w s.world cs (length s.answers) s.refused
 
-one_on : (t : TableValue) (w : World) (ms : List Objects) (c : Change) (cs : List Change) (others : Sent) (o : Option Refusal) → refusal w c (pick_for w t c) ≡ o → Runs t (after w c (pick_for w t c)) cs others
+one_on : (t : TableValue) (w : World) (ms : List Objects) (c : Change) (cs : List Change) (others : Sent) (o : Option WorldRefusal) → refusal w c (pick_for w t c) ≡ o → Runs t (after w c (pick_for w t c)) cs others
     → Runs t w (c ∷ cs) (sent_on o w ms (answer_of c (pick_for w t c)) others)
 one_on t w ms c cs others None is runs =
     let more : length others.answers + 1 ≡ suc (length others.answers) = omega arith in

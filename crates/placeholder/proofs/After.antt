@@ -11,8 +11,10 @@ use Rattle.upload_order.specs.declared.change.Change.TheVariants.{Create, Modify
 use Rattle.upload_order.specs.Plan.{plan}
 use Rattle.upload_order.specs.Rename.{Names, called, with_id}
 use Rattle.renamed_content.specs.Renamed.{renamed}
-use Rattle.upload_order.specs.Run.{Ran, Ended, Stopped, on_refusal, run_from, pick_for, picks_left, picked, IsAmong, AreFresh}
-use Rattle.upload_order.specs.World.{World, Accepts, IsEdited, Refusal, IsFresh, refusal, after}
+use Rattle.upload_order.specs.Run.{Ran, Ended, Stopped, run_from, pick_for, picks_left, picked, IsAmong, AreFresh}
+use Rattle.upload_order.specs.Pieces.{on_refusal}
+use Rattle.upload_order.specs.World.{World, Accepts, IsEdited, IsFresh, refusal, after}
+use Rattle.upload_order.specs.declared.world.WorldRefusal.{WorldRefusal}
 use Rattle.upload_order.proofs.Accepted.{plan_accepted}
 use Rattle.upload_order.proofs.Runs.{sound_backs, runs_through, accepts_front, fresh_first, fresh_rest, other_pick}
 use Rattle.placeholder.specs.Answers.{IsNewTo, AreNew, AreNewFrom, IsAnswer, AreAnswers}
@@ -61,7 +63,7 @@ abbrev world_of : World → Ran → World
 world_of w (Ended v) = v
 world_of w (Stopped n r) = w
 
-run_step : (o : Option Refusal) (n : ℕ) (rest : Ran) (v : World) → on_refusal o n rest ≡ Ended v → (o ≡ None) × (rest ≡ Ended v)
+run_step : (o : Option WorldRefusal) (n : ℕ) (rest : Ran) (v : World) → on_refusal o n rest ≡ Ended v → (o ≡ None) × (rest ≡ Ended v)
 run_step None n rest v e = (refl, e)
 run_step (Some r) n rest v e = cc
 

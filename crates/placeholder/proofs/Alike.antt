@@ -9,7 +9,8 @@ use Rattle.upload_order.specs.declared.change.Change.TheVariants.{Modify, Delete
 use Rattle.upload_order.specs.declared.down.Down.{Down}
 use Rattle.upload_order.specs.declared.down.Down.TheVariants.{Clear, Remove}
 use Rattle.upload_order.specs.Kinds.{held_refers, is_falling}
-use Rattle.upload_order.specs.Fall.{Item, item_uses, is_unused, uses_some, without_item, emptied, fall, fall_next, fall_clear}
+use Rattle.upload_order.specs.Fall.{Item, item_uses, is_unused, uses_some, without_item, emptied, fall}
+use Rattle.upload_order.specs.Pieces.{fall_next, fall_clear}
 use Rattle.upload_order.specs.Plan.{up_of, version_at, later, empty_relation, down_of}
 use Rattle.upload_order.proofs.Entries.{IsIn, in_filter, map_in}
 use Rattle.upload_order.proofs.Static.{IsDown, no_more, clear, remove}

@@ -27,7 +27,8 @@ use Rattle.upload_order.specs.Plan.{ups, up_of, up_entry, plain_removes, downs, 
 use Rattle.upload_order.specs.Refused.{is_open, vouches, keeps}
 use Rattle.upload_order.specs.Rename.{called}
 use Rattle.renamed_content.specs.Renamed.{renamed}
-use Rattle.upload_order.specs.World.{World, WorldEntry, content_in, Holds, Alone, put_in}
+use Rattle.upload_order.specs.World.{World, WorldEntry, Holds, Alone, put_in}
+use Rattle.upload_order.specs.Pieces.{content_in}
 use Rattle.upload_order.proofs.Along.{at_is, means_itself, new_rising, up_based}
 use Rattle.upload_order.proofs.Basics.{both, at_key_put, at_other}
 use Rattle.upload_order.proofs.Conditions.{Sound}

@@ -14,7 +14,8 @@ use Rattle.upload_order.specs.declared.refusal.PlanRefusal.{PlanRefusal}
 use Rattle.upload_order.specs.declared.refusal.PlanRefusal.TheVariants.{IncompleteRef}
 use Rattle.upload_order.specs.Kinds.{at_key, is_sent}
 use Rattle.upload_order.specs.Plan.{made}
-use Rattle.upload_order.specs.Refused.{is_open, open_of, open_refusal, vouches, vouches_at, is_loose, refs_sent, loose_of, loose_among, loose_refusal, stuck_of, stuck_refusal, upload_refusal}
+use Rattle.upload_order.specs.Refused.{is_open, open_of, open_refusal, vouches, is_loose, refs_sent, loose_among, loose_refusal, stuck_of, stuck_refusal, upload_refusal}
+use Rattle.upload_order.specs.Pieces.{vouches_at, loose_of}
 use Rattle.upload_order.proofs.ClearLaw.{none_among, and_not, entry_is, clear_stuck}
 use Rattle.upload_order.proofs.Entries.{IsIn, find_none, none_found, in_filter, filter_in, any_in, in_any}
 use Rattle.upload_order.proofs.Lists.{any_is, any_of}

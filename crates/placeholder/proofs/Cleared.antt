@@ -10,7 +10,8 @@ use Rattle.upload_order.specs.declared.change.Change.{Change}
 use Rattle.upload_order.specs.declared.change.Change.TheVariants.{Modify, Delete}
 use Rattle.upload_order.specs.Plan.{empty_relation, down_of, version_at, later}
 use Rattle.upload_order.specs.Kinds.{held_refers}
-use Rattle.upload_order.specs.Fall.{Item, whole, item_uses, is_unused, uses_some, without_item, emptied, fall, fall_next, fall_clear}
+use Rattle.upload_order.specs.Fall.{Item, item_uses, is_unused, uses_some, without_item, emptied, fall}
+use Rattle.upload_order.specs.Pieces.{whole, fall_next, fall_clear}
 use Rattle.upload_order.specs.declared.down.Down.TheVariants.{Clear, Remove}
 use Rattle.osm_base.proofs.RisingKeys.{one_key, key_itself}
 use Rattle.osm_base.proofs.Tests.{never}

@@ -18,7 +18,8 @@ use Rattle.upload_order.specs.Kinds.{is_falling, held_refers, held_at, content_r
 use Rattle.osm_base.specs.Meta.{empty_meta}
 use Rattle.upload_order.proofs.PlanUps.{kind_is, kind_self}
 use Rattle.upload_order.proofs.Where.{falling_of, falling_both, keys_where, falling_items, in_where}
-use Rattle.upload_order.specs.Fall.{Item, is_unused, uses_some, item_uses, without_item, emptied, fall, falls, fall_next, fall_clear}
+use Rattle.upload_order.specs.Fall.{Item, is_unused, uses_some, item_uses, without_item, emptied, fall, falls}
+use Rattle.upload_order.specs.Pieces.{fall_next, fall_clear}
 use Rattle.upload_order.specs.declared.down.Down.{Down}
 use Rattle.upload_order.specs.declared.down.Down.TheVariants.{Clear, Remove}
 use Rattle.osm_base.proofs.RisingKeys.{one_key, key_itself}

@@ -35,7 +35,8 @@ use Rattle.upload_order.specs.Refused.{is_open, vouches}
 use Rattle.upload_order.specs.Rename.{called, with_id, is_positive}
 use Rattle.renamed_content.specs.Renamed.{renamed}
 use Rattle.renamed_content.proofs.Refs.{renamed_kind}
-use Rattle.upload_order.specs.World.{World, WorldEntry, stands, content_in, content_at, IsSoundWorld, Holds, Alone}
+use Rattle.upload_order.specs.World.{World, WorldEntry, stands, content_at, IsSoundWorld, Holds, Alone}
+use Rattle.upload_order.specs.Pieces.{content_in}
 use Rattle.upload_order.proofs.Along.{at_is, means_itself, not_based, new_rising, up_based, held_based}
 use Rattle.upload_order.proofs.Basics.{key_same, both, none_some, at_key_put, at_other}
 use Rattle.upload_order.proofs.Conditions.{Sound}

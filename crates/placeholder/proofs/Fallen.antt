@@ -21,7 +21,8 @@ use Rattle.upload_order.specs.Kinds.{is_rising, is_update, is_falling, held_of, 
 use Rattle.upload_order.specs.Order.{peeled}
 use Rattle.upload_order.specs.Plan.{ups, empty_relation}
 use Rattle.upload_order.specs.Refused.{is_open}
-use Rattle.upload_order.specs.World.{World, WorldEntry, content_in, Holds, Alone, put_in}
+use Rattle.upload_order.specs.World.{World, WorldEntry, Holds, Alone, put_in}
+use Rattle.upload_order.specs.Pieces.{content_in}
 use Rattle.upload_order.proofs.Along.{at_is}
 use Rattle.upload_order.proofs.Basics.{both, none_some, at_key_put, at_other}
 use Rattle.upload_order.proofs.Conditions.{Sound}

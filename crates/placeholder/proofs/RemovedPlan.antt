@@ -19,7 +19,8 @@ use Rattle.upload_order.specs.declared.down.Down.TheVariants.{Clear, Remove}
 use Rattle.upload_order.specs.Bases.{base_in}
 use Rattle.upload_order.specs.Kinds.{is_falling, held_refers, held_at, content_refers}
 use Rattle.upload_order.specs.Order.{without}
-use Rattle.upload_order.specs.Fall.{Item, whole, is_unused, uses_some, without_item, emptied, fall, fall_next, fall_clear}
+use Rattle.upload_order.specs.Fall.{Item, is_unused, uses_some, without_item, emptied, fall}
+use Rattle.upload_order.specs.Pieces.{whole, fall_next, fall_clear}
 use Rattle.upload_order.specs.Plan.{plain_removes, downs, down_of, version_at}
 use Rattle.upload_order.proofs.Basics.{key_same, both, at_key_put, at_other}
 use Rattle.upload_order.proofs.Entries.{IsIn, found_in, map_in}

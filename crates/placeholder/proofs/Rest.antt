@@ -16,7 +16,8 @@ use Rattle.osm_base.proofs.Tests.{never}
 use Rattle.osm_table.specs.declared.entry.Entry.{Entry}
 use Rattle.osm_table.specs.Table.{TableValue, entry_of, keys_by_rank}
 use Rattle.upload_order.specs.Kinds.{is_update, mine_refers}
-use Rattle.upload_order.specs.Order.{without, is_ready, Peeled, peel_found, peel}
+use Rattle.upload_order.specs.Order.{without, is_ready, Peeled, peel}
+use Rattle.upload_order.specs.Pieces.{peel_found}
 use Rattle.upload_order.specs.Plan.{made, ups}
 use Rattle.upload_order.proofs.Conditions.{Sound}
 use Rattle.upload_order.proofs.Entries.{IsIn, any_in, in_any, found_in, in_filter, filter_in}

@@ -18,7 +18,8 @@ use Rattle.upload_order.specs.declared.down.Down.{Down}
 use Rattle.upload_order.specs.declared.down.Down.TheVariants.{Clear, Remove}
 use Rattle.upload_order.specs.Bases.{base_in, is_based}
 use Rattle.upload_order.specs.Kinds.{at_key, is_rising, held_refers}
-use Rattle.upload_order.specs.Fall.{Item, is_unused, uses_some, without_item, emptied, fall, fall_next, fall_clear}
+use Rattle.upload_order.specs.Fall.{Item, is_unused, uses_some, without_item, emptied, fall}
+use Rattle.upload_order.specs.Pieces.{fall_next, fall_clear}
 use Rattle.upload_order.specs.Plan.{plan, ups, downs, up_of, up_entry, down_of, empty_relation, plain_removes}
 use Rattle.upload_order.specs.Refused.{is_open}
 use Rattle.upload_order.proofs.Along.{at_is, new_rising, up_based}

@@ -37,14 +37,12 @@ is_answer c a = false
 -- the id that it tells
 abbrev pub id_told : Answer → ℤ
 id_told (answer.Create placeholder id) = id
-id_told (answer.Modify key version) = pos 0
-id_told (answer.Delete key version) = pos 0
+id_told a = pos 0
 
 -- something stands under the id that an object got
 abbrev pub is_taken : TableValue → Answer → Bool
 is_taken u (answer.Create placeholder id) = is_some (entry_of u (with_id placeholder id))
-is_taken u (answer.Modify key version) = false
-is_taken u (answer.Delete key version) = false
+is_taken u a = false
 
 -- the key that it gives
 abbrev pub key_given : Answer → Key

@@ -10,7 +10,7 @@ use Rattle.osm_base.specs.Meta.{empty_meta}
 use Rattle.osm_base.specs.declared.key.Key.{Key}
 use Rattle.osm_base.specs.declared.content.Content.{Content}
 use Rattle.osm_table.specs.declared.entry.Base.{Base}
-use Rattle.osm_table.specs.declared.entry.Base.TheVariants.{New, Live, Gone}
+use Rattle.osm_table.specs.declared.entry.Base.TheVariants.{Live, Gone}
 use Rattle.osm_table.specs.declared.entry.Conflict.{Conflict}
 use Rattle.osm_table.specs.declared.entry.Entry.{Entry}
 use Rattle.osm_table.specs.declared.entry.Entry.TheVariants.{Incomplete, Known}
@@ -27,9 +27,8 @@ moved placeholder id = called ((placeholder, id) ∷ [])
 
 -- a base with other references
 abbrev pub moved_base : (Key → Key) → Base → Base
-moved_base f New = New
 moved_base f (Live version content meta) = Live version (renamed f content) meta
-moved_base f (Gone version meta) = Gone version meta
+moved_base f base = base
 
 abbrev pub moved_conflict : (Key → Key) → Conflict → Conflict
 moved_conflict f c = record { why = c.why; theirs = moved_base f c.theirs }
@@ -70,8 +69,7 @@ moved_change f (Delete k version) = Delete k version
 -- the placeholders answered, with one more after a Create
 abbrev pub named_by : Change → ℤ → Names → Names
 named_by (Create k c) id names = (k, id) ∷ names
-named_by (Modify k version c) id names = names
-named_by (Delete k version) id names = names
+named_by c id names = names
 
 -- one answer after the other, each change with the ids of earlier ones in its references
 abbrev pub confirmed_from : Names → TableValue → List Change → List ℤ → TableValue

@@ -17,7 +17,7 @@ use Rattle.osm_table.specs.Table.{TableValue}
 use Rattle.upload_order.specs.declared.change.Change.{Change}
 use Rattle.upload_order.specs.declared.change.Change.TheVariants.{Create, Modify, Delete}
 use Rattle.upload_order.specs.World.{World, WorldEntry, refusal}
-use Rattle.server_world.specs.declared.refusal.WorldRefusal.TheVariants.{OldVersion, BadRef, Used}
+use Rattle.upload_order.specs.declared.world.WorldRefusal.TheVariants.{OldVersion, BadRef, Used}
 use Rattle.server_world.specs.declared.rehearsal.Rehearsal.TheVariants.{Accepted, Refused}
 use Rattle.server_world.specs.Bases.{standing, keys_told, at_key, of_bases}
 use Rattle.server_world.specs.Free.{is_taken, free_id}

@@ -18,7 +18,8 @@ use Rattle.dataset.specs.Exact.{times_key}
 use Rattle.dataset.proofs.Listed.{any_count}
 use Rattle.dataset.proofs.Exactness.{listed_pairs}
 use Rattle.upload_order.specs.First.{first}
-use Rattle.upload_order.specs.World.{WorldEntry, entry_refers, user_among}
+use Rattle.upload_order.specs.World.{WorldEntry}
+use Rattle.upload_order.specs.Pieces.{entry_refers, user_among}
 use Rattle.upload_order.proofs.Basics.{at_key_put, at_other}
 use Rattle.upload_order.proofs.Entries.{IsIn, has_listed}
 use Rattle.server_world.specs.Codes.{Objects}

@@ -1,19 +1,18 @@
 -- A rehearsal at the part of the server that the changes meet goes as at the whole server.
 use Rattle.std.proofs.Common.{◌≡◌, ◌<◌, ℕ, ℤ, ◌+◌, List, None, Some, Ok, Option, refl, sym, ◌∙◌, ap, subst, get_or, drop, length}
 use Rattle.std.specs.List.{AllByRecursion}
-use Rattle.std.specs.Option.{option_map, option_map_or}
+use Rattle.std.specs.Option.{option_map_or}
 use Rattle.osm_base.specs.declared.key.Key.{Key}
 use Rattle.osm_table.specs.Table.{TableValue}
 use Rattle.dataset.specs.Sound.{IsSound}
 use Rattle.upload_order.specs.declared.change.Change.{Change}
 use Rattle.upload_order.specs.Refused.{upload}
-use Rattle.upload_order.specs.World.{World, Refusal, refusal, after, IsFresh}
+use Rattle.upload_order.specs.World.{World, refusal, after, IsFresh}
 use Rattle.upload_order.specs.Rename.{with_id}
 use Rattle.upload_order.specs.declared.change.Change.TheVariants.{Create, Modify, Delete}
-use Rattle.server_world.specs.declared.refusal.WorldRefusal.{WorldRefusal}
+use Rattle.upload_order.specs.declared.world.WorldRefusal.{WorldRefusal}
 use Rattle.server_world.specs.declared.rehearsal.Rehearsal.TheVariants.{Accepted, Refused}
 use Rattle.server_world.specs.declared.starts.Starts.{Starts}
-use Rattle.server_world.specs.Answer.{answer_of}
 use Rattle.server_world.specs.Asked.{keys_met, of_those}
 use Rattle.server_world.specs.Bases.{of_bases}
 use Rattle.server_world.specs.Rehearsed.{rehearsed}
@@ -94,10 +93,10 @@ module _ (t : TableValue) (cs items : List Change) (i n : ℕ) (v : World) (s : 
     none_there = sym same_refusal ∙ none
 
     here : u ≡ after v c (pick_for v t c)
-    here = sent ∙ ap (λ (o : Option Refusal). option_map_or (λ why. v) o (after v c (pick_for v t c))) none
+    here = sent ∙ ap (λ (o : Option WorldRefusal). option_map_or (λ why. v) o (after v c (pick_for v t c))) none
 
     there_is : after before.whole c (pick_for v t c) ≡ after_sent before.whole t c
-    there_is = ap (after before.whole c) picks ∙ sym (ap (λ (o : Option Refusal). option_map_or (λ why. before.whole) o (after before.whole c (pick_for before.whole t c))) none_there)
+    there_is = ap (after before.whole c) picks ∙ sym (ap (λ (o : Option WorldRefusal). option_map_or (λ why. before.whole) o (after before.whole c (pick_for before.whole t c))) none_there)
 
     next : IsPart t before.keys (after_sent before.whole t c) u
     next = subst (λ (x : World). IsPart t before.keys x u) there_is (subst (IsPart t before.keys (after before.whole c (pick_for v t c))) (sym here) (after_part t before.keys before.covers before.whole v before.part c (pick_for v t c) fresh))
@@ -105,12 +104,12 @@ module _ (t : TableValue) (cs items : List Change) (i n : ℕ) (v : World) (s : 
     on : Rehearses t cs items (i + 1) (n + 1) (after_sent before.whole t c) r
     on = goes_on t cs items i n before.whole s c less is before.there (after_sent before.whole t c) r none_there fresh_there refl (starts_alike t before.keys before.covers (after_sent before.whole t c) u next r starts)
 
-  same_reason : (why : WorldRefusal) → Some why ≡ option_map answer_of (refusal v c (pick_for v t c)) → Some why ≡ option_map answer_of (refusal before.whole c (pick_for before.whole t c))
-  same_reason why some = some ∙ ap (option_map answer_of) same_refusal
+  same_reason : (why : WorldRefusal) → Some why ≡ refusal v c (pick_for v t c) → Some why ≡ refusal before.whole c (pick_for before.whole t c)
+  same_reason why some = some ∙ same_refusal
 
   -- a change is refused
-  pub part_stops : (why : WorldRefusal) → Some why ≡ option_map answer_of (refusal v c (pick_for v t c)) → Refused (n + 1) why ≡ rehearsed t 0 (of_bases t) cs
+  pub part_stops : (why : WorldRefusal) → Some why ≡ refusal v c (pick_for v t c) → Refused (n + 1) why ≡ rehearsed t 0 (of_bases t) cs
   part_stops why some = stops t cs items i n before.whole s c less is before.there why (same_reason why some)
 
-  pub no_plan_stops_part : (why : WorldRefusal) → Some why ≡ option_map answer_of (refusal v c (pick_for v t c)) → upload t ≡ Ok cs → Refused (n + 1) why ≡ Accepted (length cs)
+  pub no_plan_stops_part : (why : WorldRefusal) → Some why ≡ refusal v c (pick_for v t c) → upload t ≡ Ok cs → Refused (n + 1) why ≡ Accepted (length cs)
   no_plan_stops_part why some ok = no_plan_stops t cs items i n before.whole s c less is before.there why (same_reason why some) fresh_there ok

@@ -27,7 +27,10 @@ use Rattle.upload_order.specs.declared.change.Change.{Change}
 use Rattle.upload_order.specs.declared.change.Change.TheVariants.{Create, Modify, Delete}
 use Rattle.upload_order.specs.Kinds.{at_key, content_refers, held_of}
 use Rattle.upload_order.specs.Rename.{Names, named, meant, called, with_id, is_positive}
-use Rattle.upload_order.specs.World.{World, WorldEntry, Refusal, BadRef, Unfit, Exists, Missing, OldVersion, Used, stands, content_in, entry_refers, user_of, reaches, has_content, on_content, on_modify, on_delete, refusal, after, is_known, IsFresh}
+use Rattle.upload_order.specs.World.{World, WorldEntry, stands, user_of, reaches, on_content, on_modify, on_delete, refusal, after, is_known, IsFresh}
+use Rattle.upload_order.specs.declared.world.WorldRefusal.{WorldRefusal}
+use Rattle.upload_order.specs.declared.world.WorldRefusal.TheVariants.{BadRef, Unfit, Exists, Missing, OldVersion, Used}
+use Rattle.upload_order.specs.Pieces.{content_in, entry_refers, has_content}
 use Rattle.renamed_content.specs.Renamed.{renamed}
 use Rattle.upload_order.proofs.Basics.{both, key_same, at_key_put, at_other}
 use Rattle.upload_order.proofs.Entries.{in_any}
@@ -222,7 +225,7 @@ module _ (t : TableValue) (ks : List Key) (covers : Covers t ks) (w v : World) (
 
   modify_alike : (x : ℕ) (c : Content) (o : Option WorldEntry) → on_content v c ≡ on_content w c → on_modify v x c o ≡ on_modify w x c o
   modify_alike x c None h = refl
-  modify_alike x c (Some e) h = ap (λ (o : Option Refusal). cond (nat_eq e.version x) o (Some (OldVersion e.version))) h
+  modify_alike x c (Some e) h = ap (λ (o : Option WorldRefusal). cond (nat_eq e.version x) o (Some (OldVersion e.version))) h
 
   delete_alike : (d f : Key) (x : ℕ) (o : Option WorldEntry) → user_of v d ≡ user_of w f → on_delete v d x o ≡ on_delete w f x o
   delete_alike d f x None h = refl

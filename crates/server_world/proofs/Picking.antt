@@ -3,8 +3,10 @@ use Rattle.std.proofs.Common.{◌≡◌, ℕ, suc, ◌+◌, List, [], ◌∷◌,
 use Rattle.osm_table.specs.Table.{TableValue}
 use Rattle.upload_order.specs.declared.change.Change.{Change}
 use Rattle.upload_order.specs.declared.change.Change.TheVariants.{Create, Modify, Delete}
-use Rattle.upload_order.specs.Run.{Ran, Stopped, on_refusal, run_from}
-use Rattle.upload_order.specs.World.{World, Refusal, refusal, after}
+use Rattle.upload_order.specs.Run.{Ran, Stopped, run_from}
+use Rattle.upload_order.specs.Pieces.{on_refusal}
+use Rattle.upload_order.specs.World.{World, refusal, after}
+use Rattle.upload_order.specs.declared.world.WorldRefusal.{WorldRefusal}
 use Rattle.server_world.specs.declared.rehearsal.Rehearsal.{Rehearsal}
 use Rattle.server_world.specs.declared.rehearsal.Rehearsal.TheVariants.{Accepted}
 use Rattle.server_world.specs.Sent.{pick_for}
@@ -18,7 +20,7 @@ next_run n t w (Create k c) front cs = refl
 next_run n t w (Modify k v c) front cs = refl
 next_run n t w (Delete k v) front cs = refl
 
-told_step : (o : Option Refusal) (n count : ℕ) (rest : Rehearsal) (run : Ran) → rest ≡ told_of count run → unless_refused o n rest ≡ told_of count (on_refusal o n run)
+told_step : (o : Option WorldRefusal) (n count : ℕ) (rest : Rehearsal) (run : Ran) → rest ≡ told_of count run → unless_refused o n rest ≡ told_of count (on_refusal o n run)
 told_step None n count rest run e = e
 told_step (Some why) n count rest run e = refl
 
@@ -37,17 +39,17 @@ rehearsed_run t w cs = rehearsed_from t 0 (length cs) w cs (omega arith)
 pub none_runs : (t : TableValue) (w : World) → RunsTo t w w [] 0 None
 none_runs t w = record { front = λ n. refl; whole = λ n. refl }
 
-pub refused_runs : (t : TableValue) (w : World) (c : Change) (cs : List Change) (why : Refusal) → refusal w c (pick_for w t c) ≡ Some why → RunsTo t w w (c ∷ cs) 0 (Some why)
+pub refused_runs : (t : TableValue) (w : World) (c : Change) (cs : List Change) (why : WorldRefusal) → refusal w c (pick_for w t c) ≡ Some why → RunsTo t w w (c ∷ cs) 0 (Some why)
 refused_runs t w c cs why is =
     let v = after w c (pick_for w t c) in
     record {
       front = λ n. refl;
       whole = λ n.
           let e : n ≡ n + 0 = omega arith in
-          next_run n t w c cs cs ∙ ap (λ (o : Option Refusal). on_refusal o n (run_from (n + 1) v cs (free_picks v t cs))) is ∙ ap (λ (m : ℕ). Stopped m why) e;
+          next_run n t w c cs cs ∙ ap (λ (o : Option WorldRefusal). on_refusal o n (run_from (n + 1) v cs (free_picks v t cs))) is ∙ ap (λ (m : ℕ). Stopped m why) e;
     }
 
-pub taken_runs : (t : TableValue) (w v : World) (c : Change) (cs : List Change) (count : ℕ) (why : Option Refusal) → refusal w c (pick_for w t c) ≡ None → RunsTo t (after w c (pick_for w t c)) v cs count why → RunsTo t w v (c ∷ cs) (count + 1) why
+pub taken_runs : (t : TableValue) (w v : World) (c : Change) (cs : List Change) (count : ℕ) (why : Option WorldRefusal) → refusal w c (pick_for w t c) ≡ None → RunsTo t (after w c (pick_for w t c)) v cs count why → RunsTo t w v (c ∷ cs) (count + 1) why
 taken_runs t w v c cs count why none runs =
     let u = after w c (pick_for w t c) in
     record {
@@ -55,12 +57,12 @@ taken_runs t w v c cs count why none runs =
           let e : count + 1 ≡ suc count = omega arith in
           ap (λ (m : ℕ). run_from n w (take m (c ∷ cs)) (free_picks w t (c ∷ cs))) e
           ∙ next_run n t w c (take count cs) cs
-          ∙ ap (λ (o : Option Refusal). on_refusal o n (run_from (n + 1) u (take count cs) (free_picks u t cs))) none
+          ∙ ap (λ (o : Option WorldRefusal). on_refusal o n (run_from (n + 1) u (take count cs) (free_picks u t cs))) none
           ∙ runs.front (n + 1);
       whole = λ n.
           let e : n + 1 + count ≡ n + (count + 1) = omega arith in
           next_run n t w c cs cs
-          ∙ ap (λ (o : Option Refusal). on_refusal o n (run_from (n + 1) u cs (free_picks u t cs))) none
+          ∙ ap (λ (o : Option WorldRefusal). on_refusal o n (run_from (n + 1) u cs (free_picks u t cs))) none
           ∙ runs.whole (n + 1)
           ∙ ap (λ (m : ℕ). ended_by why m v) e;
     }

@@ -1,7 +1,7 @@
 -- Rehearsals: the world of the bases serves the plan, and what is accepted whatever is picked is never refused.
 use Rattle.std.proofs.Common.{◌≡◌, ℕ, ◌+◌, Bool, true, false, cond, ◌&&◌, List, ◌∷◌, Option, Some, None, is_some, Result, Ok, Err, refl, sym, ◌∙◌, ap, subst, ◌<◌, suc, get_or, drop, drop-cons, add-one, length}
 use Rattle.std.specs.List.{list_any}
-use Rattle.std.specs.Option.{option_map, option_map_or}
+use Rattle.std.specs.Option.{option_map_or}
 use Rattle.std.specs.FinMap as fin
 use Rattle.osm_base.specs.RisingKeys.{is_in}
 use Rattle.osm_base.specs.Content.{refers}
@@ -19,11 +19,12 @@ use Rattle.upload_order.specs.declared.refusal.PlanRefusal.{PlanRefusal}
 use Rattle.upload_order.specs.Bases.{base_in, is_based}
 use Rattle.upload_order.specs.Kinds.{held_of, held_at, held_refers, content_refers}
 use Rattle.upload_order.specs.Plan.{plan}
-use Rattle.upload_order.specs.Refused.{upload_refusal, unless, upload}
+use Rattle.upload_order.specs.Refused.{upload_refusal, upload}
+use Rattle.upload_order.specs.Pieces.{unless, content_in}
 use Rattle.upload_order.specs.Rename.{is_positive}
-use Rattle.upload_order.specs.World.{World, WorldEntry, content_in, Refusal, refusal, after, IsFresh, Holds, Alone, Accepts, Backs, IsEdited}
+use Rattle.upload_order.specs.World.{World, WorldEntry, refusal, after, IsFresh, Holds, Alone, Accepts, Backs, IsEdited}
 use Rattle.upload_order.proofs.Basics.{both}
-use Rattle.server_world.specs.declared.refusal.WorldRefusal.{WorldRefusal}
+use Rattle.upload_order.specs.declared.world.WorldRefusal.{WorldRefusal}
 use Rattle.server_world.specs.declared.rehearsal.Rehearsal.{Rehearsal}
 use Rattle.server_world.specs.declared.rehearsal.Rehearsal.TheVariants.{Accepted, Refused}
 use Rattle.upload_order.proofs.Accepted.{plan_accepted}
@@ -31,7 +32,6 @@ use Rattle.upload_order.proofs.Sounds.{positive_is}
 use Rattle.upload_order.proofs.Entries.{any_in}
 use Rattle.upload_order.proofs.Lists.{any_of}
 use Rattle.server_world.specs.declared.starts.Starts.{Starts}
-use Rattle.server_world.specs.Answer.{answer_of}
 use Rattle.server_world.specs.Bases.{of_entry, of_mention, is_mentioned, empty_content, of_bases}
 use Rattle.server_world.specs.Sent.{pick_for, after_sent}
 use Rattle.server_world.specs.Starts.{AreStarts}
@@ -102,9 +102,9 @@ bases_accept t cs sound is =
     (plan_accepted t (of_bases t) sound p.0 (bases_back t sound) (bases_hold t) (bases_alone t))
 
 -- what was answered is the refusal
-refused_is : (o : Option Refusal) (why : WorldRefusal) (n : ℕ) (rest : Rehearsal) → Some why ≡ option_map answer_of o → unless_refused o n rest ≡ Refused n why
+refused_is : (o : Option WorldRefusal) (why : WorldRefusal) (n : ℕ) (rest : Rehearsal) → Some why ≡ o → unless_refused o n rest ≡ Refused n why
 refused_is None why n rest e = cc
-refused_is (Some r) why n rest e = ap (Refused n) (sym (both why (answer_of r) (Some why) refl e))
+refused_is (Some r) why n rest e = ap (Refused n) (sym (both why r (Some why) refl e))
 
 -- where a rehearsal stands, with n changes accepted of those that it walks over
 pub record Rehearses (t : TableValue) (cs items : List Change) (i n : ℕ) (w : World) (s : Starts) : Type 0 where
@@ -138,19 +138,19 @@ module _ (t : TableValue) (cs items : List Change) (i n : ℕ) (w : World) (s : 
     starts = starts;
     value =
         ap (λ (x : World). rehearsed t (n + 1) x (drop (i + 1) items)) to
-        ∙ sym (ap (λ (o : Option Refusal). unless_refused o (n + 1) (rehearsed t (n + 1) (after w c (pick_for w t c)) (drop (i + 1) items))) none)
+        ∙ sym (ap (λ (o : Option WorldRefusal). unless_refused o (n + 1) (rehearsed t (n + 1) (after w c (pick_for w t c)) (drop (i + 1) items))) none)
         ∙ ap (rehearsed t n w) (sym (next_of items i c less is)) ∙ before.value;
     plan = λ ok. subst (λ (x : World). Accepts t x (drop (i + 1) items) (IsEdited t (of_bases t))) (sym to) (accepted_here fresh ok).1;
   } where
     to : v ≡ after w c (pick_for w t c)
-    to = sent ∙ ap (λ (o : Option Refusal). option_map_or (λ why. w) o (after w c (pick_for w t c))) none
+    to = sent ∙ ap (λ (o : Option WorldRefusal). option_map_or (λ why. w) o (after w c (pick_for w t c))) none
 
   -- a change is refused, and the rehearsal ends
-  pub stops : (why : WorldRefusal) → Some why ≡ option_map answer_of (refusal w c (pick_for w t c)) → Refused (n + 1) why ≡ rehearsed t 0 (of_bases t) cs
+  pub stops : (why : WorldRefusal) → Some why ≡ refusal w c (pick_for w t c) → Refused (n + 1) why ≡ rehearsed t 0 (of_bases t) cs
   stops why some =
       sym (refused_is (refusal w c (pick_for w t c)) why (n + 1) (rehearsed t (n + 1) (after w c (pick_for w t c)) (drop (i + 1) items)) some)
       ∙ ap (rehearsed t n w) (sym (next_of items i c less is)) ∙ before.value
 
   -- which no plan does
-  pub no_plan_stops : (why : WorldRefusal) → Some why ≡ option_map answer_of (refusal w c (pick_for w t c)) → IsFresh w t c (pick_for w t c) → upload t ≡ Ok cs → Refused (n + 1) why ≡ Accepted (length cs)
-  no_plan_stops why some fresh ok = let no : Some why ≡ None = some ∙ ap (option_map answer_of) (accepted_here fresh ok).0 in cc
+  pub no_plan_stops : (why : WorldRefusal) → Some why ≡ refusal w c (pick_for w t c) → IsFresh w t c (pick_for w t c) → upload t ≡ Ok cs → Refused (n + 1) why ≡ Accepted (length cs)
+  no_plan_stops why some fresh ok = let no : Some why ≡ None = some ∙ (accepted_here fresh ok).0 in cc

@@ -8,7 +8,8 @@ use Rattle.osm_base.specs.Content.{refs_of}
 use Rattle.osm_base.specs.declared.key.Key.{Key}
 use Rattle.osm_base.specs.declared.content.Content.{Content}
 use Rattle.osm_base.proofs.Tests.{none_before_map}
-use Rattle.upload_order.specs.World.{World, WorldEntry, stands, content_in, content_at, IsSoundWorld}
+use Rattle.upload_order.specs.World.{World, WorldEntry, stands, content_at, IsSoundWorld}
+use Rattle.upload_order.specs.Pieces.{content_in}
 use Rattle.upload_order.proofs.Entries.{IsIn, any_in, in_any, find_none, none_found, has_listed, listed_has}
 use Rattle.upload_order.proofs.Worlds.{content_some}
 use Rattle.server_world.specs.Unsound.{lacks, is_unsound, first_unsound}

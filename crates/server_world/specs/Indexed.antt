@@ -7,7 +7,8 @@ use Rattle.osm_base.specs.declared.key.Key.{Key}
 use Rattle.ref_index.specs.declared.pair.Pair.{Pair}
 use Rattle.ref_index.specs.Bag.{Bag, count}
 use Rattle.dataset.specs.Exact.{pairs_with, times_key}
-use Rattle.upload_order.specs.World.{WorldEntry, content_in}
+use Rattle.upload_order.specs.World.{WorldEntry}
+use Rattle.upload_order.specs.Pieces.{content_in}
 use Rattle.server_world.specs.Codes.{Objects}
 
 -- to what the object refers, in order, each as often as it stands

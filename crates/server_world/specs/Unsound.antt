@@ -20,4 +20,4 @@ is_unsound_at w k = option_map_or (is_unsound w) (stands w k) false
 
 -- The least object whose content refers to a key under which no content stands.
 abbrev pub first_unsound : World → Option Key
-first_unsound w = option_map (λ e. e.0) (find (λ e. is_unsound w e.1) (fin.entries w.entries))
+first_unsound w = option_map (λ e. e.0) (find (λ e. option_map_or (lacks w) e.1.content false) (fin.entries w.entries))

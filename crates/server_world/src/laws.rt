@@ -4,7 +4,8 @@ ghost use Rattle.osm_base.specs.declared.key.Kind.{Kind};
 ghost use Rattle.osm_table.specs.Table.{TableValue, IsPositive};
 ghost use Rattle.upload_order.specs.declared.change.Change.{Change};
 ghost use Rattle.upload_order.specs.Run.{run_from};
-ghost use Rattle.upload_order.specs.World.{World, Refusal, refusal, after, IsSoundWorld, Holds, Alone};
+ghost use Rattle.upload_order.specs.World.{World, refusal, after, IsSoundWorld, Holds, Alone};
+ghost use Rattle.upload_order.specs.declared.world.WorldRefusal.{WorldRefusal};
 ghost use Rattle.server_world.specs.Bases.{of_bases};
 ghost use Rattle.server_world.specs.Free.{free_id, FitsMemory, IsFreeId};
 ghost use Rattle.server_world.specs.Picks.{free_picks, told_of, RunsTo};
@@ -21,8 +22,8 @@ pub fn rehearsal_is_run()
 /// them and why the next one is refused are those of that run.
 pub fn sends_are_runs()
     ensures none { (t : TableValue) (w : World) → RunsTo t w w [] 0 None }
-    ensures refused { (t : TableValue) (w : World) (c : Change) (cs : List Change) (why : Refusal) → refusal w c (pick_for w t c) ≡ Some why → RunsTo t w w (c ∷ cs) 0 (Some why) }
-    ensures taken { (t : TableValue) (w v : World) (c : Change) (cs : List Change) (count : ℕ) (why : Option Refusal) → refusal w c (pick_for w t c) ≡ None → RunsTo t (after w c (pick_for w t c)) v cs count why → RunsTo t w v (c ∷ cs) (count + 1) why }
+    ensures refused { (t : TableValue) (w : World) (c : Change) (cs : List Change) (why : WorldRefusal) → refusal w c (pick_for w t c) ≡ Some why → RunsTo t w w (c ∷ cs) 0 (Some why) }
+    ensures taken { (t : TableValue) (w v : World) (c : Change) (cs : List Change) (count : ℕ) (why : Option WorldRefusal) → refusal w c (pick_for w t c) ≡ None → RunsTo t (after w c (pick_for w t c)) v cs count why → RunsTo t w v (c ∷ cs) (count + 1) why }
 {}
 
 /// Law: ids don't run out. The least free id is from 1 to 10^18, whatever stands; and it stands nowhere, where memory may have

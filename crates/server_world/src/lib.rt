@@ -29,7 +29,7 @@ mod world;
 
 pub use entry::WorldEntry;
 pub use laws::{a_server_exists, ids_do_not_run_out, rehearsal_is_run, sends_are_runs};
-pub use refusal::{WorldFault, WorldRefusal};
+pub use refusal::WorldFault;
 pub use rehearsal::{Rehearsal, rehearse};
 pub use sending::Sent;
 pub use world::World;

@@ -1,12 +1,12 @@
 //! The objects of a world.
 ghost use Rattle.std.specs.Prelude.{◌≡◌, ◌<◌, ◌≤◌, Some, is_some, IfOk, OnOk, OnErr};
-ghost use Rattle.std.specs.List.{IsDistinct};
+ghost use Rattle.std.specs.List.{IsDistinct, find};
 ghost use Rattle.std.specs.Map.{keys_of};
-ghost use Rattle.std.specs.Option.{option_copied};
+ghost use Rattle.std.specs.Option.{option_copied, option_map};
 ghost use Rattle.std.specs.FinMap as fin;
 ghost use Rattle.indexmap.specs.IndexMap.{spare, Updates};
 ghost use Rattle.osm_base.specs.KeyEq.{eq};
-ghost use Rattle.upload_order.specs.World.{user_among};
+ghost use Rattle.upload_order.specs.Kinds.{content_refers};
 ghost use Rattle.server_world.specs.Free.{last_id};
 ghost use Rattle.server_world.specs.Starts.{key_at, IsStartOf, AreStartsOf};
 
@@ -65,7 +65,7 @@ impl Objects {
 
     /// The least object whose content refers to the key. One look-up.
     pub fn first_user(&self, key: Key) -> Option<Key>
-        ensures { result ≡ user_among (fin.entries self.now) key }
+        ensures { result ≡ option_map (λ e. e.0) (find (λ e. content_refers e.1.content key) (fin.entries self.now)) }
     {
         self.index.users(key).first().copied()
     }

@@ -3,7 +3,7 @@ ghost use Rattle.std.specs.Prelude.{◌≡◌, ◌+◌, ◌≤◌, OnOk, OnErr};
 ghost use Rattle.std.specs.Option.{option_copied};
 ghost use Rattle.ref_index.specs.declared.pair.Pair.{Pair};
 ghost use Rattle.ref_index.specs.Bag.{count, times};
-ghost use Rattle.upload_order.specs.World.{content_in};
+ghost use Rattle.upload_order.specs.Pieces.{content_in};
 ghost use Rattle.server_world.specs.Indexed.{pairs_of};
 
 use crate::entry::WorldEntry;

@@ -6,13 +6,12 @@ ghost use Rattle.server_world.specs.Bases.{of_bases};
 ghost use Rattle.server_world.specs.Rehearsed.{rehearsed};
 
 use crate::asked::keys_met;
-use crate::refusal::WorldRefusal;
 use crate::sending::{Sent, send_from};
 use crate::starts::Starts;
 use crate::world::World;
 use dataset::DataSet;
 use std::alloc::AllocError;
-use upload_order::Changes;
+use upload_order::{Changes, WorldRefusal};
 
 /// What becomes of changes at a server.
 #[derive(Clone, Copy)]

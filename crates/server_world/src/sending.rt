@@ -6,13 +6,13 @@ ghost use Rattle.server_world.specs.Sent.{pick_for, answer_to, after_sent};
 ghost use Rattle.server_world.specs.Starts.{AreStarts};
 
 use crate::free::{fits_memory, free_from};
-use crate::refusal::{WorldFault, WorldRefusal};
+use crate::refusal::WorldFault;
 use crate::starts::Starts;
 use crate::world::World;
 use dataset::DataSet;
 use osm_base::Kind;
 use std::alloc::AllocError;
-use upload_order::Change;
+use upload_order::{Change, WorldRefusal};
 
 /// What a world answers to a change that is sent.
 #[derive(Clone, Copy)]

@@ -6,20 +6,21 @@ ghost use Rattle.std.specs.Option.{option_copied, option_map};
 ghost use Rattle.osm_base.specs.Content.{node};
 ghost use Rattle.upload_order.specs.declared.change.Change.TheVariants.{Create, Modify, Delete};
 ghost use Rattle.upload_order.specs.Rename.{called, is_positive};
-ghost use Rattle.upload_order.specs.World.{stands, content_at, reaches, bad_ref, on_content, refusal, after};
-ghost use Rattle.server_world.specs.Answer.{Answers, answer_of};
+ghost use Rattle.upload_order.specs.World.{stands, content_at, reaches, bad_ref, on_content, user_of, refusal, after};
+ghost use Rattle.upload_order.specs.declared.world.WorldRefusal.TheVariants.{Used};
+ghost use Rattle.server_world.specs.Answer.{Answers};
 ghost use Rattle.server_world.specs.Starts.{AreStartsOf};
 
 use crate::entry::WorldEntry;
 use crate::names::{Names, put_named, with_id};
 use crate::objects::Objects;
-use crate::refusal::{WorldFault, WorldRefusal};
+use crate::refusal::WorldFault;
 use crate::starts::Starts;
 use osm_base::{Content, Key, Keys, Member, fits, node_key};
 use renamed_content::{Renaming, renamed};
 use std::alloc::{AllocError, Global};
 use std::marker::Model;
-use upload_order::Change;
+use upload_order::{Change, WorldRefusal};
 
 /// What a server has: objects, each with a version and a content or none, and the ids that were picked for placeholders.
 #[derive(Drop)]
@@ -132,7 +133,7 @@ impl World {
     }
 
     fn refusal(&self, change: &Change, picked: i64) -> Option<WorldRefusal>
-        ensures { result ≡ option_map answer_of (refusal self.now change.now picked) }
+        ensures { result ≡ refusal self.now change.now picked }
     {
         match change {
             Change::Create { key, content } => self.create_refusal(*key, content, picked),
@@ -146,7 +147,7 @@ impl World {
     }
 
     fn create_refusal(&self, key: Key, content: &Content, picked: i64) -> Option<WorldRefusal>
-        ensures { result ≡ option_map answer_of (refusal self.now (Create key content.now) picked) }
+        ensures { result ≡ refusal self.now (Create key content.now) picked }
     {
         if self.get(with_id(key, picked)).is_some() {
             return Some(WorldRefusal::Exists);
@@ -155,7 +156,7 @@ impl World {
     }
 
     fn modify_refusal(&self, key: Key, version: u32, content: &Content) -> Option<WorldRefusal>
-        ensures { result ≡ option_map answer_of (refusal self.now (Modify key version content.now) (pos 0)) }
+        ensures { result ≡ refusal self.now (Modify key version content.now) (pos 0) }
     {
         let Some(entry) = self.get(self.names.key(key)) else {
             return Some(WorldRefusal::Missing);
@@ -169,7 +170,7 @@ impl World {
     }
 
     fn delete_refusal(&self, key: Key, version: u32) -> Option<WorldRefusal>
-        ensures { result ≡ option_map answer_of (refusal self.now (Delete key version) (pos 0)) }
+        ensures { result ≡ refusal self.now (Delete key version) (pos 0) }
     {
         let key = self.names.key(key);
         let Some(entry) = self.get(key) else {
@@ -183,11 +184,17 @@ impl World {
                 has: entry.version(),
             });
         }
+        self.user_refusal(key)
+    }
+
+    fn user_refusal(&self, key: Key) -> Option<WorldRefusal>
+        ensures { result ≡ option_map Used (user_of self.now key) }
+    {
         self.objects.first_user(key).map(WorldRefusal::Used)
     }
 
     fn content_refusal(&self, content: &Content) -> Option<WorldRefusal>
-        ensures { result ≡ option_map answer_of (on_content self.now content.now) }
+        ensures { result ≡ on_content self.now content.now }
     {
         if !fits(content) {
             return Some(WorldRefusal::Unfit);

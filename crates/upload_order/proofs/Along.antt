@@ -13,7 +13,8 @@ use Rattle.osm_table.specs.Table.{TableValue, entry_of, mine_of, version_of, is_
 use Rattle.upload_order.specs.Rename.{Names, named, meant, called, with_id, is_positive}
 use Rattle.renamed_content.specs.Renamed.{renamed}
 use Rattle.upload_order.specs.Kinds.{held_of, at_key, is_rising}
-use Rattle.upload_order.specs.World.{World, stands, content_in, content_at, has_content, reaches, Backs}
+use Rattle.upload_order.specs.World.{World, stands, content_at, reaches, Backs}
+use Rattle.upload_order.specs.Pieces.{content_in, has_content}
 use Rattle.upload_order.proofs.Basics.{both, none_some}
 use Rattle.upload_order.proofs.Static.{IsUp}
 use Rattle.upload_order.specs.Bases.{base_in, is_based, IsHeldUser}

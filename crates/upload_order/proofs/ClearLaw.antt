@@ -15,7 +15,8 @@ use Rattle.upload_order.specs.declared.refusal.PlanRefusal.{PlanRefusal}
 use Rattle.upload_order.specs.declared.refusal.PlanRefusal.TheVariants.{IncompleteRef}
 use Rattle.upload_order.specs.Kinds.{at_key, held_of, is_rising, is_update, is_sent}
 use Rattle.upload_order.specs.Plan.{made, plan}
-use Rattle.upload_order.specs.Refused.{keeps, vouches, vouches_at, is_loose, refs_sent, loose_of, loose_among, stuck_of, open_refusal, loose_refusal, stuck_refusal, upload_refusal, unless, upload}
+use Rattle.upload_order.specs.Refused.{keeps, vouches, is_loose, refs_sent, loose_among, stuck_of, open_refusal, loose_refusal, stuck_refusal, upload_refusal, upload}
+use Rattle.upload_order.specs.Pieces.{vouches_at, loose_of, unless}
 use Rattle.upload_order.proofs.Entries.{IsIn, none_found, any_in}
 use Rattle.upload_order.proofs.Lists.{any_is}
 use Rattle.upload_order.proofs.PlanUps.{content_is}

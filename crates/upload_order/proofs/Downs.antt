@@ -16,7 +16,9 @@ use Rattle.upload_order.specs.Rename.{called}
 use Rattle.upload_order.specs.Plan.{empty_relation, version_at, later, down_of}
 use Rattle.upload_order.proofs.Fitting.{fits_empty}
 use Rattle.upload_order.specs.Kinds.{held_of, at_key, is_falling}
-use Rattle.upload_order.specs.World.{World, WorldEntry, stands, content_in, content_at, user_of, Used, Missing, OldVersion, refusal, on_modify, on_delete, put_in, after, IsFresh, Accepts}
+use Rattle.upload_order.specs.World.{World, WorldEntry, stands, content_at, user_of, refusal, on_modify, on_delete, put_in, after, IsFresh, Accepts}
+use Rattle.upload_order.specs.declared.world.WorldRefusal.TheVariants.{Used, Missing, OldVersion}
+use Rattle.upload_order.specs.Pieces.{content_in}
 use Rattle.upload_order.proofs.Basics.{both, none_some, at_key_put, at_other}
 use Rattle.upload_order.proofs.Static.{Left, set_left, IsDown, no_more, clear, remove}
 use Rattle.upload_order.specs.declared.down.Down.{Down}

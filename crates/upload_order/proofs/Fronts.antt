@@ -11,14 +11,16 @@ use Rattle.upload_order.specs.declared.change.Change.{Change}
 use Rattle.upload_order.specs.declared.change.Change.TheVariants.{Create, Modify, Delete}
 use Rattle.upload_order.specs.Fronts.{RunsEachFront}
 use Rattle.upload_order.specs.Rename.{called, with_id}
-use Rattle.upload_order.specs.Run.{pick_for, picks_left, Ran, Ended, Stopped, on_refusal, run_from, picked, IsAmong, AreFresh}
-use Rattle.upload_order.specs.World.{World, WorldEntry, stands, Refusal, refusal, after, IsSoundWorld, IsFresh, Accepts, AcceptsSoundly}
+use Rattle.upload_order.specs.Run.{pick_for, picks_left, Ran, Ended, Stopped, run_from, picked, IsAmong, AreFresh}
+use Rattle.upload_order.specs.Pieces.{on_refusal}
+use Rattle.upload_order.specs.World.{World, WorldEntry, stands, refusal, after, IsSoundWorld, IsFresh, Accepts, AcceptsSoundly}
+use Rattle.upload_order.specs.declared.world.WorldRefusal.{WorldRefusal}
 use Rattle.upload_order.proofs.Basics.{none_some, at_key_put, at_other}
 use Rattle.upload_order.proofs.Runs.{fresh_later, runs_through, accepts_front}
 use Rattle.upload_order.proofs.Worlds.{accepted_sound}
 
 -- a run that ends accepts its first change
-on_ended : (o : Option Refusal) (n : ℕ) (r : Ran) (v : World) → on_refusal o n r ≡ Ended v → (o ≡ None) × (r ≡ Ended v)
+on_ended : (o : Option WorldRefusal) (n : ℕ) (r : Ran) (v : World) → on_refusal o n r ≡ Ended v → (o ≡ None) × (r ≡ Ended v)
 on_ended None n r v e = (refl, e)
 on_ended (Some why) n r v e = cc
 
@@ -27,7 +29,7 @@ ended_from : (n m : ℕ) (w v : World) (cs : List Change) (ps : List ℤ) → ru
 ended_from n m w v [] ps e = e
 ended_from n m w v (c ∷ cs) ps e =
     let x = on_ended (refusal w c (pick_for c ps)) n (run_from (n + 1) (after w c (pick_for c ps)) cs (picks_left c ps)) v e in
-    ap (λ (o : Option Refusal). on_refusal o m (run_from (m + 1) (after w c (pick_for c ps)) cs (picks_left c ps))) x.0
+    ap (λ (o : Option WorldRefusal). on_refusal o m (run_from (m + 1) (after w c (pick_for c ps)) cs (picks_left c ps))) x.0
     ∙ ended_from (n + 1) (m + 1) (after w c (pick_for c ps)) v cs (picks_left c ps) x.1
 
 abbrev ended_world : World → Ran → World

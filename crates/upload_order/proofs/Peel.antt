@@ -10,7 +10,8 @@ use Rattle.osm_table.specs.declared.entry.Entry.{Entry}
 use Rattle.osm_table.specs.Table.{TableValue}
 use Rattle.upload_order.specs.Kinds.{mine_refers, content_refers, is_rising, at_key}
 use Rattle.dataset.specs.Exact.{mine_at}
-use Rattle.upload_order.specs.Order.{without, is_ready, peel_found, peel}
+use Rattle.upload_order.specs.Order.{without, is_ready, peel}
+use Rattle.upload_order.specs.Pieces.{peel_found}
 use Rattle.upload_order.proofs.Basics.{key_same, with_cases}
 use Rattle.upload_order.proofs.Entries.{IsIn, found_in, none_found, in_filter, filter_in}
 use Rattle.upload_order.proofs.Lists.{AreDistinct, distinct_filter, less_filter, any_of}

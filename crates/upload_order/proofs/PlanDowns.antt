@@ -12,7 +12,8 @@ use Rattle.osm_table.specs.declared.entry.Entry.{Entry}
 use Rattle.osm_table.specs.Table.{TableValue, entry_of}
 use Rattle.upload_order.specs.Kinds.{held_of, content_refers, held_at, held_refers, is_falling, at_key}
 use Rattle.upload_order.proofs.Where.{falling_both, falling_self, falling_of, keys_where, falling_items, distinct_where, in_where, where_in}
-use Rattle.upload_order.specs.Fall.{Item, item_uses, is_unused, uses_some, without_item, emptied, fall, fall_next, fall_clear}
+use Rattle.upload_order.specs.Fall.{Item, item_uses, is_unused, uses_some, without_item, emptied, fall}
+use Rattle.upload_order.specs.Pieces.{fall_next, fall_clear}
 use Rattle.upload_order.specs.Plan.{plain_removes, downs}
 use Rattle.upload_order.specs.declared.down.Down.{Down}
 use Rattle.upload_order.proofs.Basics.{key_same, both, none_some}

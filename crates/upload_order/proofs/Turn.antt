@@ -14,7 +14,8 @@ use Rattle.upload_order.specs.Kinds.{held_of, at_key, is_rising, is_update, is_f
 use Rattle.osm_base.specs.Same.{same_content}
 use Rattle.osm_base.proofs.SameLaws.{same_content_decides}
 use Rattle.osm_base.proofs.Tests.{never, some_passed}
-use Rattle.upload_order.specs.World.{World, WorldEntry, stands, content_in, content_at, Backs, Holds, Alone, Accepts, IsEdited, is_known}
+use Rattle.upload_order.specs.World.{World, WorldEntry, stands, content_at, Backs, Holds, Alone, Accepts, IsEdited, is_known}
+use Rattle.upload_order.specs.Pieces.{content_in}
 use Rattle.upload_order.proofs.Basics.{both, none_some}
 use Rattle.upload_order.proofs.Renaming.{renamed_from, renamed_itself}
 use Rattle.upload_order.proofs.Static.{IsUp, IsOrdered, Left, IsDown}

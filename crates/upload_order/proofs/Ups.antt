@@ -16,7 +16,8 @@ use Rattle.upload_order.specs.declared.change.Change.TheVariants.{Create, Modify
 use Rattle.upload_order.specs.Rename.{named, called, with_id, is_positive}
 use Rattle.renamed_content.specs.Renamed.{renamed}
 use Rattle.upload_order.specs.Kinds.{held_of, at_key, is_rising}
-use Rattle.upload_order.specs.World.{World, stands, bad_ref, BadRef, Exists, Unfit, OldVersion, refusal, on_content, on_modify, after, Backs, IsFresh, Accepts}
+use Rattle.upload_order.specs.World.{World, stands, bad_ref, refusal, on_content, on_modify, after, Backs, IsFresh, Accepts}
+use Rattle.upload_order.specs.declared.world.WorldRefusal.TheVariants.{BadRef, Exists, Unfit, OldVersion}
 use Rattle.upload_order.proofs.Basics.{both}
 use Rattle.upload_order.proofs.Static.{IsUp, IsOrdered, no_more, next, with_key}
 use Rattle.upload_order.specs.Plan.{up_entry, up_of}

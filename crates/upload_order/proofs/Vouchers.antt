@@ -23,7 +23,8 @@ use Rattle.upload_order.specs.declared.refusal.PlanRefusal.TheVariants.{Incomple
 use Rattle.upload_order.specs.Kinds.{at_key, held_of}
 use Rattle.upload_order.specs.Marked.{with_marked, with_unknown, with_users, vouchers}
 use Rattle.upload_order.specs.Part.{changed_keys}
-use Rattle.upload_order.specs.Refused.{keeps, vouches, vouches_at, vouched_among, is_loose, is_loose_in, loose_among, loose_refusal, refs_sent}
+use Rattle.upload_order.specs.Refused.{keeps, vouches, vouched_among, is_loose, is_loose_in, loose_among, loose_refusal, refs_sent}
+use Rattle.upload_order.specs.Pieces.{vouches_at}
 use Rattle.upload_order.proofs.Entries.{any_in, in_any}
 use Rattle.upload_order.proofs.Lists.{any_is, any_of}
 use Rattle.upload_order.proofs.Vouching.{among_changed, by_all, loose_case}

@@ -16,7 +16,8 @@ use Rattle.upload_order.specs.declared.refusal.PlanRefusal.TheVariants.{Incomple
 use Rattle.upload_order.specs.Counts.{put_where}
 use Rattle.upload_order.specs.Kinds.{at_key, held_at, held_list, held_of}
 use Rattle.upload_order.specs.Part.{changed_keys}
-use Rattle.upload_order.specs.Refused.{keeps, keeps_at, vouches, vouches_at, vouched_among, is_loose, is_loose_in, loose_of, loose_among, loose_refusal, refs_sent}
+use Rattle.upload_order.specs.Refused.{keeps, keeps_at, vouches, vouched_among, is_loose, is_loose_in, loose_among, loose_refusal, refs_sent}
+use Rattle.upload_order.specs.Pieces.{vouches_at, loose_of}
 use Rattle.upload_order.proofs.Changed.{not_sent}
 use Rattle.upload_order.proofs.FallSteps.{find_alike}
 use Rattle.upload_order.proofs.FallTurns.{in_put}

@@ -15,7 +15,8 @@ use Rattle.osm_table.specs.Table.{TableValue, entry_of, keys_by_rank}
 use Rattle.upload_order.specs.declared.part.Part.{Part}
 use Rattle.upload_order.specs.declared.part.Part.TheVariants.{RisingNodes, RisingWays, RisingRelations, FallingRelations, FallingWays, FallingNodes}
 use Rattle.upload_order.specs.Part.{is_part}
-use Rattle.upload_order.specs.Fall.{Item, whole}
+use Rattle.upload_order.specs.Fall.{Item}
+use Rattle.upload_order.specs.Pieces.{whole}
 use Rattle.upload_order.proofs.Keys.{head_once, rises_tail}
 use Rattle.upload_order.proofs.Entries.{IsIn, in_filter, filter_in, any_in, in_any}
 use Rattle.upload_order.proofs.Lists.{AreDistinct, distinct_filter}

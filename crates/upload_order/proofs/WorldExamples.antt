@@ -9,7 +9,8 @@ use Rattle.osm_base.specs.declared.content.Content.TheVariants as content
 use Rattle.osm_base.specs.declared.key.Kind.TheVariants as kind
 use Rattle.osm_base.specs.declared.key.Key.{Key}
 use Rattle.upload_order.specs.declared.change.Change.TheVariants.{Create}
-use Rattle.upload_order.specs.World.{World, WorldEntry, stands, Exists, BadRef, Unfit, refusal, bad_ref, on_content}
+use Rattle.upload_order.specs.World.{World, WorldEntry, stands, refusal, bad_ref, on_content}
+use Rattle.upload_order.specs.declared.world.WorldRefusal.TheVariants.{Exists, BadRef, Unfit}
 
 abbrev way : ℤ → Key
 way id = record { kind = kind.Way; id = id }

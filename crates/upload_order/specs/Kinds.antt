@@ -54,7 +54,7 @@ held_at o = option_and_then held_of o
 
 -- the base of the first key refers to the second
 abbrev pub held_refers : TableValue → Key → Key → Bool
-held_refers t k r = content_refers (held_at (entry_of t k)) r
+held_refers t k r = content_refers (option_and_then held_of (entry_of t k)) r
 
 -- to what the base of the key refers, in order, each as often as it stands
 abbrev pub held_list : TableValue → Key → List Key

@@ -13,3 +13,4 @@ pub mod Bases
 pub mod World
 pub mod Run
 pub mod Fronts
+pub mod Pieces

@@ -1,5 +1,5 @@
 -- Why a table is not sent.
-use Rattle.std.specs.Prelude.{◌≡◌, ◌&&◌, Bool, true, false, not, is_some, if◌then◌else◌, Option, Some, None, Result, Ok, Err, List, [], ◌∷◌, length}
+use Rattle.std.specs.Prelude.{◌≡◌, ◌&&◌, Bool, true, not, is_some, if◌then◌else◌, Option, Some, None, Result, Ok, Err, List, [], ◌∷◌, length}
 use Rattle.std.specs.List.{list_any, find, filter}
 use Rattle.std.specs.Option.{option_map_or, option_map, option_or}
 use Rattle.osm_base.specs.Content.{refers, refs_of}
@@ -12,7 +12,7 @@ use Rattle.upload_order.specs.declared.change.Change.{Change}
 use Rattle.upload_order.specs.declared.refusal.PlanRefusal.{PlanRefusal}
 use Rattle.upload_order.specs.declared.refusal.PlanRefusal.TheVariants.{Conflicts, IncompleteRef, Cyclic, Memory}
 use Rattle.upload_order.specs.Counts.{put_where}
-use Rattle.upload_order.specs.Kinds.{at_key, held_list, held_of, is_sent}
+use Rattle.upload_order.specs.Kinds.{at_key, content_refers, held_list, held_of, is_sent}
 use Rattle.upload_order.specs.Plan.{made, plan}
 
 -- in conflict
@@ -33,14 +33,11 @@ keeps mine r = option_map_or (λ c. refers c r) mine true
 
 -- An entry vouches for a key where its base refers to it, and so does its mine if it lives.
 abbrev pub vouches : Entry → Key → Bool
-vouches e r = option_map_or (λ c. refers c r) (held_of e) false && keeps (mine_of e) r
-
-abbrev pub vouches_at : TableValue → Key → Key → Bool
-vouches_at t r k = at_key t (λ e. vouches e r) k
+vouches e r = content_refers (held_of e) r && option_map_or (λ c. refers c r) (mine_of e) true
 
 -- an Incomplete key that no entry vouches for
 abbrev pub is_loose : TableValue → Key → Bool
-is_loose t r = at_key t is_incomplete r && not (list_any (vouches_at t r) (keys_by_rank t))
+is_loose t r = at_key t is_incomplete r && not (list_any (at_key t (λ e. vouches e r)) (keys_by_rank t))
 
 -- the first key's object doesn't live, or still refers to the second
 abbrev pub keeps_at : TableValue → Key → Key → Bool
@@ -58,13 +55,10 @@ is_loose_in t vouched r = at_key t is_incomplete r && not (is_in r vouched)
 abbrev pub refs_sent : Option Entry → List Key
 refs_sent e = option_map_or (λ e. if is_sent e then option_map_or refs_of (mine_of e) [] else []) e []
 
--- the first reference of what is sent that is loose
-abbrev pub loose_of : (Key → Bool) → TableValue → Key → Option Key
-loose_of loose t k = find loose (refs_sent (entry_of t k))
-
+-- the first object of which a reference is loose that is sent, with the first of these
 abbrev pub loose_among : (Key → Bool) → TableValue → List Key → Option PlanRefusal
 loose_among loose t [] = None
-loose_among loose t (k ∷ ks) = option_or (option_map (IncompleteRef k) (loose_of loose t k)) (loose_among loose t ks)
+loose_among loose t (k ∷ ks) = option_or (option_map (IncompleteRef k) (find loose (refs_sent (entry_of t k)))) (loose_among loose t ks)
 
 abbrev pub loose_refusal : TableValue → Option PlanRefusal
 loose_refusal t = loose_among (is_loose t) t (keys_by_rank t)
@@ -81,12 +75,9 @@ stuck_refusal t = stuck_of (made t).stuck
 abbrev pub upload_refusal : TableValue → Option PlanRefusal
 upload_refusal t = option_or (open_refusal t) (option_or (loose_refusal t) (stuck_refusal t))
 
-abbrev pub unless : Option PlanRefusal → List Change → Result (List Change) PlanRefusal
-unless why cs = option_map_or Err why (Ok cs)
-
 -- The plan, or why there is none.
 abbrev pub upload : TableValue → Result (List Change) PlanRefusal
-upload t = unless (upload_refusal t) (plan t)
+upload t = option_map_or Err (upload_refusal t) (Ok (plan t))
 
 -- what is answered, where memory is found
 abbrev pub Gives : Result (List Change) PlanRefusal → Result (List Change) PlanRefusal → Type 0

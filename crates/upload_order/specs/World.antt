@@ -1,7 +1,7 @@
 -- A server that takes changes one at a time.
 use Rattle.std.specs.Prelude.{◌≡◌, ℕ, ◌+◌, nat_eq, ℤ, Bool, true, false, not, if◌then◌else◌, List, [], ◌∷◌, Option, Some, None, is_some, ◌⊎◌}
 use Rattle.std.specs.List.{find}
-use Rattle.std.specs.Option.{option_map_or, option_map, option_and_then}
+use Rattle.std.specs.Option.{option_map, option_and_then}
 use Rattle.std.specs.FinMap as fin
 use Rattle.osm_base.specs.Rank.{rank_cmp}
 use Rattle.osm_base.specs.Content.{refs_of, refers, fits}
@@ -11,9 +11,11 @@ use Rattle.osm_table.specs.declared.entry.Entry.{Entry}
 use Rattle.osm_table.specs.Table.{TableValue, entry_of, mine_of, version_of, is_incomplete}
 use Rattle.upload_order.specs.declared.change.Change.{Change}
 use Rattle.upload_order.specs.declared.change.Change.TheVariants.{Create, Modify, Delete}
+use Rattle.upload_order.specs.declared.world.WorldRefusal.{WorldRefusal}
+use Rattle.upload_order.specs.declared.world.WorldRefusal.TheVariants.{Exists, Missing, OldVersion, BadRef, Used, Unfit}
 use Rattle.upload_order.specs.Rename.{Names, meant, called, with_id, is_positive}
 use Rattle.renamed_content.specs.Renamed.{renamed}
-use Rattle.upload_order.specs.Kinds.{held_of, at_key, is_falling, is_rising}
+use Rattle.upload_order.specs.Kinds.{held_of, at_key, content_refers, is_falling, is_rising}
 use Rattle.upload_order.specs.Bases.{base_in, is_based, IsHeldUser}
 
 pub record WorldEntry : Type 0 where
@@ -27,52 +29,43 @@ pub record World : Type 0 where
 abbrev pub stands : World → Key → Option WorldEntry
 stands w k = fin.get w.entries k
 
-abbrev pub content_in : Option WorldEntry → Option Content
-content_in e = option_and_then (λ e. e.content) e
-
 abbrev pub content_at : World → Key → Option Content
-content_at w k = content_in (stands w k)
+content_at w k = option_and_then (λ e. e.content) (stands w k)
 
-pub data Refusal : Type 0 where
-  Exists : Refusal
-  Missing : Refusal
-  OldVersion : ℕ → Refusal
-  BadRef : Key → Refusal
-  Used : Key → Refusal
-  Unfit : Refusal
+-- the number of a refusal in a reply
+abbrev pub number_of : WorldRefusal → ℕ
+number_of Exists = 1
+number_of Missing = 2
+number_of (OldVersion has) = 3
+number_of (BadRef key) = 4
+number_of (Used key) = 5
+number_of Unfit = 6
 
 -- the reference has a name, under which a content stands
-abbrev pub has_content : World → Option Key → Bool
-has_content w q = is_some (option_and_then (content_at w) q)
-
 abbrev pub reaches : World → Key → Bool
-reaches w r = has_content w (meant w.names r)
+reaches w r = is_some (option_and_then (content_at w) (meant w.names r))
 
+-- the first reference that has none
 abbrev pub bad_ref : World → Content → Option Key
 bad_ref w c = find (λ r. not (reaches w r)) (refs_of c)
 
-abbrev pub entry_refers : Key → WorldEntry → Bool
-entry_refers k e = option_map_or (λ c. refers c k) e.content false
-
-abbrev pub user_among : List (Key × WorldEntry) → Key → Option Key
-user_among es k = option_map (λ e. e.0) (find (λ e. entry_refers k e.1) es)
-
+-- the least object whose content refers to the key
 abbrev pub user_of : World → Key → Option Key
-user_of w k = user_among (fin.entries w.entries) k
+user_of w k = option_map (λ e. e.0) (find (λ e. content_refers e.1.content k) (fin.entries w.entries))
 
-abbrev pub on_content : World → Content → Option Refusal
+abbrev pub on_content : World → Content → Option WorldRefusal
 on_content w c = if fits c then option_map BadRef (bad_ref w c) else Some Unfit
 
-abbrev pub on_modify : World → ℕ → Content → Option WorldEntry → Option Refusal
+abbrev pub on_modify : World → ℕ → Content → Option WorldEntry → Option WorldRefusal
 on_modify w v c None = Some Missing
 on_modify w v c (Some e) = if nat_eq e.version v then on_content w c else Some (OldVersion e.version)
 
-abbrev pub on_delete : World → Key → ℕ → Option WorldEntry → Option Refusal
+abbrev pub on_delete : World → Key → ℕ → Option WorldEntry → Option WorldRefusal
 on_delete w k v None = Some Missing
 on_delete w k v (Some e) = if is_some e.content then (if nat_eq e.version v then option_map Used (user_of w k) else Some (OldVersion e.version)) else Some Missing
 
 -- why the world refuses a change
-abbrev pub refusal : World → Change → ℤ → Option Refusal
+abbrev pub refusal : World → Change → ℤ → Option WorldRefusal
 refusal w (Create k c) picked = if is_some (stands w (with_id k picked)) then Some Exists else on_content w c
 refusal w (Modify k v c) picked = on_modify w v c (stands w (called w.names k))
 refusal w (Delete k v) picked = on_delete w (called w.names k) v (stands w (called w.names k))

@@ -27,6 +27,7 @@ mod refusal;
 mod refused;
 mod sending;
 mod waiting;
+mod world;
 
 pub use change::{Change, Changes};
 pub use laws::{
@@ -36,3 +37,4 @@ pub use laws::{
 pub use marking::changed_keys;
 pub use planning::plan;
 pub use refusal::PlanRefusal;
+pub use world::WorldRefusal;

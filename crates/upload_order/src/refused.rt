@@ -7,7 +7,8 @@ ghost use Rattle.osm_table.specs.Table.{entry_of, is_incomplete};
 ghost use Rattle.upload_order.specs.Counts.{put_where};
 ghost use Rattle.upload_order.specs.Kinds.{at_key, held_list};
 ghost use Rattle.upload_order.specs.Part.{changed_keys};
-ghost use Rattle.upload_order.specs.Refused.{open_of, keeps_at, vouched_among, is_loose_in, loose_of, loose_among, loose_refusal, stuck_of};
+ghost use Rattle.upload_order.specs.Refused.{open_of, keeps_at, vouched_among, is_loose_in, loose_among, loose_refusal, stuck_of};
+ghost use Rattle.upload_order.specs.Pieces.{loose_of};
 
 use crate::backing::vouchers;
 use crate::kinds::{held_at, is_incomplete, is_sent};

@@ -1,6 +1,6 @@
 use Rattle.std.proofs.Common.{ap, ◌∙◌}
 use Rattle.std.specs.FinMap as fin
-use Rattle.upload_order.specs.World.{user_among}
+use Rattle.upload_order.specs.Pieces.{user_among}
 use Rattle.server_world.specs.Codes.{Objects}
 use Rattle.server_world.proofs.Indexing.{lent_first}
 use Rattle.server_world.proofs.objects.Objects.first_user.Goals as goal
