@@ -23,6 +23,7 @@ use Rattle.upload_order.specs.Pieces.{content_in}
 use Rattle.upload_order.proofs.Basics.{none_some}
 use Rattle.placeholder.specs.declared.answer.Answer.{Answer}
 use Rattle.server_world.specs.Codes.{Objects}
+use Rattle.server_world.specs.Sent.{pick_for}
 use Rattle.editor_laws.specs.Bases.{Mentions}
 use Rattle.editor_laws.specs.Bases.Mentions.{has_key}
 use Rattle.editor_laws.specs.Editing.{EachTable}
@@ -42,6 +43,7 @@ use Rattle.many_editors.proofs.Fetching.{tells_state}
 use Rattle.many_editors.proofs.Lifting.{all_at}
 use Rattle.many_editors.proofs.Stating.{keeps_states, empty_states, mentioned_stands, unmentioned}
 use Rattle.many_editors.proofs.Merging.{fetched_states}
+use Rattle.many_editors.proofs.Sends.{least_ids}
 use Rattle.many_editors.proofs.Waiting.{each_map, here, at_sound, answered_sound, lost_sound, sent_sound}
 
 module _ (m : Meeting) (s : IsSoundMeeting m) (n : ℕ) (e : Editor) (at : slice_get m.editors n ≡ Some e) where
@@ -62,7 +64,7 @@ module _ (m : Meeting) (s : IsSoundMeeting m) (n : ℕ) (e : Editor) (at : slice
           step_sound (job_move limit (job.Merge told)) (job_tables (IsFromStates (states m)) limit (job.Merge told) e.state (fetched_states (states m) back objects told e.state.now limit s.servers get (tells_state objects (all_at IsServer (states m) back objects s.servers get) area wanted) is tables.now) tables)
 
       changes_sound : (count : ℕ) (changes : List Change) → upload e.state.now ≡ Ok changes → e.state.group ≡ Outside → (end : Option Key) → version_end (take count changes) ≡ end → IsSoundMeeting (changes_met n (take count changes) e.state end m).meeting
-      changes_sound count changes ok outside None end = sent_sound m s n e at changes count is ok outside end
+      changes_sound count changes ok outside None end = sent_sound m s n e at changes count is ok (λ w c. pick_for w e.state.now c) (least_ids e.state.now) outside end
       changes_sound count changes ok outside (Some k) end = s
 
       send_sound : (count : ℕ) → e.state.group ≡ Outside → (r : Result (List Change) PlanRefusal) → upload e.state.now ≡ r → IsSoundMeeting (send_met n count e.state r m).meeting
