@@ -75,7 +75,7 @@ class Schedule:
 
         Where the end hangs on the longest chain, the crate that begins it has a second job and needn't wait for a processor,
         since what has time to spare yields to it. A further job costs processor time, so any other crate has one job while
-        another is ready."""
+        another is ready and has room in memory."""
         ready = [it for it in self.order if it in waiting and proved.issuperset(self.crates[it].below)]
         if any(it.start.name in alone for it in running):
             return None
@@ -85,14 +85,22 @@ class Schedule:
         if not ready:
             return None
         name = ready[0]
-        jobs, spare = self.share(name, waiting, running, len(ready) - 1)
         room = self.memory - sum(it.start.memory for it in running)
+        jobs, spare = self.share(name, waiting, running, self.beside(ready, room))
         while jobs > 1 and self.need(name, jobs) > room:
             jobs -= 1
         if not jobs or running and self.need(name, jobs) > room:
             return None
         # What has time to spare yields by a step for each minute of it.
         return Start(name, jobs, min(15, int(spare // 60)), self.need(name, jobs), spare)
+
+    def beside(self, ready, room):
+        """How many of the crates that are ready, but the first, have room in memory beside it."""
+        found, left = 0, room - self.need(ready[0])
+        for name in ready[1:]:
+            if self.need(name) <= left:
+                found, left = found + 1, left - self.need(name)
+        return found
 
     def share(self, name, waiting, running, others):
         """How many jobs a crate gets, 0 where it is to wait, and the seconds that its chain has to spare."""

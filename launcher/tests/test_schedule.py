@@ -113,6 +113,14 @@ class Memory(unittest.TestCase):
         schedule.memory = schedule.need('a', 2)
         self.assertEqual(2, schedule.next(['a'], set(), []).jobs)
 
+    def test_what_others_have_no_room_to_use_is_given_to_one(self):
+        schedule = Schedule(crates(a=(1000,), b=(1000,), c=(1000,)), 3, 0)
+        schedule.memory = schedule.need('a', 2) + schedule.need('b')
+        first = schedule.next(['a', 'b', 'c'], set(), [])
+        self.assertEqual(2, first.jobs)
+        second = schedule.next(['b', 'c'], set(), [Running(first, 100.0)])
+        self.assertEqual(('b', 1), (second.name, second.jobs))
+
     def test_a_proof_that_does_not_fit_waits_for_others_and_then_begins(self):
         schedule = Schedule(crates(a=(1000,), b=(1000,)), 4, 0)
         schedule.memory = schedule.need('b') * 1.1
