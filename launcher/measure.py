@@ -6,7 +6,8 @@ import time
 from launcher import machine
 from launcher.messages import gigabytes
 
-EACH = 5.0
+# A look is taken so many seconds after the one before at the earliest, and later where looks take long: a large process is slowed by each.
+EACH, SHARE = 5.0, 50
 
 
 def processes(group):
@@ -50,13 +51,13 @@ class Meter:
 
     def __init__(self, group, folder):
         self.group, self.folder = group, folder
-        self.looked, self.memory, self.disk, self.least_free = 0.0, 0, 0, machine.free_memory()
+        self.next, self.memory, self.disk, self.least_free = 0.0, 0, 0, machine.free_memory()
 
     def look(self, running):
         """Looks at the proofs that run, every few seconds."""
-        if time.monotonic() - self.looked < EACH:
+        begun = time.monotonic()
+        if begun < self.next:
             return
-        self.looked = time.monotonic()
         parents = processes(self.group)
         roots = {it.process.pid: it for it in running}
         sums = dict.fromkeys(roots, 0)
@@ -71,6 +72,8 @@ class Meter:
         self.memory = max(self.memory, sum(sums.values()))
         self.disk = max(self.disk, disk_of(self.folder))
         self.least_free = min(self.least_free, machine.free_memory())
+        now = time.monotonic()
+        self.next = now + max(EACH, SHARE * (now - begun))
 
     def told(self):
         """What was seen, in a line."""
