@@ -9,16 +9,17 @@ ghost use Rattle.osm_table.specs.Table.{entry_of};
 ghost use Rattle.dataset.specs.Draft.{drafted};
 
 use crate::dataset::DataSet;
-use indexmap::IndexMap;
 use osm_base::Key;
 use osm_table::{Entry, SharedEntry};
 use std::alloc::{AllocError, Global};
+use std::collections::HashMap;
 use std::marker::Model;
 
 /// New entries by key, where none takes the key away, and the number of the next new object.
 #[derive(Drop)]
 pub struct Draft {
-    puts: IndexMap<Key, Option<SharedEntry>>,
+    alloc: Global,
+    puts: HashMap<Key, Option<SharedEntry>>,
     next: u64,
 }
 
@@ -38,8 +39,10 @@ impl Draft {
     pub fn new(ds: &DataSet) -> Draft
         ensures { result ≡ record { puts = map.empty; next = ds.now.next } }
     {
+        let alloc = ds.alloc();
         Draft {
-            puts: IndexMap::new(ds.alloc()),
+            alloc,
+            puts: HashMap::new(alloc),
             next: ds.next(),
         }
     }
@@ -52,9 +55,12 @@ impl Draft {
     pub fn with_capacity(ds: &DataSet, keys: usize) -> Result<Draft, AllocError>
         ensures { IfOk result (λ draft. draft ≡ record { puts = map.empty; next = ds.now.next }) }
     {
-        let mut draft = Draft::new(ds);
-        draft.puts.reserve(keys)?;
-        Ok(draft)
+        let alloc = ds.alloc();
+        Ok(Draft {
+            alloc,
+            puts: HashMap::with_capacity(alloc, keys)?,
+            next: ds.next(),
+        })
     }
 
     /// Says the new entry of a key, or that the key goes. A later word on a key takes the place of
@@ -67,7 +73,7 @@ impl Draft {
         ensures ok { OnOk result (self.new ≡ record { puts = map.insert self.old.puts key after; next = self.old.next }) }
         ensures err { OnErr result (self.new ≡ self.old) }
     {
-        let after = share(*self.puts.allocator(), after)?;
+        let after = share(self.alloc, after)?;
         self.put_shared(key, after)?;
         Ok(())
     }
@@ -131,7 +137,7 @@ impl Draft {
     pub fn ordered(&self) -> Result<Vec<Key>, AllocError>
         ensures { IfOk result (λ keys. keys.items ≡ map.keys self.now.puts) }
     {
-        let mut keys = keys(&self.puts)?;
+        let mut keys = keys(self.alloc, &self.puts)?;
         keys.sort()?;
         Ok(keys)
     }
@@ -146,9 +152,9 @@ fn share(alloc: Global, entry: Option<Entry>) -> Result<Option<SharedEntry>, All
     }
 }
 
-fn keys(puts: &IndexMap<Key, Option<SharedEntry>>) -> Result<Vec<Key>, AllocError>
+fn keys(alloc: Global, puts: &HashMap<Key, Option<SharedEntry>>) -> Result<Vec<Key>, AllocError>
     ensures listed { IfOk result (λ keys. keys.items ≡ keys_of puts.now.entries) }
     ensures unique { IfOk result (λ _. IsDistinct eq (keys_of puts.now.entries)) }
 {
-    puts.keys().copied().collect(*puts.allocator())
+    puts.keys().copied().collect(alloc)
 }

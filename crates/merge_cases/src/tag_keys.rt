@@ -3,28 +3,30 @@ ghost use Rattle.std.specs.Prelude.{◌≡◌, ◌==◌, ◌<◌, ◌++◌, ◌�
 ghost use Rattle.merge_cases.specs.Keys.{is_listed};
 
 use crate::tag_key::TagKey;
-use indexmap::IndexMap;
 use osm_base::Text;
 use std::alloc::{AllocError, Global};
+use std::collections::HashSet;
 use std::marker::Model;
 
 /// Keys of tags, in the order in which they were given: none is empty, and none stands twice. A key is found among them
 /// by one look-up.
 #[derive(Drop)]
 pub struct TagKeys {
-    keys: IndexMap<TagKey, ()>,
+    keys: Vec<TagKey>,
+    index: HashSet<Vec<u8>>,
 }
 
 impl Model for TagKeys {
-    ghost use Rattle.std.specs.Prelude.{List, ℕ, T};
-    ghost use Rattle.std.specs.Map.{keys_of};
-    ghost use Rattle.merge_cases.specs.Keys.{are_tag_keys};
+    ghost use Rattle.std.specs.Prelude.{◌≡◌, List, ℕ, T};
+    ghost use Rattle.std.specs.List.{list_any};
+    ghost use Rattle.osm_base.specs.Same.{same_text};
+    ghost use Rattle.merge_cases.specs.Keys.{is_listed, are_tag_keys};
 
     ghost Value = { List (List ℕ) };
 
-    ghost view = { λ k. keys_of k.keys.entries };
+    ghost view = { λ k. k.keys.items };
 
-    ghost invariant = { λ k. T (are_tag_keys (keys_of k.keys.entries)) };
+    ghost invariant = { λ k. T (are_tag_keys k.keys.items) × ((key : List ℕ) → list_any (λ listed. same_text key listed.items) k.index.keys ≡ is_listed k.keys.items key) };
 }
 
 impl TagKeys {
@@ -33,7 +35,8 @@ impl TagKeys {
         ensures { result ≡ [] }
     {
         TagKeys {
-            keys: IndexMap::new(alloc),
+            keys: Vec::new(alloc),
+            index: HashSet::new(alloc),
         }
     }
 
@@ -63,29 +66,32 @@ impl TagKeys {
     pub fn as_slice(&self) -> &[TagKey]
         ensures { result.now ≡ self.now }
     {
-        self.keys.keys().as_slice()
+        self.keys.as_slice()
     }
 
     /// Whether the key is listed. One look-up.
-    #[tactic(auto, using(crate::proofs::Pushed::found))]
     pub fn has(&self, key: &[u8]) -> bool
         ensures { result ≡ is_listed self.now key.now }
     {
-        self.keys.contains_key(key)
+        self.index.contains(key)
     }
 
     /// Adds a key at the end. It must not be empty, and not be there. One look-up.
     ///
     /// # Errors
     /// No memory was left, and nothing has changed.
-    #[tactic(auto, using(crate::proofs::Pushed::pushed, crate::proofs::Pushed::pushed_last))]
     pub fn push(&mut self, key: Text) -> Result<(), AllocError>
         requires named { 0 < length key }
         requires new { is_listed self.now key ≡ false }
         ensures ok { OnOk result (self.new ≡ self.old ++ key ∷ []) }
         ensures err { OnErr result (self.new ≡ self.old) }
     {
-        self.keys.insert(TagKey::new(key), ())?;
-        Ok(())
+        self.keys.reserve(1)?;
+        self.index
+            .insert(Vec::from_slice(*self.keys.allocator(), key.as_bytes())?)?;
+        match self.keys.push(TagKey::new(key)) {
+            Ok(()) => Ok(()),
+            Err(_) => unreachable!(),
+        }
     }
 }

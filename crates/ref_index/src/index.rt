@@ -11,9 +11,9 @@ use crate::lists::{list_at, list_user, unlist_user};
 use crate::pair::Pair;
 use crate::repeats::{count_again, number_of, set_number};
 use crate::users::Users;
-use indexmap::IndexMap;
 use osm_base::{Key, is_among};
 use std::alloc::{AllocError, Global};
+use std::collections::HashMap;
 use std::marker::Model;
 
 /// A bag of pairs that lends the users of each key.
@@ -22,8 +22,9 @@ use std::marker::Model;
 /// how often the others are.
 #[derive(Drop)]
 pub struct RefIndex {
-    lists: IndexMap<Key, Users>,
-    repeats: IndexMap<Pair, u64>,
+    alloc: Global,
+    lists: HashMap<Key, Users>,
+    repeats: HashMap<Pair, u64>,
 }
 
 impl Model for RefIndex {
@@ -46,8 +47,9 @@ impl RefIndex {
         ensures { result ≡ map.empty }
     {
         RefIndex {
-            lists: IndexMap::new(alloc),
-            repeats: IndexMap::new(alloc),
+            alloc,
+            lists: HashMap::new(alloc),
+            repeats: HashMap::new(alloc),
         }
     }
 
@@ -65,7 +67,7 @@ impl RefIndex {
         ensures ok { OnOk result ((p : Pair) → count self.new p ≡ (if is_pair p pair then 1 else 0) + count self.old p) }
         ensures err { OnErr result (self.new ≡ self.old) }
     {
-        add(&mut self.lists, &mut self.repeats, pair)?;
+        add(self.alloc, &mut self.lists, &mut self.repeats, pair)?;
         Ok(())
     }
 
@@ -100,8 +102,9 @@ impl RefIndex {
 /// Adds a pair, or leaves the bag as it was. Costs one look-up by hash, and two where the pair is
 /// there already.
 fn add(
-    lists: &mut IndexMap<Key, Users>,
-    repeats: &mut IndexMap<Pair, u64>,
+    alloc: Global,
+    lists: &mut HashMap<Key, Users>,
+    repeats: &mut HashMap<Pair, u64>,
     pair: Pair,
 ) -> Result<(), AllocError>
     requires repeats { AreRepeats repeats.old.entries lists.old.entries }
@@ -109,14 +112,14 @@ fn add(
     ensures ok { OnOk result ((q : Pair) → times_there repeats.new.entries lists.new.entries q ≡ (if is_pair q pair then 1 else 0) + times_there repeats.old.entries lists.old.entries q) }
     ensures err { OnErr result ((q : Pair) → times_there repeats.new.entries lists.new.entries q ≡ times_there repeats.old.entries lists.old.entries q) }
 {
-    let first = list_user(lists, pair.of, pair.user)?;
+    let first = list_user(alloc, lists, pair.of, pair.user)?;
     if !first {
         count_again(repeats, pair)?;
     }
     Ok(())
 }
 
-fn take(lists: &mut IndexMap<Key, Users>, repeats: &mut IndexMap<Pair, u64>, pair: Pair)
+fn take(lists: &mut HashMap<Key, Users>, repeats: &mut HashMap<Pair, u64>, pair: Pair)
     requires repeats { AreRepeats repeats.old.entries lists.old.entries }
     requires there { 0 < times_there repeats.old.entries lists.old.entries pair }
     ensures repeats { AreRepeats repeats.new.entries lists.new.entries }
@@ -126,7 +129,7 @@ fn take(lists: &mut IndexMap<Key, Users>, repeats: &mut IndexMap<Pair, u64>, pai
     if number == 1 {
         unlist_user(lists, pair.of, pair.user);
     } else if number == 2 {
-        repeats.swap_remove(&pair);
+        repeats.remove(&pair);
     } else {
         set_number(repeats, pair, number - 1);
     }

@@ -1,17 +1,17 @@
 //! How often the pairs are there that are there more than once, as those of a closed way with its
 //! first node are. Any other pair has no number.
 ghost use Rattle.std.specs.Prelude.{◌≡◌, ◌+◌, Some, OnOk, OnErr, IsSome};
-ghost use Rattle.indexmap.specs.IndexMap.{get};
+ghost use Rattle.std.specs.HashMap.{get};
 ghost use Rattle.ref_index.specs.declared.pair.Pair.{Pair};
 ghost use Rattle.ref_index.specs.Bag.{pair_eq};
 ghost use Rattle.ref_index.specs.Repeats.{SetsNumber, number_of};
 
 use crate::pair::Pair;
-use indexmap::IndexMap;
 use std::alloc::AllocError;
+use std::collections::HashMap;
 
 /// How often a listed pair is there. Costs one look-up by hash, and none where no pair has a number.
-pub fn number_of(repeats: &IndexMap<Pair, u64>, pair: Pair) -> u64
+pub fn number_of(repeats: &HashMap<Pair, u64>, pair: Pair) -> u64
     ensures { result ≡ number_of repeats.now.entries pair }
 {
     if repeats.is_empty() {
@@ -28,7 +28,7 @@ pub fn number_of(repeats: &IndexMap<Pair, u64>, pair: Pair) -> u64
 /// # Errors
 ///
 /// Where no memory is found, or where the pair would be there 2^64 times. Then nothing changes.
-pub fn count_again(repeats: &mut IndexMap<Pair, u64>, pair: Pair) -> Result<(), AllocError>
+pub fn count_again(repeats: &mut HashMap<Pair, u64>, pair: Pair) -> Result<(), AllocError>
     ensures ok { OnOk result (SetsNumber repeats.old.entries repeats.new.entries pair (Some (number_of repeats.old.entries pair + 1))) }
     ensures err { OnErr result ((q : Pair) → get pair_eq repeats.new q ≡ get pair_eq repeats.old q) }
 {
@@ -41,7 +41,7 @@ pub fn count_again(repeats: &mut IndexMap<Pair, u64>, pair: Pair) -> Result<(), 
 }
 
 /// Gives a pair that has a number another. Costs one look-up by hash.
-pub fn set_number(repeats: &mut IndexMap<Pair, u64>, pair: Pair, number: u64)
+pub fn set_number(repeats: &mut HashMap<Pair, u64>, pair: Pair, number: u64)
     requires { IsSome (get pair_eq repeats.old pair) }
     ensures { SetsNumber repeats.old.entries repeats.new.entries pair (Some number) }
 {

@@ -15,12 +15,12 @@ returns-then-number-eq1-clause-count c =
     last_times c.args.repeats.now.entries c.args.lists.now.entries c.unlist_user.new.lists.entries c.args.pair one (listed c.args.repeats.now.entries c.args.lists.now.entries c.args.pair c.requires.there) c.unlist_user.ensures
 
 pub returns-then-number-eq2-clause-repeats : goal.returns-then-number-eq2-clause-repeats
-returns-then-number-eq2-clause-repeats c = sets_repeats c.args.repeats.now.entries c.swap_remove.new.self.entries c.args.lists.now.entries c.args.pair None c.requires.repeats c.swap_remove.ensures.updates.0 tt
+returns-then-number-eq2-clause-repeats c = sets_repeats c.args.repeats.now.entries c.remove.new.self.entries c.args.lists.now.entries c.args.pair None c.requires.repeats c.remove.ensures.updates.0 tt
 
 pub returns-then-number-eq2-clause-count : goal.returns-then-number-eq2-clause-count
 returns-then-number-eq2-clause-count c =
     let two : 2 ≡ number_of c.args.repeats.now.entries c.args.pair = grind (arith, c.number_of-number.ensures, c.if-number-eq2.true) in
-    less_times c.args.repeats.now.entries c.swap_remove.new.self.entries c.args.lists.now.entries c.args.pair None c.swap_remove.ensures.updates.0 two (listed c.args.repeats.now.entries c.args.lists.now.entries c.args.pair c.requires.there)
+    less_times c.args.repeats.now.entries c.remove.new.self.entries c.args.lists.now.entries c.args.pair None c.remove.ensures.updates.0 two (listed c.args.repeats.now.entries c.args.lists.now.entries c.args.pair c.requires.there)
 
 pub returns-else-number-eq2-clause-count : goal.returns-else-number-eq2-clause-count
 returns-else-number-eq2-clause-count c =
