@@ -1,7 +1,9 @@
 pub mod Each
 mod InPlace
 mod OrderLaws
+mod PlaceLaws
 mod TakenOut
+mod SwappedOut
 mod ListedLaws
 mod Standing
 pub mod SameLaws

@@ -2,8 +2,7 @@
 use Rattle.std.proofs.Common.{◌≡◌, ◌||◌, Bool, true, false, List, [], ◌∷◌, ◌++◌, refl, sym, ◌∙◌, ap, subst, append-nil, append_assoc}
 use Rattle.std.specs.Map.{keys_of}
 use Rattle.std.specs.Prelude.{T}
-use Rattle.std.specs.Ordering.{is_eq}
-use Rattle.indexmap.specs.IndexMap.{insert_entry, insert_all}
+use Rattle.osm_table.specs.InOrder.{insert_entry, insert_all}
 use Rattle.osm_base.specs.KeyEq.{eq}
 use Rattle.osm_base.specs.Rank.{rank_cmp, is_key}
 use Rattle.osm_base.specs.RankLaws.{rank_ties}

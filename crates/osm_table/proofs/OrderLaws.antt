@@ -1,15 +1,14 @@
 -- Entries in the order in which they were put: what is looked up and put, by key and by place.
-use Rattle.std.proofs.Common.{◌≡◌, ℕ, zero, suc, ◌+◌, ◌<◌, ◌||◌, Bool, true, false, cond, is_some, List, [], ◌∷◌, ◌++◌, length, take, set, get_or, Option, Some, None, refl, sym, ◌∙◌, ap, arith, subst}
+use Rattle.std.proofs.Common.{◌≡◌, ℕ, zero, suc, ◌<◌, ◌||◌, Bool, true, false, cond, is_some, List, [], ◌∷◌, ◌++◌, length, take, set, get_or, Option, Some, None, refl, sym, ◌∙◌, ap, arith, subst}
 use Rattle.std.specs.declared.cmp.Ordering.TheVariants.{Less}
 use Rattle.std.specs.Ordering.{is_eq}
 use Rattle.std.specs.List.{zip, IsDistinct, AllByRecursion}
 use Rattle.std.specs.Map.{keys_of, lookup}
-use Rattle.std.specs.Prelude.{slice_get, position, IfSome, IfNone, OnErr, Result, Ok, Err, T}
-use Rattle.std.proofs.lemmas.List.{take_more, length-take-le, length-map}
-use Rattle.std.proofs.lemmas.List.Quantifiers.{position-Some}
+use Rattle.std.specs.Prelude.{slice_get, IfNone, OnOk, OnErr, Result, Ok, Err, T}
+use Rattle.std.proofs.lemmas.List.{length-map}
+use Rattle.std.proofs.lemmas.Map.Keys.{IsDistinct-head, IsDistinct-tail}
 use Rattle.std.proofs.lemmas.Slice.Zip.{firsts-zip}
-use Rattle.std.proofs.lemmas.Option.{same_Some, slice_get-get_or, slice_get_within, get_or_from_slice_get}
-use Rattle.indexmap.specs.IndexMap.{insert_entry}
+use Rattle.std.proofs.lemmas.Option.{same_Some}
 use Rattle.osm_base.specs.KeyEq.{eq}
 use Rattle.osm_base.specs.Rank.{rank_cmp, is_key}
 use Rattle.osm_base.specs.RankLaws.{rank_ties, eq_decides}
@@ -19,10 +18,8 @@ use Rattle.osm_base.proofs.ByRank.{eq_turned}
 use Rattle.osm_base.proofs.Halving.{IsBelow, below_at}
 use Rattle.osm_base.proofs.RisingKeys.{key_itself, key_turned}
 use Rattle.osm_base.proofs.Tests.{first_T, second_T, less_from_T, never}
+use Rattle.osm_table.specs.InOrder.{insert_entry}
 use Rattle.osm_table.specs.declared.entry.Entry.{Entry}
-
-eq_itself : (k : Key) → eq k k ≡ true
-eq_itself k = rank_ties k k ∙ key_itself k
 
 pub less_apart : (x k : Key) → rank_cmp x k ≡ Less → is_key k x ≡ false
 less_apart x k e = key_turned k x ∙ ap is_eq e
@@ -70,23 +67,20 @@ pub found_put : (es : List (Key × Entry)) (k : Key) (e : Entry) (q : Key) → l
 found_put [] k e q = ap (λ b. cond b (Some e) None) (eq_turned q k)
 found_put (x ∷ es) k e q = found_step (eq k x.0) x es k e q refl (found_put es k e q)
 
--- where the test of keys finds a key
-pub found_position : (ks : List Key) (k : Key) (o : Option ℕ) → o ≡ position (eq k) ks → IfSome o (λ i. slice_get ks i ≡ Some k)
-found_position ks k None is = tt
-found_position ks k (Some i) is =
-    let p = position-Some (eq k) ks i k (sym is) in
-    slice_get-get_or ks i k p.0 ∙ ap Some (sym ((eq_decides k (get_or ks i k)).0 p.1))
-
 -- what follows where there is none
 pub if_none : {A P Q : Type 0} (o : Option A) → IfNone o P → (P → Q) → IfNone o Q
 if_none None p f = f p
 if_none (Some a) p f = tt
 
+pub when_ok : {A B P : Type 0} (r : Result A B) → P → OnOk r P
+when_ok (Ok a) p = p
+when_ok (Err e) p = tt
+
 pub if_err : {A B P : Type 0} (r : Result A B) → P → OnErr r P
 if_err (Ok a) p = tt
 if_err (Err e) p = p
 
--- Entries beside keys that rise.
+-- Entries beside their keys.
 
 pub keys_zip : (ks : List Key) (es : List Entry) → length ks ≡ length es → keys_of (zip ks es) ≡ ks
 keys_zip ks es len = firsts-zip ks es (sym len)
@@ -94,19 +88,22 @@ keys_zip ks es len = firsts-zip ks es (sym len)
 pub zip_len : (ks : List Key) (es : List Entry) → length ks ≡ length es → length ks ≡ length (zip ks es)
 zip_len ks es len = ap (λ (js : List Key). length js) (sym (keys_zip ks es len)) ∙ length-map (zip ks es) (λ (e : Key × Entry). e.0)
 
-pub later_apart : (x : Key) (ks : List Key) (i : ℕ) (k : Key) → IsBelow x ks → slice_get ks i ≡ Some k → eq k x ≡ false
-later_apart x ks i k h at =
-    let less : rank_cmp x k ≡ Less = subst (λ (j : Key). rank_cmp x j ≡ Less) (get_or_from_slice_get ks i k k at) (below_at x ks i k h (slice_get_within ks i k at)) in
-    rank_ties k x ∙ less_apart x k less
+pub eq_itself : (k : Key) → eq k k ≡ true
+eq_itself k = rank_ties k k ∙ key_itself k
+
+pub later_apart : (x : Key) (ks : List Key) (i : ℕ) (k : Key) → AllByRecursion (λ y. eq x y ≡ false) ks → slice_get ks i ≡ Some k → eq k x ≡ false
+later_apart x [] i k h at = let no : None ≡ Some k = at in cc
+later_apart x (y ∷ ks) zero k h at = eq_turned k x ∙ ap (eq x) (sym (same_Some y k at)) ∙ h.0
+later_apart x (y ∷ ks) (suc i) k h at = later_apart x ks i k h.1 at
 
 -- the entry at the place of a key
-pub found_at : (ks : List Key) (es : List Entry) (i : ℕ) (k : Key) → T (rises ks) → slice_get ks i ≡ Some k → lookup (eq k) (zip ks es) ≡ slice_get es i
+pub found_at : (ks : List Key) (es : List Entry) (i : ℕ) (k : Key) → IsDistinct eq ks → slice_get ks i ≡ Some k → lookup (eq k) (zip ks es) ≡ slice_get es i
 found_at [] es i k h at = let no : None ≡ Some k = at in cc
 found_at (x ∷ ks) [] i k h at = refl
 found_at (x ∷ ks) (e ∷ es) zero k h at =
     let one : eq k x ≡ true = subst (λ (j : Key). eq k j ≡ true) (sym (same_Some x k at)) (eq_itself k) in
     rw one refl
-found_at (x ∷ ks) (e ∷ es) (suc i) k h at = rw (later_apart x ks i k (first_T _ _ h) at) (found_at ks es i k (second_T _ _ h) at)
+found_at (x ∷ ks) (e ∷ es) (suc i) k h at = rw (later_apart x ks i k (IsDistinct-head eq x ks h) at) (found_at ks es i k (IsDistinct-tail eq x ks h) at)
 
 -- a key and its entry stand at one place
 pub zip_at : (ks : List Key) (es : List Entry) (i : ℕ) (k : Key) (e : Entry) → slice_get ks i ≡ Some k → slice_get es i ≡ Some e → slice_get (zip ks es) i ≡ Some (k, e)
@@ -128,14 +125,14 @@ found_nowhere (x ∷ ks) (e ∷ es) k h =
     rw apart (found_nowhere ks es k (neither (is_key k x) (is_in k ks) h).1)
 
 -- another entry at the place of a key
-pub put_at : (ks : List Key) (es : List Entry) (i : ℕ) (k : Key) (e : Entry) → T (rises ks) → length ks ≡ length es → slice_get ks i ≡ Some k → zip ks (set es i e) ≡ insert_entry eq (zip ks es) k e
+pub put_at : (ks : List Key) (es : List Entry) (i : ℕ) (k : Key) (e : Entry) → IsDistinct eq ks → length ks ≡ length es → slice_get ks i ≡ Some k → zip ks (set es i e) ≡ insert_entry eq (zip ks es) k e
 put_at [] es i k e h len at = let no : None ≡ Some k = at in cc
 put_at (x ∷ ks) [] i k e h len at = absurd (omega (arith, len))
 put_at (x ∷ ks) (d ∷ es) zero k e h len at =
     let one : eq k x ≡ true = subst (λ (j : Key). eq k j ≡ true) (sym (same_Some x k at)) (eq_itself k) in
     rw one refl
 put_at (x ∷ ks) (d ∷ es) (suc i) k e h len at =
-    rw (later_apart x ks i k (first_T _ _ h) at) (ap (λ (ps : List (Key × Entry)). (x, d) ∷ ps) (put_at ks es i k e (second_T _ _ h) (omega (arith, len)) at))
+    rw (later_apart x ks i k (IsDistinct-head eq x ks h) at) (ap (λ (ps : List (Key × Entry)). (x, d) ∷ ps) (put_at ks es i k e (IsDistinct-tail eq x ks h) (omega (arith, len)) at))
 
 -- a key that isn't among them, with its entry behind the others
 pub put_last : (ks : List Key) (es : List Entry) (k : Key) (e : Entry) → length ks ≡ length es → is_in k ks ≡ false → zip (ks ++ k ∷ []) (es ++ e ∷ []) ≡ insert_entry eq (zip ks es) k e
@@ -161,21 +158,12 @@ pub last_new : (ks : List Key) (k : Key) → T (rises (ks ++ k ∷ [])) → is_i
 last_new [] k h = refl
 last_new (x ∷ ks) k h = rw (less_apart x k (below_last x k ks (first_T _ _ h))) (last_new ks k (second_T _ _ h))
 
-next_new : (ks : List Key) (i : ℕ) (d : Key) → T (rises ks) → i < length ks → is_in (get_or ks i d) (take i ks) ≡ false
+-- nor is any among those before it
+pub next_new : (ks : List Key) (i : ℕ) (d : Key) → T (rises ks) → i < length ks → is_in (get_or ks i d) (take i ks) ≡ false
 next_new [] i d h l = absurd (omega (arith, l))
 next_new (x ∷ ks) zero d h l = refl
 next_new (x ∷ ks) (suc i) d h l =
     rw (less_apart x (get_or ks i d) (below_at x ks i d (first_T _ _ h) (omega (arith, l)))) (next_new ks i d (second_T _ _ h) (omega (arith, l)))
-
--- one more of them
-pub zip_more : (ks : List Key) (es : List Entry) (i : ℕ) (d : Key) (e : Entry) (old new : List (Key × Entry)) → T (rises ks) → length ks ≡ length es → i < length ks → e ≡ get_or es i e
-    → new ≡ insert_entry eq old (get_or ks i d) e → old ≡ zip (take i ks) (take i es) → new ≡ zip (take (i + 1) ks) (take (i + 1) es)
-zip_more ks es i d e old new h len l entry put was =
-    let long : length (take i ks) ≡ length (take i es) = length-take-le i ks (omega (arith, l)) ∙ sym (length-take-le i es (omega (arith, l, len))) in
-    let more : take (i + 1) ks ≡ take i ks ++ get_or ks i d ∷ [] = take_more ks i d l in
-    let others : take (i + 1) es ≡ take i es ++ e ∷ [] = take_more es i e (omega (arith, l, len)) ∙ ap (λ (f : Entry). take i es ++ f ∷ []) (sym entry) in
-    put ∙ ap (λ (ps : List (Key × Entry)). insert_entry eq ps (get_or ks i d) e) was
-    ∙ sym (put_last (take i ks) (take i es) (get_or ks i d) e long (next_new ks i d h l)) ∙ (λ j. zip (sym more j) (sym others j))
 
 each_apart : (x : Key) (ks : List Key) → IsBelow x ks → AllByRecursion (λ y. eq x y ≡ false) ks
 each_apart x [] h = tt

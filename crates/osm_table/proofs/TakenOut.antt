@@ -1,18 +1,19 @@
--- Entries beside keys that rise, with one taken out.
-use Rattle.std.proofs.Common.{◌≡◌, ℕ, zero, suc, ◌||◌, Bool, true, false, cond, List, [], ◌∷◌, length, Option, Some, None, refl, sym, ◌∙◌, ap, arith, subst}
+-- Entries beside their keys, with one taken out.
+use Rattle.std.proofs.Common.{◌≡◌, ℕ, zero, suc, Bool, true, false, cond, List, [], ◌∷◌, length, Option, Some, None, refl, sym, ◌∙◌, ap, arith}
 use Rattle.std.specs.Prelude.{slice_get, T}
 use Rattle.std.specs.Ordering.{is_lt}
-use Rattle.std.specs.List.{zip, remove}
+use Rattle.std.specs.List.{zip, remove, IsDistinct, AllByRecursion}
 use Rattle.std.specs.Map.{lookup}
+use Rattle.std.proofs.lemmas.Map.Keys.{IsDistinct-head, IsDistinct-tail}
 use Rattle.std.proofs.lemmas.Option.{same_Some}
 use Rattle.osm_base.specs.KeyEq.{eq}
-use Rattle.osm_base.specs.Rank.{rank_cmp, is_key}
-use Rattle.osm_base.specs.RankLaws.{eq_decides}
+use Rattle.osm_base.specs.Rank.{rank_cmp}
+use Rattle.osm_base.specs.RankLaws.{rank_ties, eq_decides}
 use Rattle.osm_base.specs.RisingKeys.{rises, is_in}
 use Rattle.osm_base.specs.declared.key.Key.{Key}
 use Rattle.osm_base.proofs.ByRank.{eq_turned}
 use Rattle.osm_base.proofs.Halving.{IsBelow}
-use Rattle.osm_base.proofs.Tests.{both_T, first_T, second_T, no_tie}
+use Rattle.osm_base.proofs.Tests.{both_T, first_T, second_T}
 use Rattle.osm_table.specs.declared.entry.Entry.{Entry}
 use Rattle.osm_table.proofs.OrderLaws.{found_nowhere, later_apart}
 
@@ -29,14 +30,10 @@ rises_less [] (suc i) h = tt
 rises_less (k ∷ ks) zero h = second_T _ _ h
 rises_less (k ∷ ks) (suc i) h = both_T _ _ (below_less k ks i (first_T _ _ h)) (rises_less ks i (second_T _ _ h))
 
-either_case : (a b : Bool) → a ≡ false → b ≡ false → (a || b) ≡ false
-either_case true b e f = e
-either_case false b e f = f
-
--- a key that comes before others isn't among them
-new_below : (x : Key) (ks : List Key) → IsBelow x ks → is_in x ks ≡ false
-new_below x [] h = refl
-new_below x (k ∷ ks) h = either_case (is_key x k) (is_in x ks) (no_tie (rank_cmp x k) (first_T (is_lt (rank_cmp x k)) _ h)) (new_below x ks (second_T (is_lt (rank_cmp x k)) _ h))
+-- a key isn't among those that it is distinct from
+pub none_among : (x : Key) (ks : List Key) → AllByRecursion (λ y. eq x y ≡ false) ks → is_in x ks ≡ false
+none_among x [] h = refl
+none_among x (k ∷ ks) h = rw (sym (rank_ties x k) ∙ h.0) (none_among x ks h.1)
 
 first_case : (b : Bool) (e : Entry) (o : Option Entry) → (b ≡ true → o ≡ None) → o ≡ cond b None (cond b (Some e) o)
 first_case true e o none = none refl
@@ -48,16 +45,16 @@ later_case true false e o apart = refl
 later_case false c e o apart = refl
 
 -- what is found when the entry at the place of a key is gone
-pub found_less : (ks : List Key) (es : List Entry) (i : ℕ) (k : Key) → T (rises ks) → length ks ≡ length es → slice_get ks i ≡ Some k → (q : Key) → lookup (eq q) (zip (remove ks i) (remove es i)) ≡ cond (eq k q) None (lookup (eq q) (zip ks es))
+pub found_less : (ks : List Key) (es : List Entry) (i : ℕ) (k : Key) → IsDistinct eq ks → length ks ≡ length es → slice_get ks i ≡ Some k → (q : Key) → lookup (eq q) (zip (remove ks i) (remove es i)) ≡ cond (eq k q) None (lookup (eq q) (zip ks es))
 found_less [] es i k h len at q = let no : None ≡ Some k = at in cc
 found_less (x ∷ ks) [] i k h len at q = absurd (omega (arith, len))
 found_less (x ∷ ks) (e ∷ es) zero k h len at q =
     let one : x ≡ k = same_Some x k at in
-    first_case (eq q x) e (lookup (eq q) (zip ks es)) (λ t. found_nowhere ks es q (ap (λ (j : Key). is_in j ks) ((eq_decides q x).0 t) ∙ new_below x ks (first_T _ _ h)))
+    first_case (eq q x) e (lookup (eq q) (zip ks es)) (λ t. found_nowhere ks es q (ap (λ (j : Key). is_in j ks) ((eq_decides q x).0 t) ∙ none_among x ks (IsDistinct-head eq x ks h)))
     ∙ ap (λ b. cond b None (cond (eq q x) (Some e) (lookup (eq q) (zip ks es)))) (eq_turned q x ∙ ap (λ (j : Key). eq j q) one)
 found_less (x ∷ ks) (e ∷ es) (suc i) k h len at q =
-    ap (cond (eq q x) (Some e)) (found_less ks es i k (second_T _ _ h) (omega (arith, len)) at q)
-    ∙ later_case (eq q x) (eq k q) e (lookup (eq q) (zip ks es)) (λ t. ap (eq k) ((eq_decides q x).0 t) ∙ later_apart x ks i k (first_T _ _ h) at)
+    ap (cond (eq q x) (Some e)) (found_less ks es i k (IsDistinct-tail eq x ks h) (omega (arith, len)) at q)
+    ∙ later_case (eq q x) (eq k q) e (lookup (eq q) (zip ks es)) (λ t. ap (eq k) ((eq_decides q x).0 t) ∙ later_apart x ks i k (IsDistinct-head eq x ks h) at)
 
 none_case : (b : Bool) (o : Option Entry) → (b ≡ true → o ≡ None) → o ≡ cond b None o
 none_case true o none = none refl

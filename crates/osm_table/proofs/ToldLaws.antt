@@ -6,7 +6,7 @@ use Rattle.std.specs.List.{list_any, IsDistinct}
 use Rattle.std.specs.Map.{keys_of, lookup}
 use Rattle.std.specs.Option.{option_map}
 use Rattle.std.proofs.lemmas.List.{length-map}
-use Rattle.indexmap.specs.IndexMap.{insert_entry}
+use Rattle.osm_table.specs.InOrder.{insert_entry}
 use Rattle.osm_base.specs.KeyEq.{eq}
 use Rattle.osm_base.specs.Rank.{rank_cmp, is_key}
 use Rattle.osm_base.specs.RankLaws.{rank_total, rank_exact, rank_ties}

@@ -98,7 +98,7 @@ impl OwnTable {
         self.entries.reserve(keys)
     }
 
-    /// Hashes the keys where they aren't yet, so that each goes by one look-up. Who takes keys out does it first.
+    /// Hashes the keys where they aren't yet, so that each goes by two look-ups. Who takes keys out does it first.
     ///
     /// # Errors
     /// Answers want of memory.
@@ -122,7 +122,7 @@ impl OwnTable {
         Ok(())
     }
 
-    /// Takes out the entry of a key: one look-up where the keys are hashed, and else a search and one move of the keys behind it.
+    /// Takes out the entry of a key: two look-ups where the keys are hashed, and else a search and one move of the keys behind it.
     pub fn remove(&mut self, key: Key) -> Option<SharedEntry>
         ensures value { result ≡ entry_of self.old key }
         ensures removed { self.new ≡ without_entry self.old key }

@@ -3,8 +3,9 @@
 //! Beside a long list of keys stand posts: every 32nd of them once more, so near to each other that most steps of a search
 //! among them meet the processor's cache. What they tell is tried on the keys themselves, so a search is right whatever
 //! they are, and one that they lead astray costs a halving of all keys.
-ghost use Rattle.std.specs.Prelude.{◌≡◌, ◌<◌, ◌≤◌, ◌++◌, ◌∷◌, ◌&&◌, [], T, true, false, Some, IfSome, IfNone, length, slice_get};
-ghost use Rattle.osm_base.specs.RisingKeys.{rises, is_in, place_in};
+ghost use Rattle.std.specs.Prelude.{◌≡◌, ◌≤◌, ◌++◌, ◌∷◌, [], T, true, length};
+ghost use Rattle.osm_base.specs.RisingKeys.{rises, place_in};
+ghost use Rattle.osm_table.specs.InOrder.{IsPlace};
 
 use osm_base::{Key, is_before, place_within, stands_at};
 use std::alloc::{AllocError, Global};
@@ -35,17 +36,12 @@ pub fn put_post(posts: &mut Vec<Key>, place: usize, key: Key) -> Result<(), Allo
     Ok(())
 }
 
-/// The place of a key among keys that rise. The place `near` is looked at first, then those around it
-/// where the key can only be there, and else it is found by the posts.
-pub fn place_near(keys: &[Key], posts: &[Key], near: usize, key: Key) -> Option<usize>
+/// The place of a key among keys that rise. The places around `near` are searched first, where the key
+/// can only be there, and else it is found by the posts.
+pub fn place_around(keys: &[Key], posts: &[Key], near: usize, key: Key) -> Option<usize>
     requires { T (rises keys.now) }
-    ensures some { IfSome result (λ place. slice_get keys.now place ≡ Some key) }
-    ensures within { IfSome result (λ place. place < length keys.now) }
-    ensures none { IfNone result (is_in key keys.now ≡ false) }
+    ensures { IsPlace keys.now key result }
 {
-    if stands_at(keys, near, key) {
-        return Some(near);
-    }
     let start = near.saturating_sub(AROUND);
     let end = near.saturating_add(AROUND);
     if is_between(keys, start, end, key) {
@@ -73,9 +69,7 @@ fn is_between(keys: &[Key], start: usize, end: usize, key: Key) -> bool
 /// of them.
 pub fn place_of(keys: &[Key], posts: &[Key], key: Key) -> Option<usize>
     requires { T (rises keys.now) }
-    ensures some { IfSome result (λ place. slice_get keys.now place ≡ Some key) }
-    ensures within { IfSome result (λ place. place < length keys.now) }
-    ensures none { IfNone result (is_in key keys.now ≡ false) }
+    ensures { IsPlace keys.now key result }
 {
     let (start, end) = places_by(posts, key);
     if is_between(keys, start, end, key) {
@@ -108,9 +102,7 @@ fn place_between(keys: &[Key], start: usize, end: usize, key: Key) -> Option<usi
     requires start { start ≤ place_in key keys.now }
     requires end { place_in key keys.now ≤ end }
     requires within { end ≤ length keys.now }
-    ensures some { IfSome result (λ place. slice_get keys.now place ≡ Some key) }
-    ensures within { IfSome result (λ place. place < length keys.now) }
-    ensures none { IfNone result (is_in key keys.now ≡ false) }
+    ensures { IsPlace keys.now key result }
 {
     let place = place_within(keys, start, end, key);
     if stands_at(keys, place, key) {

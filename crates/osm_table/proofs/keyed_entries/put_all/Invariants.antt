@@ -1,5 +1,5 @@
 use Rattle.std.proofs.Common.{◌≡◌, drop, length}
-use Rattle.indexmap.specs.IndexMap.{insert_all}
+use Rattle.osm_table.specs.InOrder.{insert_all}
 use Rattle.osm_base.specs.KeyEq.{eq}
 use Rattle.osm_table.proofs.keyed_entries.put_all.Given as goal
 

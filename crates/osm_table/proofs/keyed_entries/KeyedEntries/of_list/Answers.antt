@@ -1,5 +1,5 @@
 use Rattle.std.proofs.Common.{◌∙◌, List, [], ap}
-use Rattle.indexmap.specs.IndexMap.{insert_all}
+use Rattle.osm_table.specs.InOrder.{insert_all}
 use Rattle.osm_base.specs.KeyEq.{eq}
 use Rattle.osm_base.specs.declared.key.Key.{Key}
 use Rattle.osm_table.specs.declared.entry.Entry.{Entry}

@@ -1,14 +1,28 @@
 use Rattle.std.proofs.Common.{◌∙◌, List, sym, subst}
+use Rattle.std.specs.List.{IsDistinct}
+use Rattle.std.specs.List.Sorted.{IsPermutation}
 use Rattle.std.specs.Prelude.{T}
+use Rattle.osm_base.specs.KeyEq.{eq}
 use Rattle.osm_base.specs.RisingKeys.{rises}
 use Rattle.osm_base.specs.declared.key.Key.{Key}
-use Rattle.osm_table.specs.InOrder.{IsInPlace}
-use Rattle.osm_table.proofs.InPlace.{kept_keys}
+use Rattle.osm_base.proofs.ByRank.{by_rank}
+use Rattle.osm_table.proofs.InPlace.{in_place_distinct, kept_keys}
 use Rattle.osm_table.proofs.Standing.{standing_keys}
 use Rattle.osm_table.proofs.keyed_entries.KeyedEntries.ordered.Goals as goal
 
-pub returns-in-Rising : goal.returns-in-Rising
-returns-in-Rising c =
+pub returns-then-rise : goal.returns-then-rise
+returns-then-rise c =
+    let keys = kept_keys c.self.inside.keys c.self.inside.entries c.self.invariant.1 c.self.view_is in
+    let standing = c.deref-then-rise.ensures.value in
     c.standing.ensures
-    ∙ standing_keys c.args.self.now c.deref.result.now (c.deref.ensures.value ∙ kept_keys c.in-Rising.is c.self.invariant c.self.view_is)
-    (subst (λ (ks : List Key). T (rises ks)) (sym c.deref.ensures.value) (subst IsInPlace c.in-Rising.is c.self.invariant).0)
+    ∙ standing_keys c.args.self.now c.deref-then-rise.result.now (standing ∙ keys)
+    (subst (λ (ks : List Key). T (rises ks)) (c.deref.ensures.value ∙ sym standing) (c.rise.ensures c.if-rise.true))
+
+pub returns : goal.returns
+returns c =
+    let keys = kept_keys c.self.inside.keys c.self.inside.entries c.self.invariant.1 c.self.view_is in
+    let listed = c.in_ok-keys.ensures.items ∙ c.deref-2.ensures.value ∙ keys in
+    c.sorted.ensures ∙ c.from_vec.ensures
+    ∙ by_rank c.args.self.now c.sort.new.self.items c.in_ok-sort.ensures.sorted
+    (subst (λ (ks : List Key). IsPermutation ks c.sort.new.self.items) listed c.in_ok-sort.ensures.permutation)
+    (subst (λ (ks : List Key). IsDistinct eq ks) keys (in_place_distinct c.self.inside.keys.items c.self.inside.places c.self.invariant.0))

@@ -1,7 +1,7 @@
 use Rattle.std.proofs.Common.{◌∙◌, ◌<◌, ◌≤◌, ◌+◌, length, sym, ap, arith}
 use Rattle.std.specs.Ordering.{is_lt}
 use Rattle.osm_table.proofs.Standing.{more_rise}
-use Rattle.osm_table.proofs.key_map.rise.Goals as goal
+use Rattle.osm_table.proofs.places.rise.Goals as goal
 
 pub loop-i-preserved : goal.loop-i-preserved
 loop-i-preserved c =
