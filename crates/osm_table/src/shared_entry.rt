@@ -180,16 +180,11 @@ impl SharedEntry {
     {
         match self.shared.as_ref() {
             Kept::Incomplete => Ok(Entry::Incomplete),
-            Kept::Unchanged { base } => Ok(Entry::Known {
-                base: base.copy()?,
-                mine: copy_mine(base.content())?,
-                conflict: None,
-            }),
-            Kept::Other { parts } => Ok(Entry::Known {
-                base: parts.base.copy()?,
-                mine: copy_mine(parts.mine.as_ref())?,
-                conflict: copy_conflict(&parts.conflict)?,
-            }),
+            Kept::Unchanged { base } => known_of(base, base.content(), None),
+            Kept::Other { parts } => {
+                let conflict = copy_conflict(&parts.conflict)?;
+                known_of(&parts.base, parts.mine.as_ref(), conflict)
+            }
         }
     }
 
@@ -324,6 +319,23 @@ fn lent(conflict: &Option<Shared<Conflict>>) -> Option<&Conflict>
         None => None,
         Some(conflict) => Some(conflict.value()),
     }
+}
+
+/// An entry in this conflict, with copies of a base and a mine.
+fn known_of(
+    base: &Base,
+    mine: Option<&Content>,
+    conflict: Option<Shared<Conflict>>,
+) -> Result<Entry, AllocError>
+    ensures { IfOk result (λ entry. entry ≡ Known base.now (option_copied mine.entry) conflict) }
+{
+    let base = base.copy()?;
+    let mine = copy_mine(mine)?;
+    Ok(Entry::Known {
+        base,
+        mine,
+        conflict,
+    })
 }
 
 fn copy_mine(mine: Option<&Content>) -> Result<Option<Content>, AllocError>

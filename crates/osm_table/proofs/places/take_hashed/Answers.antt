@@ -13,7 +13,7 @@ use Rattle.osm_table.proofs.places.take_hashed.Goals as goal
 pub returns-in_err-place-clause-none : goal.returns-in_err-place-clause-none
 returns-in_err-place-clause-none c =
     let place = get eq c.args.places.now c.args.key in
-    when_none c.from_residual.result (place_none c.args.keys.now.items c.args.key place (sym c.in_err-place.ensures.value) (c.requires.1 c.args.key), refl)
+    when_none c.from_residual.result (place_none c.args.keys.now.items c.args.key place (sym c.in_err-place.ensures.value) (c.requires.1 c.args.key), refl {A = List Key})
 
 pub swap_remove-requires : goal.swap_remove-requires
 swap_remove-requires c =
