@@ -11,6 +11,7 @@ pub mod Again
 pub mod Readable
 pub mod Forward
 pub mod Back
+mod TagSteps
 mod ManyTags
 mod Told
 mod Examples

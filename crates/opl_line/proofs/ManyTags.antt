@@ -1,5 +1,5 @@
 -- Tags that are listed, and then added in any order.
-use Rattle.std.proofs.Common.{◌≡◌, ℕ, zero, suc, ◌<◌, Bool, true, false, T, cond, is_some, List, [], ◌∷◌, ◌++◌, length, get_or, set, swap, Option, Some, Result, Ok, Err, refl, sym, ap, subst, ◌∙◌, arith, ◌||◌, IsPermutation}
+use Rattle.std.proofs.Common.{◌≡◌, ℕ, zero, suc, ◌<◌, Bool, true, false, T, cond, is_some, List, [], ◌∷◌, ◌++◌, length, get_or, set, swap, Option, Some, None, Result, Ok, Err, refl, sym, ap, subst, ◌∙◌, arith, ◌||◌, IsPermutation}
 use Rattle.std.specs.Prelude.{◌==◌}
 use Rattle.std.specs.Ordering.{eq_by_cmp}
 use Rattle.std.specs.FinMap.{is_sorted}
@@ -16,7 +16,9 @@ use Rattle.opl_line.specs.Reads.{◌>>=◌, Fails, Gives, folded, or_fault}
 use Rattle.opl_line.specs.Cut.{before, after}
 use Rattle.opl_line.specs.Field.{is, tag_into}
 use Rattle.opl_text.specs.Text.{unescaped}
+use Rattle.opl_line.specs.TagText.{behind_new, tag_value}
 use Rattle.opl_line.specs.ManyTags.{tag_added, tags_added, item_after, Listed}
+use Rattle.opl_line.proofs.TagSteps.{tag_steps}
 
 -- Steps one after the other.
 
@@ -59,34 +61,42 @@ added_last : (tags ts : List Pair) (t : Pair) → tags_added tags (ts ++ t ∷ [
 added_last tags [] t = unchanged (tag_added tags t)
 added_last tags (u ∷ ts) t = (λ i. tag_added tags u >>= λ next. added_last next ts t i) ∙ sym (regrouped (tag_added tags u) (λ next. tags_added next ts) (λ next. tag_added next t))
 
-two_tests : {A : Type 0} (a b : Bool) (x y : A) → cond a x (cond b x y) ≡ cond (a || b) x y
-two_tests true b x y = refl
-two_tests false b x y = refl
-
 bound : {A B : Type 0} (b : Bool) (e : LineFault) (x : A) (f : A → Result B LineFault) → (cond b (Err e) (Ok x) >>= f) ≡ cond b (Err e) (f x)
 bound true e x f = refl
 bound false e x f = refl
 
--- an item with a key and a value
-tag_whole : (tags : List Pair) (item key rest value : List ℕ) → or_fault faults.BadText (unescaped (before (is 61) item)) ≡ Ok key → after (is 61) item ≡ Some rest
-    → or_fault faults.BadText (unescaped (before (is 61) rest)) ≡ Ok value → is_some (after (is 61) rest) ≡ false → tag_into tags item ≡ tag_added tags (key, value)
-unfolding tag_into
-tag_whole tags item key rest value k r v last = rw (k, r, v, last) (two_tests (length key == 0) (has_tag tags key) (Err faults.BadTags) (Ok (with_tag tags key value)))
+step_refused : {A : Type 0} (b : Bool) (rest : List ℕ) (f : List ℕ → Result A LineFault) → (or_fault faults.BadTags (cond b None (Some rest)) >>= f) ≡ cond b (Err faults.BadTags) (f rest)
+step_refused true rest f = refl
+step_refused false rest f = refl
 
--- one with a key alone
+-- an item with a key
+tag_keyed : (tags : List Pair) (item key rest : List ℕ) → or_fault faults.BadText (unescaped (before (is 61) item)) ≡ Ok key → after (is 61) item ≡ Some rest
+    → tag_into tags item ≡ cond (length key == 0 || has_tag tags key) (Err faults.BadTags) (tag_value rest >>= λ value. Ok (with_tag tags key value))
+unfolding behind_new
+tag_keyed tags item key rest k r =
+    let ending : Result (List ℕ) LineFault → Option (List ℕ) → Result (List Pair) LineFault = λ read behind. read >>= λ name. or_fault faults.BadTags (behind_new tags name behind) >>= λ text. tag_value text >>= λ value. Ok (with_tag tags name value) in
+    tag_steps tags item ∙ (λ i. ending (k i) (r i)) ∙ step_refused (length key == 0 || has_tag tags key) rest (λ text. tag_value text >>= λ value. Ok (with_tag tags key value))
+
+-- and a value,
+tag_whole : (tags : List Pair) (item key rest value : List ℕ) → or_fault faults.BadText (unescaped (before (is 61) item)) ≡ Ok key → after (is 61) item ≡ Some rest
+    → tag_value rest ≡ Ok value → tag_into tags item ≡ tag_added tags (key, value)
+tag_whole tags item key rest value k r v =
+    tag_keyed tags item key rest k r ∙ (λ i. cond (length key == 0 || has_tag tags key) (Err faults.BadTags) (v i >>= λ text. Ok (with_tag tags key text)))
+
+-- and one with a key alone
 tag_broken : (tags : List Pair) (item key rest : List ℕ) (fault : LineFault) → or_fault faults.BadText (unescaped (before (is 61) item)) ≡ Ok key → after (is 61) item ≡ Some rest
-    → or_fault faults.BadText (unescaped (before (is 61) rest)) ≡ Err fault → tag_into tags item ≡ (tag_added tags (key, key) >>= λ _. Err fault)
-unfolding tag_into
+    → tag_value rest ≡ Err fault → tag_into tags item ≡ (tag_added tags (key, key) >>= λ _. Err fault)
 tag_broken tags item key rest fault k r v =
-    rw (k, r, v) (two_tests (length key == 0) (has_tag tags key) (Err faults.BadTags) (Err fault) ∙ sym (bound (length key == 0 || has_tag tags key) faults.BadTags (with_tag tags key key) (λ _. Err fault)))
+    tag_keyed tags item key rest k r ∙ (λ i. cond (length key == 0 || has_tag tags key) (Err faults.BadTags) (v i >>= λ text. Ok (with_tag tags key text)))
+    ∙ sym (bound (length key == 0 || has_tag tags key) faults.BadTags (with_tag tags key key) (λ _. Err fault))
 
 pub listed_tag : (old new : List Pair) (item key rest value : List ℕ) → or_fault faults.BadText (unescaped (before (is 61) item)) ≡ Ok key → after (is 61) item ≡ Some rest
-    → or_fault faults.BadText (unescaped (before (is 61) rest)) ≡ Ok value → is_some (after (is 61) rest) ≡ false → new ≡ old ++ (key, value) ∷ [] → item_after old item ≡ tags_added [] new
-listed_tag old new item key rest value k r v last put =
-    (λ i. tags_added [] old >>= λ tags. tag_whole tags item key rest value k r v last i) ∙ sym (added_last [] old (key, value)) ∙ ap (tags_added []) (sym put)
+    → tag_value rest ≡ Ok value → new ≡ old ++ (key, value) ∷ [] → item_after old item ≡ tags_added [] new
+listed_tag old new item key rest value k r v put =
+    (λ i. tags_added [] old >>= λ tags. tag_whole tags item key rest value k r v i) ∙ sym (added_last [] old (key, value)) ∙ ap (tags_added []) (sym put)
 
 pub listed_key : (e : LineAnswer) (old new : List Pair) (item key rest : List ℕ) → or_fault faults.BadText (unescaped (before (is 61) item)) ≡ Ok key → after (is 61) item ≡ Some rest
-    → Fails e (or_fault faults.BadText (unescaped (before (is 61) rest))) → new ≡ old ++ (key, key) ∷ [] → Listed {X = Unit {0}} (Err e) new (item_after old item)
+    → Fails e (tag_value rest) → new ≡ old ++ (key, key) ∷ [] → Listed {X = Unit {0}} (Err e) new (item_after old item)
 listed_key answers.Memory old new item key rest k r v put = tt
 listed_key (answers.Bad fault) old new item key rest k r v put =
     (λ i. tags_added [] old >>= λ tags. tag_broken tags item key rest fault k r v i)

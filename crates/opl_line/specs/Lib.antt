@@ -6,6 +6,7 @@ pub mod Line
 pub mod ManyTags
 pub mod Reads
 pub mod Spelling
+pub mod TagText
 pub mod Told
 pub mod Writable
 pub mod Written

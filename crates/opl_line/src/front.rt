@@ -98,6 +98,7 @@ fn size_front(bytes: &[u8], a: u8, b: u8) -> Option<(u64, Option<&[u8]>)>
     requires second { is_apart b ≡ true }
     ensures value { option_map (λ r. r.0) result ≡ id_size (before (is_one_of a b) bytes.now) }
     ensures rest { IfSome result (λ r. option_map (λ rest. rest.now) r.1 ≡ after (is_one_of a b) bytes.now) }
+    ensures high { IfSome result (λ r. r.0 ≤ 10 ^ 18) }
 {
     let (size, rest) = digits_until(bytes, 19, a, b)?;
     if 1 <= size && size <= MOST_ID {

@@ -154,39 +154,40 @@ fn text_or_none(pool: &mut Pool, text: Option<Text>) -> Result<Text, LineAnswer>
     }
 }
 
+/// Takes the content.
 #[tactic(auto, unfolding(crate::specs::Line::content_of))]
-fn content_of(pool: &Pool, kind: Kind, fields: Fields) -> Result<Content, LineAnswer>
-    ensures { Gives (λ content. content) result (content_of kind fields) }
+fn content_of(pool: &Pool, kind: Kind, fields: &mut Fields) -> Result<Content, LineAnswer>
+    ensures { Gives (λ content. content) result (content_of kind fields.old) }
 {
-    let Fields {
-        tags,
-        x,
-        y,
-        refs,
-        members,
-        ..
-    } = fields;
-    let tags = tags_or_none(pool, tags);
     match kind {
         Kind::Node => {
-            let at = location_of(x, y)?;
-            Ok(Content::Node { tags, at })
+            let at = location_of(fields.x, fields.y)?;
+            Ok(Content::Node {
+                tags: tags_or_none(pool, fields.tags.take()),
+                at,
+            })
         }
-        Kind::Way => Ok(Content::Way {
-            tags,
-            refs: refs_or_none(pool, refs)?,
-        }),
-        Kind::Relation => Ok(Content::Relation {
-            tags,
-            members: members_or_none(pool, members)?,
-        }),
+        Kind::Way => {
+            let refs = refs_or_none(pool, fields.refs.take())?;
+            Ok(Content::Way {
+                tags: tags_or_none(pool, fields.tags.take()),
+                refs,
+            })
+        }
+        Kind::Relation => {
+            let members = members_or_none(pool, fields.members.take())?;
+            Ok(Content::Relation {
+                tags: tags_or_none(pool, fields.tags.take()),
+                members,
+            })
+        }
     }
 }
 
-/// What a visible object has.
+/// Takes what a visible object has.
 #[tactic(auto, unfolding(crate::specs::Line::side_of))]
-fn side_of(pool: &Pool, kind: Kind, fields: Fields) -> Result<Option<Content>, LineAnswer>
-    ensures { Gives (λ side. side) result (side_of kind fields) }
+fn side_of(pool: &Pool, kind: Kind, fields: &mut Fields) -> Result<Option<Content>, LineAnswer>
+    ensures { Gives (λ side. side) result (side_of kind fields.old) }
 {
     if fields.visible.unwrap_or(true) {
         let side = content_of(pool, kind, fields)?;
@@ -210,13 +211,13 @@ fn meta_of(pool: &mut Pool, fields: &mut Fields) -> Result<Meta, LineAnswer>
     })
 }
 
-/// The object, once all fields are there.
+/// Takes the object, once all fields are there.
 #[tactic(auto, unfolding(crate::specs::Line::completed, crate::specs::Line::side_of, crate::specs::Line::content_of))]
-fn completed(pool: &mut Pool, key: Key, mut fields: Fields) -> Result<OplObject, LineAnswer>
-    ensures { Gives (λ object. object) result (completed key fields) }
+fn completed(pool: &mut Pool, key: Key, fields: &mut Fields) -> Result<OplObject, LineAnswer>
+    ensures { Gives (λ object. object) result (completed key fields.old) }
 {
     let version = version_of(key.id, fields.version)?;
-    let meta = meta_of(pool, &mut fields)?;
+    let meta = meta_of(pool, fields)?;
     let side = side_of(pool, key.kind, fields)?;
     Ok(OplObject {
         key,
@@ -226,16 +227,29 @@ fn completed(pool: &mut Pool, key: Key, mut fields: Fields) -> Result<OplObject,
     })
 }
 
+/// The object of a line, by way of its fields, of which none is there yet.
 #[tactic(auto, unfolding(crate::specs::Line::object_of), using(crate::proofs::Fronts::split_front))]
-fn object_of(pool: &mut Pool, mode: Mode, line: &[u8]) -> Result<OplObject, LineAnswer>
+fn object_from(
+    pool: &mut Pool,
+    mode: Mode,
+    line: &[u8],
+    fields: &mut Fields,
+) -> Result<OplObject, LineAnswer>
+    requires { fields.old ≡ no_fields }
     ensures { Gives (λ object. object) result (object_of mode (split is_blank line.now)) }
 {
     let (key, after) = key_at(mode, line)?;
-    let mut fields = no_fields();
     if let Some(rest) = after {
-        fields_of(pool, mode, key.kind, &mut fields, rest)?;
+        fields_of(pool, mode, key.kind, fields, rest)?;
     }
     completed(pool, key, fields)
+}
+
+fn object_of(pool: &mut Pool, mode: Mode, line: &[u8]) -> Result<OplObject, LineAnswer>
+    ensures { Gives (λ object. object) result (object_of mode (split is_blank line.now)) }
+{
+    let mut fields = no_fields();
+    object_from(pool, mode, line, &mut fields)
 }
 
 /// The line without one CR at its end.

@@ -11,6 +11,7 @@ ghost use Rattle.opl_text.specs.Text.{unescaped};
 ghost use Rattle.opl_line.specs.declared.fault.LineFault.TheVariants as faults;
 ghost use Rattle.opl_line.specs.Reads.{Gives, or_fault, folded};
 ghost use Rattle.opl_line.specs.Cut.{is_one_of, split, before, after};
+ghost use Rattle.opl_line.specs.TagText.{behind_new, tag_value};
 ghost use Rattle.opl_line.specs.Field.{is_allowed, tag_into, tags_text, is_place, is_place_or_none, ref_text, ref_into, refs_text, member_at, member_into, members_text};
 
 use crate::fault::{LineAnswer, LineFault};
@@ -33,27 +34,45 @@ pub fn text_at(pool: &mut Pool, text: &[u8]) -> Result<Text, LineAnswer>
     }
 }
 
+/// What is behind the `=` of a tag whose key isn't empty and not there yet.
+#[tactic(auto, unfolding(crate::specs::TagText::behind_new))]
+fn behind_new<'t>(tags: &Tags, key: &Text, after: Option<&'t [u8]>) -> Option<&'t [u8]>
+    ensures { option_map (λ r. r.now) result ≡ behind_new tags.now key.now (option_map (λ r. r.now) after.entry) }
+{
+    if key.as_bytes().is_empty() {
+        return None;
+    }
+    if tags.has(key.as_bytes()) {
+        return None;
+    }
+    after
+}
+
+/// A tag's value: what is behind the first `=`, with no other in it.
+#[tactic(auto, unfolding(crate::specs::TagText::tag_value))]
+pub fn tag_value(pool: &mut Pool, text: &[u8]) -> Result<Text, LineAnswer>
+    ensures { Gives (λ value. value) result (tag_value text.now) }
+{
+    let (value, after) = cut(text, b'=', b'=');
+    if after.is_none() {
+        text_at(pool, value)
+    } else {
+        text_at(pool, value)?;
+        Err(LineAnswer::Bad(LineFault::BadTags))
+    }
+}
+
 /// One tag more: a key, `=` and a value.
-#[tactic(auto, unfolding(crate::specs::Field::tag_into))]
+#[tactic(auto, using(crate::proofs::TagSteps::tag_steps))]
 fn tag_into(pool: &mut Pool, tags: &mut Tags, item: &[u8]) -> Result<(), LineAnswer>
     ensures { Gives (λ _. tags.new) result (tag_into tags.old item.now) }
 {
     let (key, after) = cut(item, b'=', b'=');
     let key = text_at(pool, key)?;
-    if key.as_bytes().is_empty() {
-        return Err(LineAnswer::Bad(LineFault::BadTags));
-    }
-    let Some(rest) = after else {
+    let Some(rest) = behind_new(tags, &key, after) else {
         return Err(LineAnswer::Bad(LineFault::BadTags));
     };
-    if tags.has(key.as_bytes()) {
-        return Err(LineAnswer::Bad(LineFault::BadTags));
-    }
-    let (value, after) = cut(rest, b'=', b'=');
-    let value = text_at(pool, value)?;
-    if after.is_some() {
-        return Err(LineAnswer::Bad(LineFault::BadTags));
-    }
+    let value = tag_value(pool, rest)?;
     tags.put(key, value)?;
     Ok(())
 }

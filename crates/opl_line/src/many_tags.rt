@@ -3,24 +3,32 @@
 //! Tags that are put in one by one are moved by each whose key comes before theirs. Many are listed as
 //! they come, and sorted once.
 
-ghost use Rattle.std.specs.Prelude.{◌≡◌, [], OnOk};
+ghost use Rattle.std.specs.Prelude.{◌≡◌, ◌<◌, [], ◌∷◌, ◌++◌, length, OnOk};
 ghost use Rattle.std.specs.List.Sorted.{IsPermutation};
-ghost use Rattle.osm_base.specs.Tags.{bytes_cmp};
+ghost use Rattle.osm_base.specs.Tags.{bytes_cmp, with_tag};
 ghost use Rattle.opl_line.specs.Reads.{Gives, folded};
 ghost use Rattle.opl_line.specs.Cut.{is_one_of, split};
 ghost use Rattle.opl_line.specs.Field.{tag_into};
 ghost use Rattle.opl_line.specs.ManyTags.{tags_added, item_after, Listed};
 
 use crate::fault::{LineAnswer, LineFault};
-use crate::lists::text_at;
+use crate::lists::{tag_value, text_at};
 use crate::pieces::cut;
 use opl_text::Pool;
 use osm_base::{Tags, Text};
 use std::alloc::{AllocError, Global};
 use std::cmp::Ordering;
 
+/// Lists a key as its own value.
+fn list_key(list: &mut Vec<(Text, Text)>, key: Text) -> Result<(), AllocError>
+    ensures { OnOk result (list.new.items ≡ list.old.items ++ (key, key) ∷ []) }
+{
+    list.push((key.copy()?, key))?;
+    Ok(())
+}
+
 /// Lists the tag that an item spells: a key, `=` and a value. Its key isn't compared with those of the list. Where the value
-/// is no text, the key stands in its place, since a key that is there already is the earlier fault.
+/// is none, the key stands in its place, since a key that is there already is the earlier fault.
 #[tactic(auto, unfolding(crate::specs::Field::tag_into))]
 fn list_tag(pool: &mut Pool, list: &mut Vec<(Text, Text)>, item: &[u8]) -> Result<(), LineAnswer>
     ensures { Listed result list.new.items (item_after list.old.items item.now) }
@@ -30,17 +38,13 @@ fn list_tag(pool: &mut Pool, list: &mut Vec<(Text, Text)>, item: &[u8]) -> Resul
     let Some(rest) = after else {
         return Err(LineAnswer::Bad(LineFault::BadTags));
     };
-    let (value, after) = cut(rest, b'=', b'=');
-    match text_at(pool, value) {
+    match tag_value(pool, rest) {
         Ok(value) => {
-            if after.is_some() {
-                return Err(LineAnswer::Bad(LineFault::BadTags));
-            }
             list.push((key, value))?;
             Ok(())
         }
         Err(answer) => {
-            list.push((key.copy()?, key))?;
+            list_key(list, key)?;
             Err(answer)
         }
     }
@@ -75,28 +79,44 @@ fn sort_by_key(tags: &mut Vec<(Text, Text)>) -> Result<(), AllocError>
     Ok(())
 }
 
-/// The tags with those of a list, or that a key of these is empty or stands twice.
-fn put_all(tags: Tags, list: &[(Text, Text)]) -> Result<Tags, LineAnswer>
-    ensures { Gives (λ tags. tags) result (tags_added tags list.now) }
+/// Puts a copy of a tag in.
+fn put_copy(tags: &mut Tags, tag: &(Text, Text)) -> Result<(), AllocError>
+    requires { 0 < length tag.now.0 }
+    ensures { OnOk result (tags.new ≡ with_tag tags.old tag.now.0 tag.now.1) }
 {
-    let mut tags = tags;
+    let key = tag.0.copy()?;
+    tags.put(key, tag.1.copy()?)
+}
+
+/// Puts those of a list in, or tells that a key of these is empty or stands twice.
+fn put_all(tags: &mut Tags, list: &[(Text, Text)]) -> Result<(), LineAnswer>
+    ensures { Gives (λ _. tags.new) result (tags_added tags.old list.now) }
+{
     for tag in list {
         if tag.0.as_bytes().is_empty() || tags.has(tag.0.as_bytes()) {
             return Err(LineAnswer::Bad(LineFault::BadTags));
         }
-        tags.put(tag.0.copy()?, tag.1.copy()?)?;
+        put_copy(tags, tag)?;
     }
-    Ok(tags)
+    Ok(())
 }
 
-/// As `put_all`, from none and in any order. The list is sorted, so that each tag goes to the end.
+/// As `put_all`, into none and in any order. The list is sorted, so that each tag goes to the end.
+fn put_sorted(tags: &mut Tags, list: &mut Vec<(Text, Text)>) -> Result<(), LineAnswer>
+    requires { tags.old ≡ [] }
+    ensures { Gives (λ _. tags.new) result (tags_added [] list.old.items) }
+{
+    sort_by_key(list)?;
+    put_all(tags, list.as_slice())
+}
+
 fn sorted_tags(alloc: Global, list: Vec<(Text, Text)>) -> Result<Tags, LineAnswer>
     ensures { Gives (λ tags. tags) result (tags_added [] list.items) }
 {
     let mut list = list;
-    sort_by_key(&mut list)?;
-    let tags = Tags::with_capacity(alloc, list.len())?;
-    put_all(tags, &list)
+    let mut tags = Tags::with_capacity(alloc, list.len())?;
+    put_sorted(&mut tags, &mut list)?;
+    Ok(tags)
 }
 
 /// The tags between commas. They are listed, and sorted once.
