@@ -5,14 +5,13 @@ ghost use Rattle.osm_table.specs.Table.{keys_by_rank};
 ghost use Rattle.map_search.specs.Meets.{meets, found};
 ghost use Rattle.map_search.specs.Query.{depth};
 
+use crate::passes::{changed, deleted, in_conflict, incomplete, new_ones, of_kind, tagged};
 use crate::query::{Form, Query};
 use crate::relatives::{children, parents};
 use crate::sets::{others, those_of};
-use crate::states::{begins_new, has_conflict, is_changed, is_deleted, is_incomplete, is_tagged};
 use dataset::DataSet;
 use osm_base::{Key, Keys};
 use std::alloc::AllocError;
-use std::cell::Cell;
 
 /// The keys of the table that meet the query, by rank, each once.
 ///
@@ -39,37 +38,22 @@ fn meeting(ds: &DataSet, all: &[Key], keys: &[Key], query: &Query) -> Result<Vec
     requires all { all.now ≡ keys_by_rank ds.now }
     ensures { IfOk result (λ met. met.items ≡ filter (λ k. meets ds.now k query.now) keys.now) }
 {
-    let alloc = ds.alloc();
-    let keys_of = keys.iter().copied();
-    let near = Cell::new(0);
     match &query.form {
-        Form::OfKind(kind) => keys_of.filter(|key| key.kind == *kind).collect(alloc),
-        Form::Tag { key: tag, value } => keys_of
-            .filter(|key| is_tagged(ds.entry_along(&near, *key), tag, value))
-            .collect(alloc),
-        Form::IsNew => keys_of
-            .filter(|key| begins_new(ds.entry_along(&near, *key)))
-            .collect(alloc),
-        Form::IsChanged => keys_of
-            .filter(|key| is_changed(ds.entry_along(&near, *key)))
-            .collect(alloc),
-        Form::IsDeleted => keys_of
-            .filter(|key| is_deleted(ds.entry_along(&near, *key)))
-            .collect(alloc),
-        Form::IsIncomplete => keys_of
-            .filter(|key| is_incomplete(ds.entry_along(&near, *key)))
-            .collect(alloc),
-        Form::HasConflict => keys_of
-            .filter(|key| has_conflict(ds.entry_along(&near, *key)))
-            .collect(alloc),
+        Form::OfKind(kind) => of_kind(ds.alloc(), keys, *kind),
+        Form::Tag { key: tag, value } => tagged(ds, keys, tag, value),
+        Form::IsNew => new_ones(ds, keys),
+        Form::IsChanged => changed(ds, keys),
+        Form::IsDeleted => deleted(ds, keys),
+        Form::IsIncomplete => incomplete(ds, keys),
+        Form::HasConflict => in_conflict(ds, keys),
         Form::Child(of) => children(ds, keys, &meeting(ds, all, all, of)?),
         Form::Parent(of) => parents(ds, keys, &meeting(ds, all, all, of)?),
-        Form::Not(of) => others(alloc, keys, &meeting(ds, all, keys, of)?),
+        Form::Not(of) => others(ds.alloc(), keys, &meeting(ds, all, keys, of)?),
         Form::And(left, right) => meeting(ds, all, &meeting(ds, all, keys, left)?, right),
         Form::Or(left, right) => {
             let left = meeting(ds, all, keys, left)?;
             let right = meeting(ds, all, keys, right)?;
-            those_of(alloc, keys, &left, &right)
+            those_of(ds.alloc(), keys, &left, &right)
         }
     }
 }

@@ -16,6 +16,7 @@
 mod fault;
 mod finding;
 mod law;
+mod passes;
 mod pending;
 mod query;
 mod reading;

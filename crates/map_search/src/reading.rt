@@ -1,5 +1,6 @@
 //! Queries, read from words.
-ghost use Rattle.std.specs.Prelude.{◌≡◌, ◌≤◌, IfOk, reverse};
+ghost use Rattle.std.specs.Prelude.{◌≡◌, ◌≤◌, [], IfOk, reverse};
+ghost use Rattle.map_search.specs.declared.pending.Word.TheVariants as said;
 ghost use Rattle.map_search.specs.Answers.{Gives, Reads};
 ghost use Rattle.map_search.specs.Query.{depth};
 ghost use Rattle.map_search.specs.Reading.{query_of_words, with_word, opened, followed, closed, ended};
@@ -32,6 +33,14 @@ fn read_words(pool: &mut Pool, words: &[u8]) -> Result<Query, QueryFault>
     ensures { Gives result (query_of_words (words_of words.now)) }
 {
     let mut stack = Vec::new(pool.allocator());
+    read_onto(pool, words, &mut stack)
+}
+
+/// The query that the words are, read with a stack on which nothing waits yet.
+fn read_onto(pool: &mut Pool, words: &[u8], stack: &mut Vec<Pending>) -> Result<Query, QueryFault>
+    requires { stack.old.items ≡ [] }
+    ensures { Gives result (query_of_words (words_of words.now)) }
+{
     let mut query = None;
     let mut count = 0u64;
     let mut rest = words;
@@ -41,10 +50,10 @@ fn read_words(pool: &mut Pool, words: &[u8]) -> Result<Query, QueryFault>
         }
         count += 1;
         let word = word_of(pool, word)?;
-        query = with_word(pool.allocator(), query, word, &mut stack)?;
+        query = with_word(pool.allocator(), query, word, stack)?;
         rest = behind;
     }
-    ended(pool.allocator(), query, &mut stack)
+    ended(pool.allocator(), query, stack)
 }
 
 /// One word more.
@@ -89,21 +98,44 @@ fn followed(
     ensures { Reads result (reverse stack.new.items) (followed query word (reverse stack.old.items)) }
 {
     match word {
-        Word::And => {
-            stack.push(Pending::And(query))?;
-            Ok(None)
-        }
-        Word::Or => {
-            let term = joined(alloc, query, stack)?;
-            stack.push(Pending::Or(term))?;
-            Ok(None)
-        }
-        Word::Closes => {
-            let whole = joined(alloc, query, stack)?;
-            closed(alloc, whole, stack)
-        }
+        Word::And => before_and(query, stack),
+        Word::Or => before_or(alloc, query, stack),
+        Word::Closes => before_bracket(alloc, query, stack),
         Word::Opens(_) | Word::Asks(_) => Err(QueryFault::BadQuery),
     }
+}
+
+/// A factor with an `and` behind it.
+fn before_and(query: Query, stack: &mut Vec<Pending>) -> Result<Option<Query>, QueryFault>
+    ensures { Reads result (reverse stack.new.items) (followed query said.And (reverse stack.old.items)) }
+{
+    stack.push(Pending::And(query))?;
+    Ok(None)
+}
+
+/// A factor with an `or` behind it, which ends its term.
+fn before_or(
+    alloc: Global,
+    query: Query,
+    stack: &mut Vec<Pending>,
+) -> Result<Option<Query>, QueryFault>
+    ensures { Reads result (reverse stack.new.items) (followed query said.Or (reverse stack.old.items)) }
+{
+    let term = joined(alloc, query, stack)?;
+    stack.push(Pending::Or(term))?;
+    Ok(None)
+}
+
+/// A factor with a closing bracket behind it, which ends its term and the query in the bracket.
+fn before_bracket(
+    alloc: Global,
+    query: Query,
+    stack: &mut Vec<Pending>,
+) -> Result<Option<Query>, QueryFault>
+    ensures { Reads result (reverse stack.new.items) (followed query said.Closes (reverse stack.old.items)) }
+{
+    let whole = joined(alloc, query, stack)?;
+    closed(alloc, whole, stack)
 }
 
 /// The query, taken by the bracket that waits for it.

@@ -2,7 +2,7 @@ use Rattle.std.proofs.Common.{◌≡◌, ◌≤◌, reverse, length}
 use Rattle.map_search.specs.Reading.{query_of_words}
 use Rattle.map_search.specs.Words.{words_of}
 use Rattle.map_search.proofs.Steps.{Left}
-use Rattle.map_search.proofs.reading.read_words.Given as goal
+use Rattle.map_search.proofs.reading.read_onto.Given as goal
 
 abbrev pub invariant-loop-word : goal.invariant-loop-word
 invariant-loop-word l = record {
