@@ -1,8 +1,8 @@
 -- What a job doesn't list is as it was.
 use Rattle.std.proofs.Common.{◌≡◌, ◌||◌, ◌&&◌, ◌≤◌, ℕ, ℤ, nat_lt, length, reverse, Bool, true, false, cond, not, is_some, List, [], ◌∷◌, map, Option, Some, None, Result, Ok, Err, refl, sym, ap, ◌∙◌, arith}
-use Rattle.std.proofs.lemmas.Bool.{true≢false, or_right}
+use Rattle.std.proofs.lemmas.Bool.{true≢false, and_parts, or_parts, or_right}
 use Rattle.std.specs.Prelude.{if◌then◌else◌}
-use Rattle.std.specs.List.{filter, find, list_any}
+use Rattle.std.specs.List.{filter, list_any}
 use Rattle.std.specs.Option.{option_map, option_map_or, option_or, option_and_then}
 use Rattle.osm_base.specs.Rank.{is_key}
 use Rattle.osm_base.specs.Content.{kind_of_content, refers, refs_of}
@@ -11,7 +11,7 @@ use Rattle.osm_base.specs.declared.key.Kind.{Kind}
 use Rattle.osm_base.specs.declared.members.Member.{Member}
 use Rattle.osm_base.specs.declared.content.Content.{Content}
 use Rattle.osm_base.specs.declared.content.Content.TheVariants as content
-use Rattle.osm_base.proofs.RisingKeys.{one_key, key_turned}
+use Rattle.osm_base.proofs.RisingKeys.{one_key, key_turned, in_filter}
 use Rattle.osm_base.proofs.Tests.{by_either, never}
 use Rattle.osm_table.specs.declared.entry.Base.TheVariants.{New}
 use Rattle.osm_table.specs.declared.entry.Entry.{Entry}
@@ -36,47 +36,27 @@ use Rattle.tool_api.specs.Upkeep.{replaced}
 use Rattle.tool_api.specs.Import.{file_keys, references, file_reference_test, new_keys, new_contents}
 use Rattle.tool_api.specs.Squeeze.{squeezed}
 use Rattle.tool_api.specs.Findings.{is_repeated}
-use Rattle.tool_api.specs.Combine.{way_test, joined, clash_test, member_test, kept_way, fold_runs, combined_table, as_way, united, all_tags, is_positive}
+use Rattle.tool_api.specs.Combine.{way_test, joined, clash_test, member_test, kept_way, fold_runs, combined_table, as_way, united, all_tags}
 use Rattle.tool_api.specs.Fuse.{place_test, kept_node, fused_content, fused_table}
 use Rattle.tool_api.specs.Resolve.{choice_test, unused_test, references_gone_test, settled_fit_test, settled_entry, settled_table}
 use Rattle.tool_api.specs.Staged.{refs_by}
 use Rattle.tool_api.specs.Plain.{answered, outcome, plain}
 use Rattle.tool_api.proofs.Added.{added_at, fresh}
 use Rattle.tool_api.proofs.Looks.{entry_changed, next_changed}
-use Rattle.tool_api.proofs.Named.{find_named, or_case}
+use Rattle.tool_api.proofs.Named.{kept_named}
 use Rattle.editor_laws.specs.Editing.{is_merge}
 use Rattle.editor_laws.proofs.SeenContents.{IfOk}
 use Rattle.editor_laws.specs.Listed.{lists, refers_to}
 
 -- Lists.
 
--- neither of two tests
-pub neither : (a b : Bool) → (a || b) ≡ false → (a ≡ false) × (b ≡ false)
-neither true b e = absurd (true≢false e)
-neither false b e = (refl, e)
-
-second : (a b : Bool) → (a && b) ≡ true → b ≡ true
-second true b e = e
-second false b e = absurd (true≢false (sym e))
-
-first : (a b : Bool) → (a && b) ≡ true → a ≡ true
-first true b e = refl
-first false b e = absurd (true≢false (sym e))
-
-filter_case : (p : Key → Bool) (k j : Key) (rest : List Key) (P : Type 0) (b : Bool) → p j ≡ b → is_named (cond b (j ∷ rest) rest) k ≡ true → (is_key k j ≡ true → p j ≡ true → P) → (is_named rest k ≡ true → P) → P
-filter_case p k j rest P true is h here there = by_either (is_key k j) (is_named rest k) h (λ same. here same is) there
-filter_case p k j rest P false is h here there = there h
-
 -- what is left of keys passes the test,
 pub filter_passes : (p : Key → Bool) (ks : List Key) (k : Key) → is_named (filter p ks) k ≡ true → p k ≡ true
-filter_passes p [] k h = absurd (true≢false (sym h))
-filter_passes p (j ∷ ks) k h = filter_case p k j (filter p ks) (p k ≡ true) (p j) refl h (λ same passes. ap p (one_key k j same) ∙ passes) (filter_passes p ks k)
+filter_passes p ks k h = (and_parts (p k) (is_named ks k) (sym (in_filter p k ks) ∙ h)).0
 
 -- and is one of them
 pub filter_within : (p : Key → Bool) (ks : List Key) (k : Key) → is_named (filter p ks) k ≡ true → is_named ks k ≡ true
-filter_within p [] k h = h
-filter_within p (j ∷ ks) k h = filter_case p k j (filter p ks) (is_named (j ∷ ks) k ≡ true) (p j) refl h
-    (λ same passes. ap (λ b. b || is_named ks k) same) (λ more. or_right (is_key k j) (is_named ks k) (filter_within p ks k more))
+filter_within p ks k h = (and_parts (p k) (is_named ks k) (sym (in_filter p k ks) ∙ h)).1
 
 any_more : (p q : Key → Bool) → ((r : Key) → p r ≡ true → q r ≡ true) → (ks : List Key) → list_any p ks ≡ true → list_any q ks ≡ true
 any_more p q f [] h = h
@@ -89,7 +69,7 @@ one_named k j h = by_either (is_key k j) false h (λ e. e) (λ e. absurd (true�
 all_stay : (gone : Key → Bool) (ms : List Member) → list_any gone (map (λ (m : Member). m.key) ms) ≡ false → members_without gone ms ≡ ms
 all_stay gone [] h = refl
 all_stay gone (m ∷ ms) h =
-    let p = neither (gone m.key) (list_any gone (map (λ (m : Member). m.key) ms)) h in
+    let p = or_parts (gone m.key) (list_any gone (map (λ (m : Member). m.key) ms)) h in
     ap (λ b. cond (not b) (m ∷ members_without gone ms) (members_without gone ms)) p.0 ∙ ap (λ (xs : List Member). m ∷ xs) (all_stay gone ms p.1)
 
 entry_stays : (gone : Key → Bool) (e : Entry) → list_any gone (refs_by (mine_of e)) ≡ false → with_mine (with_members (members_without gone)) e ≡ e
@@ -119,9 +99,6 @@ users_refer t k [] h = absurd (true≢false (sym h))
 users_refer t k (w ∷ ws) h = by_either (is_named (users t w) k) (list_any (λ w. is_named (users t w) k) ws) h
     (λ here. any_more (is_key w) (is_named (w ∷ ws)) (λ r same. ap (λ b. b || is_named ws r) (key_turned r w ∙ same)) (refs_by (content_of t k)) (user_refers t k w here))
     (λ more. any_more (is_named ws) (is_named (w ∷ ws)) (λ r named. or_right (is_key r w) (is_named ws r) named) (refs_by (content_of t k)) (users_refer t k ws more))
-
-pub kept_named : (ks : List Key) (k : Key) → kept_way ks ≡ Some k → is_named ks k ≡ true
-kept_named ks k e = or_case ks k (find (λ (j : Key). is_positive j.id) ks) e (find_named (λ (j : Key). is_positive j.id) ks k)
 
 pub bound : {A : Type 0} (P : Outcome → Type 0) (r : Result A Refusal) (f : A → Result Outcome Refusal) → ((a : A) → IfOk P (f a)) → IfOk P (r >>= f)
 bound P (Ok a) f h = h a
@@ -182,8 +159,8 @@ module _ (t : TableValue) (k : Key) (e : Entry) (is : entry_of t k ≡ Some e) (
 
   erased_has : (named : List Key) → lists (job.Erase named) t k ≡ false → Has (erased t named)
   erased_has named free =
-      let a = neither (goes t named k) (is_mended t named k || refers_to t (goes t named) k) free in
-      let b = neither (is_mended t named k) (refers_to t (goes t named) k) a.1 in
+      let a = or_parts (goes t named k) (is_mended t named k || refers_to t (goes t named) k) free in
+      let b = or_parts (is_mended t named k) (refers_to t (goes t named) k) a.1 in
       let calm : list_any (goes t named) (refs_by (mine_of e)) ≡ false = sym (ap (λ (o : Option Entry). list_any (goes t named) (refs_by (option_and_then mine_of o))) is) ∙ b.1 in
       let f = delete t in
       let u = changed t f (gone_keys t named) in
@@ -192,7 +169,7 @@ module _ (t : TableValue) (k : Key) (e : Entry) (is : entry_of t k ≡ Some e) (
       let h = edit t (with_members (members_without (goes t named))) in
       changed_has v h (relations_left t named)
       (apart u g (mended_ways t named) (is_mended t named k) (unlisted t f (goes t named) (keys_by_rank t) is a.0) b.0
-      (λ listed. first (is_mended t named k) (not (falls t named k)) (filter_passes (λ j. is_mended t named j && not (falls t named j)) (keys_by_rank t) k listed)))
+      (λ listed. (and_parts (is_mended t named k) (not (falls t named k)) (filter_passes (λ j. is_mended t named j && not (falls t named j)) (keys_by_rank t) k listed)).0))
       (λ listed. ap (option_map (with_mine (with_members (members_without (goes t named))))) is ∙ ap (λ (x : Entry). Some x) (entry_stays (goes t named) e calm))
 
   split_has : (way : Key) (ps : List (Key × List ℤ)) → is_key k way ≡ false → refers_to t (is_key way) k ≡ false → Has (split_table t way ps)
@@ -220,7 +197,7 @@ module _ (t : TableValue) (k : Key) (e : Entry) (is : entry_of t k ≡ Some e) (
   combined_has ways refs None one free apart_from = is
   combined_has ways refs (Some kept) one free apart_from =
       united_has (edit t (fold_runs ways kept)) (delete t) (edit t (as_way refs (united (all_tags t ways)))) (λ j. option_map_or is_relation (content_of t j) false && list_any (λ w. is_named (users t w) j) ways) ways kept
-      (second (option_map_or is_relation (content_of t k) false) (list_any (λ w. is_named (users t w) k) ways)) (one kept refl) free apart_from
+      (λ passes. (and_parts (option_map_or is_relation (content_of t k) false) (list_any (λ w. is_named (users t w) k) ways) passes).1) (one kept refl) free apart_from
 
   fused_has : (nodes : List Key) (kept : Option Key) → ((j : Key) → kept ≡ Some j → is_named nodes j ≡ true) → is_named nodes k ≡ false → refers_to t (is_named nodes) k ≡ false → Has (fused_table t nodes kept)
   fused_has nodes None one free apart_from = is
@@ -255,12 +232,12 @@ module _ (t : TableValue) (k : Key) (e : Entry) (is : entry_of t k ≡ Some e) (
   outcome_kept (job.Purge keys) limit n free = tested (twice_test [] keys) _ (tested (first_of (λ j. purge_entry_test j (entry_of t j)) keys) _
       (tested (first_of (λ j. if is_new_entry (entry_of t j) then use_test t keys j else None) keys) _ (unnamed t (λ j. if is_used t keys j then Some Incomplete else None) keys is free)))
   outcome_kept (job.Split way nodes) limit n free =
-      let a = neither (is_key k way) (refers_to t (is_key way) k) free in
+      let a = or_parts (is_key k way) (refers_to t (is_key way) k) free in
       let ps = keyed way (kept_number (split_pieces t way nodes)) 0 t.next (split_pieces t way nodes) in
       tested (target_test t Ways way) _ (tested (node_tests (way_refs (content_of t way)) [] nodes) _ (tested (complete_test t (way_refs (content_of t way))) _
       (tested (when (nat_lt (length (split_pieces t way nodes)) 2) (NothingToSplit way)) _ (closed limit (way ∷ nodes) (split_into t way ps) (split_has way ps a.0 a.1)))))
   outcome_kept (job.Combine ways) limit n free =
-      let a = neither (is_named ways k) (refers_to t (is_named ways) k) free in
+      let a = or_parts (is_named ways k) (refers_to t (is_named ways) k) free in
       tested (list_tests t Ways ways) _ (tested (first_of (way_test t) ways) _ (bound (λ new. Has new.table) (joined t ways) _ (λ refs.
       tested (clash_test (all_tags t ways)) _ (tested (member_test t ways) _
       (closed limit ways (done (combined_table t ways refs (kept_way ways))) (combined_has ways refs (kept_way ways) (kept_named ways) a.0 a.1))))))
@@ -275,7 +252,7 @@ module _ (t : TableValue) (k : Key) (e : Entry) (is : entry_of t k ≡ Some e) (
   outcome_kept (job.Squeeze keys) limit n free = tested (list_tests t Ways keys) _ (tested (first_of (λ j. when (not (is_repeated t j)) (NoFinding j)) keys) _
       (let g = edit t (with_refs squeezed) in edited_has limit keys keys g (unnamed t g keys is free)))
   outcome_kept (job.Fuse nodes) limit n free =
-      let a = neither (is_named nodes k) (refers_to t (is_named nodes) k) free in
+      let a = or_parts (is_named nodes k) (refers_to t (is_named nodes) k) free in
       tested (list_tests t Nodes nodes) _ (tested (place_test t nodes) _ (tested (clash_test (all_tags t nodes)) _
       (closed limit nodes (done (fused_table t nodes (kept_node nodes))) (fused_has nodes (kept_node nodes) (kept_named nodes) a.0 a.1))))
 

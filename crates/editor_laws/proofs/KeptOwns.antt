@@ -5,6 +5,7 @@ use Rattle.std.specs.List.{filter}
 use Rattle.std.specs.Option.{option_map}
 use Rattle.osm_base.specs.Rank.{is_key}
 use Rattle.osm_base.specs.Content.{kind_of_content, tags_of}
+use Rattle.osm_base.specs.Tags.{Pair}
 use Rattle.osm_base.specs.declared.key.Key.{Key}
 use Rattle.osm_base.specs.declared.coord.Coord.{Coord}
 use Rattle.osm_base.specs.declared.members.Member.{Member}
@@ -28,51 +29,29 @@ use Rattle.tool_api.specs.Closing.{closing, closing_tests}
 use Rattle.tool_api.specs.Basic.{with_tags, with_place, moved, move_entry_test, moved_nodes, with_refs, with_members}
 use Rattle.tool_api.specs.Gone.{mended, goes, members_without, gone_keys, mended_ways, relations_left, erased}
 use Rattle.tool_api.specs.Split.{way_refs, tags_at, node_tests, complete_test, split_pieces, kept_number, keyed, piece_of, others, kept_refs, relations_of, split_table, split_into}
-use Rattle.tool_api.specs.Upkeep.{PieceValue, replaced}
+use Rattle.tool_api.specs.Upkeep.{replaced}
 use Rattle.tool_api.specs.Combine.{way_test, joined, clash_test, member_test, kept_way, fold_runs, relations_among, combined_table, as_way, united, all_tags}
 use Rattle.tool_api.specs.Fuse.{place_test, kept_node, fused_content, users_among, fused_table}
 use Rattle.tool_api.specs.Plain.{answered, outcome, plain}
 use Rattle.tool_api.proofs.Added.{added_at}
 use Rattle.tool_api.proofs.Looks.{entry_changed, next_changed}
+use Rattle.tool_api.proofs.Named.{kept_named}
 use Rattle.editor_laws.specs.Editing.{is_merge}
 use Rattle.editor_laws.proofs.SeenContents.{IfOk}
 use Rattle.editor_laws.specs.Listed.{lists, names, IsOwn, KeepsOwn}
-use Rattle.editor_laws.proofs.KeptJobs.{filter_passes, filter_within, one_named, kept_named, bound, not_new, job_leaves}
+use Rattle.editor_laws.proofs.KeptJobs.{filter_passes, filter_within, one_named, bound, not_new, job_leaves}
 
 -- Edits that keep the tags.
 
 abbrev KeepsTags : (Content → Content) → Type 0
 KeepsTags f = (c : Content) → tags_of (f c) ≡ tags_of c
 
-place_keeps : (f : Coord → Coord) → KeepsTags (with_place f)
-place_keeps f (content.Node tags at) = refl
-place_keeps f (content.Way tags refs) = refl
-place_keeps f (content.Relation tags members) = refl
-
-refs_keep : (f : List ℤ → List ℤ) → KeepsTags (with_refs f)
-refs_keep f (content.Node tags at) = refl
-refs_keep f (content.Way tags refs) = refl
-refs_keep f (content.Relation tags members) = refl
-
-members_keep : (f : List Member → List Member) → KeepsTags (with_members f)
-members_keep f (content.Node tags at) = refl
-members_keep f (content.Way tags refs) = refl
-members_keep f (content.Relation tags members) = refl
-
-replaced_keep : (t : TableValue) (way : Key) (ps : List PieceValue) → KeepsTags (replaced t way ps)
-replaced_keep t way ps (content.Node tags at) = refl
-replaced_keep t way ps (content.Way tags refs) = refl
-replaced_keep t way ps (content.Relation tags members) = refl
-
-runs_keep : (ways : List Key) (kept : Key) → KeepsTags (fold_runs ways kept)
-runs_keep ways kept (content.Node tags at) = refl
-runs_keep ways kept (content.Way tags refs) = refl
-runs_keep ways kept (content.Relation tags members) = refl
-
-fused_keep : (nodes : List Key) (kept : Key) → KeepsTags (fused_content nodes kept)
-fused_keep nodes kept (content.Node tags at) = refl
-fused_keep nodes kept (content.Way tags refs) = refl
-fused_keep nodes kept (content.Relation tags members) = refl
+-- so do those that keep them of each kind of content
+tags_kept : (f : Content → Content) → ((tags : List Pair) (at : Coord) → tags_of (f (content.Node tags at)) ≡ tags) → ((tags : List Pair) (refs : List ℤ) → tags_of (f (content.Way tags refs)) ≡ tags)
+    → ((tags : List Pair) (members : List Member) → tags_of (f (content.Relation tags members)) ≡ tags) → KeepsTags f
+tags_kept f node way relation (content.Node tags at) = node tags at
+tags_kept f node way relation (content.Way tags refs) = way tags refs
+tags_kept f node way relation (content.Relation tags members) = relation tags members
 
 own_edit : (f : Content → Content) → KeepsTags f → (e : Entry) → IsOwn e (with_mine f e)
 own_edit f keeps Incomplete = record { base = refl; conflict = refl; tags = refl }
@@ -123,8 +102,8 @@ module _ (t : TableValue) (k : Key) (e : Entry) (is : entry_of t k ≡ Some e) (
   erased_has named free =
       let u = changed t (delete t) (gone_keys t named) in
       let v = changed u (edit t (with_refs (mended named))) (mended_ways t named) in
-      edited_has v (with_members (members_without (goes t named))) (relations_left t named) (members_keep (members_without (goes t named)))
-      (edited_has u (with_refs (mended named)) (mended_ways t named) (refs_keep (mended named))
+      edited_has v (with_members (members_without (goes t named))) (relations_left t named) (tags_kept (with_members (members_without (goes t named))) (λ tags at. refl) (λ tags refs. refl) (λ tags members. refl))
+      (edited_has u (with_refs (mended named)) (mended_ways t named) (tags_kept (with_refs (mended named)) (λ tags at. refl) (λ tags refs. refl) (λ tags members. refl))
       (apart t (delete t) (gone_keys t named) (goes t named k) (own (entry_of t k) is) free (filter_passes (goes t named) (keys_by_rank t) k)))
 
   split_has : (way : Key) (ps : List (Key × List ℤ)) → Has (split_table t way ps)
@@ -133,8 +112,8 @@ module _ (t : TableValue) (k : Key) (e : Entry) (is : entry_of t k ≡ Some e) (
       let u = changed t (edit t f) (relations_of t way) in
       let g = edit t (with_refs (λ _. kept_refs way ps)) in
       all_added_has (changed u g (way ∷ [])) (map (λ p. content.Way (tags_at t way) p.1) (others way ps)) (let n = next_changed u g (way ∷ []) ∙ next_changed t (edit t f) (relations_of t way) in omega (arith, n))
-      (edited_has u (with_refs (λ _. kept_refs way ps)) (way ∷ []) (refs_keep (λ _. kept_refs way ps))
-      (edited_has t f (relations_of t way) (replaced_keep t way (map (piece_of way) ps)) (own (entry_of t k) is)))
+      (edited_has u (with_refs (λ _. kept_refs way ps)) (way ∷ []) (tags_kept (with_refs (λ _. kept_refs way ps)) (λ tags at. refl) (λ tags refs. refl) (λ tags members. refl))
+      (edited_has t f (relations_of t way) (tags_kept (replaced t way (map (piece_of way) ps)) (λ tags at. refl) (λ tags refs. refl) (λ tags members. refl)) (own (entry_of t k) is)))
 
   -- what becomes one: users of several, these without the kept one, and the kept one
   united_has : (f : Content → Content) (g h : Key → Option Entry) (ks several : List Key) (kept : Key) → KeepsTags f → is_named several kept ≡ true → is_named several k ≡ false
@@ -149,12 +128,12 @@ module _ (t : TableValue) (k : Key) (e : Entry) (is : entry_of t k ≡ Some e) (
   combined_has : (ways : List Key) (refs : List ℤ) (kept : Option Key) → ((j : Key) → kept ≡ Some j → is_named ways j ≡ true) → is_named ways k ≡ false → Has (combined_table t ways refs kept)
   combined_has ways refs None one free = own (entry_of t k) is
   combined_has ways refs (Some kept) one free =
-      united_has (fold_runs ways kept) (delete t) (edit t (as_way refs (united (all_tags t ways)))) (relations_among t ways) ways kept (runs_keep ways kept) (one kept refl) free
+      united_has (fold_runs ways kept) (delete t) (edit t (as_way refs (united (all_tags t ways)))) (relations_among t ways) ways kept (tags_kept (fold_runs ways kept) (λ tags at. refl) (λ tags refs. refl) (λ tags members. refl)) (one kept refl) free
 
   fused_has : (nodes : List Key) (kept : Option Key) → ((j : Key) → kept ≡ Some j → is_named nodes j ≡ true) → is_named nodes k ≡ false → Has (fused_table t nodes kept)
   fused_has nodes None one free = own (entry_of t k) is
   fused_has nodes (Some kept) one free =
-      united_has (fused_content nodes kept) (delete t) (edit t (with_tags (λ _. united (all_tags t nodes)))) (users_among t nodes) nodes kept (fused_keep nodes kept) (one kept refl) free
+      united_has (fused_content nodes kept) (delete t) (edit t (with_tags (λ _. united (all_tags t nodes)))) (users_among t nodes) nodes kept (tags_kept (fused_content nodes kept) (λ tags at. refl) (λ tags refs. refl) (λ tags members. refl)) (one kept refl) free
 
   answered_has : (r : Result Outcome Refusal) → Kept r → Has (answered t r).table
   answered_has (Ok new) h = h
@@ -166,7 +145,7 @@ module _ (t : TableValue) (k : Key) (e : Entry) (is : entry_of t k ≡ Some e) (
   pub job_owns : (j : Job) (limit : ℕ) → is_merge j ≡ false → names j t k ≡ false → Has (plain j t limit).table
   job_owns (job.Shift keys dx dy) limit n free = answered_has (outcome (job.Shift keys dx dy) t limit)
       (tested (list_tests t NodesAndWays keys) _ (tested (first_of (λ m. move_entry_test dx dy m (entry_of t m)) (moved_nodes t keys)) _
-      (closed limit keys (done (changed t (edit t (with_place (moved dx dy))) (moved_nodes t keys))) (edited_has t (with_place (moved dx dy)) (moved_nodes t keys) (place_keeps (moved dx dy)) (own (entry_of t k) is)))))
+      (closed limit keys (done (changed t (edit t (with_place (moved dx dy))) (moved_nodes t keys))) (edited_has t (with_place (moved dx dy)) (moved_nodes t keys) (tags_kept (with_place (moved dx dy)) (λ tags at. refl) (λ tags refs. refl) (λ tags members. refl)) (own (entry_of t k) is)))))
   job_owns (job.Erase keys) limit n free = answered_has (outcome (job.Erase keys) t limit) (tested (list_tests t Any keys) _ (closed limit keys (done (erased t keys)) (erased_has keys free)))
   job_owns (job.Split way nodes) limit n free =
       let ps = keyed way (kept_number (split_pieces t way nodes)) 0 t.next (split_pieces t way nodes) in

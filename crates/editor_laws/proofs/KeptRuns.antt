@@ -1,6 +1,6 @@
 -- The steps of an editor keep what was edited.
 use Rattle.std.proofs.Common.{◌≡◌, ℕ, true, false, List, [], ◌∷◌, Option, Some, None, refl}
-use Rattle.std.proofs.lemmas.Bool.{true≢false}
+use Rattle.std.proofs.lemmas.Bool.{true≢false, or_parts}
 use Rattle.osm_base.specs.declared.key.Key.{Key}
 use Rattle.osm_table.specs.declared.entry.Entry.{Entry}
 use Rattle.osm_table.specs.declared.told.Told.{Told}
@@ -21,7 +21,7 @@ use Rattle.editor_laws.specs.Editing.{is_merge}
 use Rattle.editor_laws.specs.Kept.{is_edited, Keeps}
 use Rattle.editor_laws.specs.Listed.{lists}
 use Rattle.editor_laws.specs.Steps.{gives_up, job_says, tells, KeepsEdits, EachStep, IsFromSound}
-use Rattle.editor_laws.proofs.KeptJobs.{neither, job_leaves}
+use Rattle.editor_laws.proofs.KeptJobs.{job_leaves}
 use Rattle.editor_laws.proofs.KeptMerges.{same_kept, merge_keeps}
 
 -- a job
@@ -55,7 +55,7 @@ module _ (k : Key) (told : Option Told) (e : Entry) where
 -- A job keeps what was edited, where it doesn't say that it changes or forgets it.
 pub job_step_keeps : (limit : ℕ) (j : Job) (s : State) → IsSound s.now → (k : Key) (e : Entry) → entry_of s.now k ≡ Some e → is_edited e ≡ true → job_says limit j s k ≡ false → Keeps (tells j k) e (entry_of (job_move limit j s).state.now k)
 job_step_keeps limit j s sound k e is edits free =
-    let p = neither (lists j s.now k) (gives_up (plain j s.now limit).reply s.group) free in
+    let p = or_parts (lists j s.now k) (gives_up (plain j s.now limit).reply s.group) free in
     ran_keeps k (tells j k) e (plain j s.now limit).reply (plain j s.now limit).table s p.1 (job_keeps s.now limit k e is sound edits j p.0) (same_kept (tells j k) e (entry_of s.now k) edits is)
 
 -- So does each step.

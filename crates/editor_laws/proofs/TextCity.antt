@@ -3,7 +3,7 @@ use Rattle.std.proofs.Common.{◌≡◌, ◌<◌, ◌≤◌, ℕ, zero, suc, ◌
 use Rattle.std.specs.Prelude.{codes, slice_index}
 use Rattle.std.specs.Fmt.{decimal}
 use Rattle.std.specs.List.{AllByRecursion, list_all}
-use Rattle.std.proofs.lemmas.Bool.{and_parts}
+use Rattle.std.proofs.lemmas.Bool.{and_from, and_parts}
 use Rattle.std.proofs.lemmas.Bool.Decides.{nat_tests}
 use Rattle.std.proofs.lemmas.Str.{IsUtf8-from_ascii}
 use Rattle.osm_base.specs.declared.key.Key.{Key}
@@ -36,15 +36,11 @@ all_ascii [] h i = omega arith
 all_ascii (b ∷ bs) h zero = less_by b (and_parts (nat_lt 0 b) (nat_lt b 128) (and_parts (is_plain b) (list_all is_plain bs) h).0).1
 all_ascii (b ∷ bs) h (suc i) = all_ascii bs (and_parts (is_plain b) (list_all is_plain bs) h).1 i
 
-both_true : (a b : Bool) → a ≡ true → b ≡ true → (a && b) ≡ true
-both_true true b e f = f
-both_true false b e f = absurd cc
-
 no_zero : (text : List ℕ) → ArePlain text → list_all (λ b. nat_lt 0 b) text ≡ true
 no_zero [] h = refl
 no_zero (b ∷ bs) h =
     let p = and_parts (is_plain b) (list_all is_plain bs) h in
-    both_true (nat_lt 0 b) (list_all (λ b. nat_lt 0 b) bs) (and_parts (nat_lt 0 b) (nat_lt b 128) p.0).0 (no_zero bs p.1)
+    and_from (nat_lt 0 b) (list_all (λ b. nat_lt 0 b) bs) (and_parts (nat_lt 0 b) (nat_lt b 128) p.0).0 (no_zero bs p.1)
 
 pub plain_text : (text : List ℕ) → ArePlain text → IsText text
 plain_text text h = (IsUtf8-from_ascii text (all_ascii text h), no_zero text h)
@@ -53,14 +49,14 @@ plain_joined : (xs ys : List ℕ) → ArePlain xs → ArePlain ys → ArePlain (
 plain_joined [] ys h i = i
 plain_joined (x ∷ xs) ys h i =
     let p = and_parts (is_plain x) (list_all is_plain xs) h in
-    both_true (is_plain x) (list_all is_plain (xs ++ ys)) p.0 (plain_joined xs ys p.1 i)
+    and_from (is_plain x) (list_all is_plain (xs ++ ys)) p.0 (plain_joined xs ys p.1 i)
 
 -- digits
 digit_is : (b : ℕ) → 48 ≤ b → b ≤ 57 → not (is_plain b) ≡ false
 digit_is b low high =
     let some : nat_lt 0 b ≡ true = grind (arith, nat_tests, low) in
     let few : nat_lt b 128 ≡ true = grind (arith, nat_tests, high) in
-    ap not (both_true (nat_lt 0 b) (nat_lt b 128) some few)
+    ap not (and_from (nat_lt 0 b) (nat_lt b 128) some few)
 
 not_false : (b : Bool) → not b ≡ false → b ≡ true
 not_false true e = refl
@@ -68,7 +64,7 @@ not_false false e = absurd cc
 
 plain_by : (text : List ℕ) → Unbroken (λ b. not (is_plain b)) text → ArePlain text
 plain_by [] h = refl
-plain_by (b ∷ bs) h = both_true (is_plain b) (list_all is_plain bs) (not_false (is_plain b) h.0) (plain_by bs h.1)
+plain_by (b ∷ bs) h = and_from (is_plain b) (list_all is_plain bs) (not_false (is_plain b) h.0) (plain_by bs h.1)
 
 number_plain : (n : ℕ) → ArePlain (decimal n)
 number_plain n = plain_by (decimal n) (decimal_unbroken (λ b. not (is_plain b)) n digit_is)
