@@ -1,8 +1,9 @@
 -- The index is exact after a patch, if the pairs of one side go and those of the other come.
-use Rattle.std.proofs.Common.{◌≡◌, ℕ, ℤ, not, ◌+◌, ◌<◌, ◌≤◌, ◌&&◌, ◌||◌, Bool, true, false, cond, Option, Some, None, List, [], ◌∷◌, ◌++◌, length, get_or, take, map, refl, sym, ◌∙◌, ap, arith}
+use Rattle.std.proofs.Common.{◌≡◌, ℕ, ℤ, not, ◌+◌, ◌<◌, ◌≤◌, ◌&&◌, ◌||◌, Bool, true, false, cond, Option, Some, None, List, [], ◌∷◌, ◌++◌, length, get_or, take, drop, map, refl, sym, ◌∙◌, ap, arith}
+use Rattle.std.specs.Cmp.{eq_by_cmp_equiv}
 use Rattle.std.specs.Option.{option_map_or}
 use Rattle.std.specs.Prelude.{T}
-use Rattle.std.proofs.lemmas.List.{take_more}
+use Rattle.std.proofs.lemmas.List.{take_more, take-take, take-append-drop}
 use Rattle.std.proofs.lemmas.List.Sums.{sum_by-cons, sum_by-append}
 use Rattle.std.specs.FinMap as fin
 use Rattle.osm_base.specs.Rank.{rank_cmp, is_key}
@@ -16,6 +17,7 @@ use Rattle.osm_table.specs.declared.entry.Entry.{Entry}
 use Rattle.osm_table.specs.Table.{TableValue, entry_of}
 use Rattle.ref_index.specs.declared.pair.Pair.{Pair}
 use Rattle.ref_index.specs.Bag.{times, is_pair}
+use Rattle.ref_index.specs.PairRank.{pair_total}
 use Rattle.ref_index.proofs.Agreement.{pair_parts}
 use Rattle.dataset.specs.Edit.{Edit}
 use Rattle.dataset.specs.Patch.{Entries, in_order, edit_at, edited}
@@ -90,6 +92,23 @@ next_edit side es i e p within at =
 
 pub last_edit : (side : Edit → Option Entry) (es : List Edit) (i j : ℕ) (e : Edit) (p : Pair) → i ≡ j + 1 → j < length es → e ≡ get_or es j e → times p (pairs_by side (take i es)) ≡ times p (moved_pairs side e) + times p (pairs_by side (take j es))
 last_edit side es i j e p last within at = ap (λ n. times p (pairs_by side (take n es))) last ∙ next_edit side es j e p within at
+
+-- one pair more from the front
+pub next_pair : (ps : List Pair) (i : ℕ) (x p : Pair) → i < length ps → x ≡ get_or ps i x → times p (take (i + 1) ps) ≡ cond (is_pair p x) 1 0 + times p (take i ps)
+next_pair ps i x p within at =
+    let more = ap (times p) (take_more ps i x within ∙ ap (λ (y : Pair). take i ps ++ y ∷ []) (sym at)) ∙ times_both p (take i ps) (x ∷ []) in
+    let one : times p (x ∷ []) ≡ cond (is_pair p x) 1 0 + 0 = sum_by-cons (λ (q : Pair). cond (is_pair p q) 1 0) x [] in
+    omega (arith, more, one)
+
+-- of the first few one that comes behind others is left when they are gone
+pub one_left : (ps : List Pair) (i few : ℕ) (x : Pair) → i < few → few ≤ length ps → x ≡ get_or ps i x → times x (take i ps) + 1 ≤ times x (take few ps)
+one_left ps i few x later few_there at =
+    let next = next_pair ps i x x (omega (arith, later, few_there)) at in
+    let itself : ◌≡◌ {A = ℕ} (cond (is_pair x x) 1 0) 1 = ap (λ (b : Bool). cond b 1 0) ((eq_by_cmp_equiv pair_total).refl x) in
+    let parts : times x (take few ps) ≡ times x (take (i + 1) ps) + times x (drop (i + 1) (take few ps)) =
+    ap (times x) (sym (take-append-drop (i + 1) (take few ps))) ∙ times_both x (take (i + 1) (take few ps)) (drop (i + 1) (take few ps))
+    ∙ ap (λ (qs : List Pair). times x qs + times x (drop (i + 1) (take few ps))) (take-take (i + 1) few ps (omega (arith, later))) in
+    omega (arith, next, itself, parts)
 
 -- the pairs of what stands there are counted by an exact index
 pub gone_there : (side : Edit → Option Entry) (es : List Edit) (t : TableValue) (number : Pair → ℕ) → T (in_order es) → ((k : Key) (e : Edit) → edit_at k es ≡ Some e → entry_of t k ≡ side e) → IsExact t number → (p : Pair) → times p (pairs_by side es) ≤ number p

@@ -6,6 +6,7 @@ ghost use Rattle.std.specs.FinMap as fin;
 ghost use Rattle.std.specs.Map.{keys_of};
 ghost use Rattle.osm_base.specs.RisingKeys.{rises, is_in};
 ghost use Rattle.osm_table.specs.Table.{entry_of, keys_by_rank, users};
+ghost use Rattle.osm_table.specs.Told.{table_told};
 ghost use Rattle.dataset.specs.Sound.{IsSound};
 ghost use Rattle.dataset.specs.Patch.{IsDiff, in_order, StandsBefore, StandsAfter, after_of, before_of};
 ghost use Rattle.dataset.specs.Diff.{diff};
@@ -170,9 +171,7 @@ impl DataSet {
         if self.table.len() == 0 {
             return Ok(Patch::told(told.copy()?, number));
         }
-        let told = told.value();
-        let keys = told.ordered()?;
-        let edits = edits_of_told(self.alloc(), &self.table, told, keys.as_slice())?;
+        let edits = edits_of_told(self.alloc(), &self.table, told.value())?;
         Ok(Patch::listed(edits, number, number))
     }
 
@@ -278,20 +277,52 @@ fn lead_told(
     ensures err { OnErr result (table.new ≡ table.old) }
 {
     if forth && table.len() == 0 {
-        let users = Index::told(told.copy()?)?;
-        *table = Table::told(told.copy()?, next);
-        *index = users;
-        return Ok(());
+        return become_told(table, index, told, next);
     }
     if !forth && table.len() == told.value().len() {
-        let mut nothing = OwnTable::new(table.alloc());
-        nothing.set_next(next);
-        *index = Index::new(table.alloc());
-        *table = Table::own(nothing);
+        become_empty(table, index, next);
         return Ok(());
     }
     let edits = told_edits(told.value())?;
     lead_listed(table, index, edits.as_slice(), forth, next)
+}
+
+/// The told map becomes the table, or all stays as it was.
+fn become_told(
+    table: &mut Table,
+    index: &mut Index,
+    told: &Shared<ToldMap>,
+    next: u64,
+) -> Result<(), AllocError>
+    requires { IsExact table.old (count_kept index.old) }
+    ensures ok { OnOk result (table.new ≡ table_told told.now.told next) }
+    ensures exact { IsExact table.new (count_kept index.new) }
+    ensures err { OnErr result (table.new ≡ table.old) }
+{
+    let users = Index::told(told.copy()?)?;
+    let all = Table::told(told.copy()?, next);
+    set_both(table, index, all, users);
+    Ok(())
+}
+
+/// The table gives up its objects.
+fn become_empty(table: &mut Table, index: &mut Index, next: u64)
+    ensures table { table.new ≡ record { entries = fin.empty; next = next } }
+    ensures exact { IsExact table.new (count_kept index.new) }
+{
+    let alloc = table.alloc();
+    let mut nothing = OwnTable::new(alloc);
+    nothing.set_next(next);
+    let nobody = Index::new(alloc);
+    set_both(table, index, Table::own(nothing), nobody);
+}
+
+fn set_both(table: &mut Table, index: &mut Index, new_table: Table, new_index: Index)
+    ensures table { table.new ≡ new_table }
+    ensures index { index.new ≡ new_index }
+{
+    *table = new_table;
+    *index = new_index;
 }
 
 /// Leads the table by one side of edits to the number of its next new object, or leaves all as it was. Costs one look-up an
@@ -311,17 +342,12 @@ fn lead_listed(
     ensures err { OnErr result (table.new ≡ table.old) }
 {
     let mut own = table.take()?;
-    match lead_own(&mut own, index, edits, forth) {
-        Ok(()) => {
-            own.set_next(next);
-            *table = Table::own(own);
-            Ok(())
-        }
-        Err(e) => {
-            *table = Table::own(own);
-            Err(e)
-        }
+    let led = lead_own(&mut own, index, edits, forth);
+    if led.is_ok() {
+        own.set_next(next);
     }
+    *table = Table::own(own);
+    led
 }
 
 /// Leads the table by one side of edits, or leaves all as it was. Costs one look-up an edit.

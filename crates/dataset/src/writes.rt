@@ -1,10 +1,10 @@
 //! What edits make of a table's entries, in three parts: keys that come, keys that go, and keys
 //! that get another entry. Only the first and the copies for the last can find no memory.
 ghost use Rattle.std.specs.Prelude.{◌≡◌, ◌∷◌, ◌++◌, [], not, T, OnOk, OnErr, IfOk, IsSome};
-ghost use Rattle.std.specs.List.{AllByRecursion, count_by};
+ghost use Rattle.std.specs.List.{AllByRecursion, count_by, cons_option};
 ghost use Rattle.osm_table.specs.Table.{entry_of, with_entry};
 ghost use Rattle.dataset.specs.Patch.{in_order};
-ghost use Rattle.dataset.specs.Sides.{side, led, fresh, gone, is_fresh, writes_of, written};
+ghost use Rattle.dataset.specs.Sides.{side, led, fresh, gone, is_fresh, write_of, writes_of, written};
 
 use crate::edit::Edit;
 use osm_base::Key;
@@ -18,14 +18,24 @@ pub struct Write {
     pub entry: SharedEntry,
 }
 
-fn push_write(writes: &mut Vec<Write>, edit: &Edit, forth: bool) -> Result<(), AllocError>
-    ensures { OnOk result (writes.new.items ≡ writes.old.items ++ writes_of forth (edit.now ∷ [])) }
+/// What an edit writes over the entry of its key, where that stays.
+fn write_of(edit: &Edit, forth: bool) -> Result<Option<Write>, AllocError>
+    ensures { IfOk result (λ write. write ≡ write_of forth edit.now) }
 {
-    if let (Some(entry), Some(_)) = (edit.side(forth), edit.side(!forth)) {
-        writes.push(Write {
+    match (edit.side(forth), edit.side(!forth)) {
+        (Some(entry), Some(_)) => Ok(Some(Write {
             key: edit.key(),
             entry: entry.copy()?,
-        })?;
+        })),
+        _ => Ok(None),
+    }
+}
+
+fn push_write(writes: &mut Vec<Write>, write: Option<Write>) -> Result<(), AllocError>
+    ensures { OnOk result (writes.new.items ≡ writes.old.items ++ cons_option write []) }
+{
+    if let Some(write) = write {
+        writes.push(write)?;
     }
     Ok(())
 }
@@ -36,7 +46,8 @@ pub fn writes_of(alloc: Global, edits: &[Edit], forth: bool) -> Result<Vec<Write
 {
     let mut writes = Vec::new(alloc);
     for edit in edits {
-        push_write(&mut writes, edit, forth)?;
+        let write = write_of(edit, forth)?;
+        push_write(&mut writes, write)?;
     }
     Ok(writes)
 }

@@ -2,16 +2,16 @@
 ghost use Rattle.std.specs.Prelude.{◌≡◌, ◌<◌, ◌++◌, ◌∷◌, [], Some, OnOk, OnErr};
 ghost use Rattle.std.specs.Vec.{vec_len, vec_capacity};
 ghost use Rattle.std.specs.FinMap as fin;
-ghost use Rattle.indexmap.specs.IndexMap.{spare, Updates};
+ghost use Rattle.std.specs.HashMap.{spare, Updates};
 ghost use Rattle.osm_base.specs.KeyEq.{eq};
 ghost use Rattle.upload_order.specs.Rename.{id_meant, meant, with_id, is_positive, named};
 
 use crate::entry::WorldEntry;
 use crate::objects::Objects;
-use indexmap::IndexMap;
 use osm_base::Key;
 use renamed_content::Renaming;
 use std::alloc::{AllocError, Global};
+use std::collections::HashMap;
 use std::marker::Model;
 
 /// Names in the order in which they were given, with the last id of each placeholder.
@@ -20,7 +20,7 @@ use std::marker::Model;
 #[derive(Drop)]
 pub struct Names {
     given: Vec<(Key, i64)>,
-    ids: IndexMap<Key, i64>,
+    ids: HashMap<Key, i64>,
 }
 
 impl Model for Names {
@@ -45,7 +45,7 @@ impl Names {
     {
         Names {
             given: Vec::new(alloc),
-            ids: IndexMap::new(alloc),
+            ids: HashMap::new(alloc),
         }
     }
 
@@ -127,7 +127,7 @@ pub fn put_named(
 }
 
 /// Adds a name, where there is room for one.
-fn push_name(given: &mut Vec<(Key, i64)>, ids: &mut IndexMap<Key, i64>, key: Key, id: i64)
+fn push_name(given: &mut Vec<(Key, i64)>, ids: &mut HashMap<Key, i64>, key: Key, id: i64)
     requires given { vec_len given.old < vec_capacity given.old }
     requires ids { 0 < spare ids.old }
     ensures given { given.new.items ≡ given.old.items ++ (key, id) ∷ [] }

@@ -4,7 +4,7 @@ ghost use Rattle.std.specs.List.{IsDistinct, find};
 ghost use Rattle.std.specs.Map.{keys_of};
 ghost use Rattle.std.specs.Option.{option_copied, option_map};
 ghost use Rattle.std.specs.FinMap as fin;
-ghost use Rattle.indexmap.specs.IndexMap.{spare, Updates};
+ghost use Rattle.std.specs.HashMap.{spare, Updates};
 ghost use Rattle.osm_base.specs.KeyEq.{eq};
 ghost use Rattle.upload_order.specs.Kinds.{content_refers};
 ghost use Rattle.server_world.specs.Free.{last_id};
@@ -13,10 +13,10 @@ ghost use Rattle.server_world.specs.Starts.{key_at, IsStartOf, AreStartsOf};
 use crate::entry::WorldEntry;
 use crate::pairs::{add_object, take_object};
 use crate::starts::{LAST_ID, Starts};
-use indexmap::IndexMap;
 use osm_base::{Key, Keys, Kind};
 use ref_index::RefIndex;
 use std::alloc::{AllocError, Global};
+use std::collections::HashMap;
 use std::marker::Model;
 
 /// Objects by key, who refers to what, and where free ids are sought.
@@ -25,7 +25,8 @@ use std::marker::Model;
 /// starts.
 #[derive(Drop)]
 pub struct Objects {
-    entries: IndexMap<Key, WorldEntry>,
+    alloc: Global,
+    entries: HashMap<Key, WorldEntry>,
     index: RefIndex,
     starts: Starts,
 }
@@ -50,7 +51,8 @@ impl Objects {
         ensures { result ≡ fin.empty }
     {
         Objects {
-            entries: IndexMap::new(alloc),
+            alloc,
+            entries: HashMap::new(alloc),
             index: RefIndex::new(alloc),
             starts: Starts::new(),
         }
@@ -84,7 +86,7 @@ impl Objects {
     pub fn keys(&self) -> Result<Keys, AllocError>
         ensures { IfOk result (λ keys. keys ≡ fin.keys self.now) }
     {
-        let mut keys = keys(&self.entries)?;
+        let mut keys = keys(self.alloc, &self.entries)?;
         keys.sort()?;
         Ok(Keys::from_vec(keys))
     }
@@ -141,7 +143,7 @@ impl Objects {
 }
 
 /// Sets what stands of a key, where there is room.
-fn set(entries: &mut IndexMap<Key, WorldEntry>, key: Key, entry: WorldEntry)
+fn set(entries: &mut HashMap<Key, WorldEntry>, key: Key, entry: WorldEntry)
     requires { 0 < spare entries.old }
     ensures { Updates eq entries.old entries.new key (Some entry) }
 {
@@ -151,9 +153,9 @@ fn set(entries: &mut IndexMap<Key, WorldEntry>, key: Key, entry: WorldEntry)
     }
 }
 
-fn keys(entries: &IndexMap<Key, WorldEntry>) -> Result<Vec<Key>, AllocError>
+fn keys(alloc: Global, entries: &HashMap<Key, WorldEntry>) -> Result<Vec<Key>, AllocError>
     ensures listed { IfOk result (λ keys. keys.items ≡ keys_of entries.now.entries) }
     ensures unique { IfOk result (λ _. IsDistinct eq (keys_of entries.now.entries)) }
 {
-    entries.keys().copied().collect(*entries.allocator())
+    entries.keys().copied().collect(alloc)
 }

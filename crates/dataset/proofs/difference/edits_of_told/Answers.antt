@@ -1,10 +1,11 @@
-use Rattle.std.proofs.Common.{sym, subst, List, []}
-use Rattle.dataset.specs.Edit.{Edit}
+use Rattle.std.proofs.Common.{List, ◌∙◌, subst}
+use Rattle.std.specs.Prelude.{IfOk}
+use Rattle.osm_base.specs.declared.key.Key.{Key}
 use Rattle.dataset.specs.Arrivals.{arrivals}
 use Rattle.dataset.specs.Draft.{DiffOver, drafted}
 use Rattle.dataset.proofs.difference.edits_of_told.Goals as goal
 
-pub loop-key-init : goal.loop-key-init
-loop-key-init c =
-    subst (λ (es : List Edit). DiffOver c.args.table.now (drafted (arrivals c.args.told.now.told c.args.table.now.next) c.args.table.now) [] es)
-    (sym c.in_ok-edits.ensures.items) DiffOver.done
+pub returns : goal.returns
+returns c =
+    subst (λ (keys : List Key). IfOk c.edits_of_keys.result (λ edits. DiffOver c.args.table.now (drafted (arrivals c.args.told.now.told c.args.table.now.next) c.args.table.now) keys edits.items))
+    (c.as_slice.ensures ∙ c.in_ok-keys.ensures) c.edits_of_keys.ensures

@@ -1,4 +1,4 @@
-use Rattle.std.proofs.Common.{◌≡◌, ◌∙◌, sym, subst, arith}
+use Rattle.std.proofs.Common.{◌≡◌, refl, sym, subst, arith}
 use Rattle.std.specs.FinMap as fin
 use Rattle.osm_table.specs.Told.{ToldValue}
 use Rattle.dataset.specs.Arrivals.{arrivals}
@@ -21,13 +21,13 @@ returns-then-len-eq0-clause-value c = is_diff c.args.self.now (drafted (arrivals
 
 pub listed-requires : goal.listed-requires
 listed-requires c =
-    (told_whole c.value-told.result.now.told c.self.inside.table c.args.self.now c.as_slice.result.now c.in_ok-edits.edits.items c.next-number.result c.self.view_is (c.as_slice.ensures ∙ c.in_ok-keys.ensures) c.in_ok-edits.ensures c.next-number.ensures).patch
+    (told_whole c.value.result.now.told c.self.inside.table c.args.self.now (fin.keys c.value.result.now.told) c.in_ok-edits.edits.items c.next-number.result c.self.view_is refl c.in_ok-edits.ensures c.next-number.ensures).patch
 
 pub returns-clause-differs : goal.returns-clause-differs
 returns-clause-differs c =
-    subst (λ (m : ToldValue). IsDiff c.args.self.now (drafted (arrivals m.told c.args.self.now.next) c.args.self.now) c.listed.result) c.value-told.ensures
-    (subst (IsDiff c.args.self.now (drafted (arrivals c.value-told.result.now.told c.args.self.now.next) c.args.self.now)) (sym c.listed.ensures)
-    (told_whole c.value-told.result.now.told c.self.inside.table c.args.self.now c.as_slice.result.now c.in_ok-edits.edits.items c.next-number.result c.self.view_is (c.as_slice.ensures ∙ c.in_ok-keys.ensures) c.in_ok-edits.ensures c.next-number.ensures))
+    subst (λ (m : ToldValue). IsDiff c.args.self.now (drafted (arrivals m.told c.args.self.now.next) c.args.self.now) c.listed.result) c.value.ensures
+    (subst (IsDiff c.args.self.now (drafted (arrivals c.value.result.now.told c.args.self.now.next) c.args.self.now)) (sym c.listed.ensures)
+    (told_whole c.value.result.now.told c.self.inside.table c.args.self.now (fin.keys c.value.result.now.told) c.in_ok-edits.edits.items c.next-number.result c.self.view_is refl c.in_ok-edits.ensures c.next-number.ensures))
 
 pub returns-clause-value : goal.returns-clause-value
 returns-clause-value c = is_diff c.args.self.now (drafted (arrivals c.args.told.now.told c.args.self.now.next) c.args.self.now) c.listed.result (returns-clause-differs c)
