@@ -1,9 +1,11 @@
 //! The objects of the city, one kind after the other.
-ghost use Rattle.std.specs.Prelude.{◌≡◌, ◌≤◌, ◌*◌, ◌+◌, ◌++◌, IfOk, OnOk, map, pos};
+ghost use Rattle.std.specs.Prelude.{◌≡◌, ◌≤◌, ◌*◌, ◌+◌, ◌-◌, ◌++◌, ◌<◌, IfOk, OnOk, codes, length, map, pos};
 ghost use Rattle.std.specs.Fmt.{decimal};
 ghost use Rattle.std.specs.List.{range_with_len};
 ghost use Rattle.osm_base.specs.declared.key.Kind.TheVariants as kind;
-ghost use Rattle.sample_city.specs.City.{all_of, all_told, as_told, city, city_meta, junction, leg, numbered, origin, place_of, residential, route, street, ten_from};
+ghost use Rattle.osm_base.specs.Tags.{with_tag};
+ghost use Rattle.osm_table.specs.Told.{IsTold, with_told};
+ghost use Rattle.sample_city.specs.City.{all_of, all_told, as_told, city, city_meta, junction, leg, named, numbered, origin, place_of, residential, route, route_tags, street, ten_from};
 ghost use Rattle.sample_city.specs.Common.{in_common};
 
 use osm_base::{
@@ -35,29 +37,77 @@ impl Common {
     fn new(alloc: Global) -> Result<Self, AllocError>
         ensures { IfOk result (λ c. c ≡ in_common) }
     {
+        let meta = city_meta(alloc)?;
+        let streets = street_words(alloc)?;
+        let routes = route_words(alloc)?;
         Ok(Common {
-            meta: Meta {
-                changeset: 1,
-                time: Moment::new(Some(Stamp {
-                    year: 2020,
-                    month: 1,
-                    day: 1,
-                    hour: 0,
-                    minute: 0,
-                    second: 0,
-                })),
-                uid: 1,
-                user: text(alloc, b"city")?,
-            },
-            highway: text(alloc, b"highway")?,
-            residential: text(alloc, b"residential")?,
-            name: text(alloc, b"name")?,
-            number: text(alloc, b"ref")?,
-            kind: text(alloc, b"type")?,
-            route: text(alloc, b"route")?,
-            no_role: Text::new(alloc)?,
+            meta,
+            highway: streets.highway,
+            residential: streets.residential,
+            name: streets.name,
+            number: routes.number,
+            kind: routes.kind,
+            route: routes.route,
+            no_role: routes.no_role,
         })
     }
+}
+
+fn city_meta(alloc: Global) -> Result<Meta, AllocError>
+    ensures { IfOk result (λ meta. meta ≡ city_meta) }
+{
+    let user = text(alloc, b"city")?;
+    Ok(Meta {
+        changeset: 1,
+        time: Moment::new(Some(Stamp {
+            year: 2020,
+            month: 1,
+            day: 1,
+            hour: 0,
+            minute: 0,
+            second: 0,
+        })),
+        uid: 1,
+        user,
+    })
+}
+
+// The words of a street's tags.
+#[derive(Drop)]
+struct StreetWords {
+    highway: Text,
+    residential: Text,
+    name: Text,
+}
+
+fn street_words(alloc: Global) -> Result<StreetWords, AllocError>
+    ensures { IfOk result (λ words. words ≡ record { highway = in_common.highway; residential = in_common.residential; name = in_common.name }) }
+{
+    Ok(StreetWords {
+        highway: text(alloc, b"highway")?,
+        residential: text(alloc, b"residential")?,
+        name: text(alloc, b"name")?,
+    })
+}
+
+// The words of a route's tags, and the role of its members.
+#[derive(Drop)]
+struct RouteWords {
+    number: Text,
+    kind: Text,
+    route: Text,
+    no_role: Text,
+}
+
+fn route_words(alloc: Global) -> Result<RouteWords, AllocError>
+    ensures { IfOk result (λ words. words ≡ record { number = in_common.number; kind = in_common.kind; route = in_common.route; no_role = in_common.no_role }) }
+{
+    Ok(RouteWords {
+        number: text(alloc, b"ref")?,
+        kind: text(alloc, b"type")?,
+        route: text(alloc, b"route")?,
+        no_role: Text::new(alloc)?,
+    })
 }
 
 /// Tells of a city of so many streets: nine nodes for each and one more, the streets, and a route for each ten.
@@ -69,12 +119,20 @@ pub fn sample_city(alloc: Global, streets: u32) -> Result<ToldMap, AllocError>
     ensures { IfOk result (λ told. told ≡ city streets) }
 {
     let common = Common::new(alloc)?;
+    city_with(alloc, &common, streets)
+}
+
+fn city_with(alloc: Global, common: &Common, streets: u32) -> Result<ToldMap, AllocError>
+    requires common { common.now ≡ in_common }
+    requires few { (1 ≤ streets) × (streets ≤ 100000) }
+    ensures { IfOk result (λ told. told ≡ city streets) }
+{
     let nodes = 9 * streets + 1;
     let routes = streets / 10;
     let mut told = ToldMap::with_capacity(alloc, (nodes + streets + routes) as usize)?;
-    tell_nodes(alloc, &common, nodes, &mut told)?;
-    tell_streets(alloc, &common, streets, &mut told)?;
-    tell_routes(alloc, &common, routes, &mut told)?;
+    tell_nodes(alloc, common, nodes, &mut told)?;
+    tell_streets(alloc, common, streets, &mut told)?;
+    tell_routes(alloc, common, routes, &mut told)?;
     Ok(told)
 }
 
@@ -89,11 +147,7 @@ fn tell_nodes(
     ensures { OnOk result (told.new ≡ all_told told.old (all_of kind.Node junction nodes)) }
 {
     for k in 1..nodes + 1 {
-        let node = Content::Node {
-            tags: Tags::new(alloc),
-            at: place_of(k),
-        };
-        told.put(key(Kind::Node, k), live(common, node)?)?;
+        tell(told, common, key(Kind::Node, k), junction(alloc, k))?;
     }
     Ok(())
 }
@@ -109,8 +163,7 @@ fn tell_streets(
     ensures { OnOk result (told.new ≡ all_told told.old (all_of kind.Way street streets)) }
 {
     for j in 1..streets + 1 {
-        let street = street(alloc, common, j)?;
-        told.put(key(Kind::Way, j), live(common, street)?)?;
+        tell(told, common, key(Kind::Way, j), street(alloc, common, j)?)?;
     }
     Ok(())
 }
@@ -126,8 +179,12 @@ fn tell_routes(
     ensures { OnOk result (told.new ≡ all_told told.old (all_of kind.Relation route routes)) }
 {
     for q in 1..routes + 1 {
-        let route = route(alloc, common, q)?;
-        told.put(key(Kind::Relation, q), live(common, route)?)?;
+        tell(
+            told,
+            common,
+            key(Kind::Relation, q),
+            route(alloc, common, q)?,
+        )?;
     }
     Ok(())
 }
@@ -141,16 +198,31 @@ fn key(kind: Kind, number: u32) -> Key
     }
 }
 
-// An object as it stands, in its first version.
-fn live(common: &Common, content: Content) -> Result<Told, AllocError>
-    requires { common.now ≡ in_common }
-    ensures { IfOk result (λ told. told ≡ as_told content) }
+// Tells of an object as it stands, in its first version.
+fn tell(told: &mut ToldMap, common: &Common, key: Key, content: Content) -> Result<(), AllocError>
+    requires common { common.now ≡ in_common }
+    requires allowed { IsTold key (as_told content) }
+    ensures { OnOk result (told.new ≡ with_told told.old key (as_told content)) }
 {
-    Ok(Told::Live {
-        version: 1,
-        content,
-        meta: common.meta.copy()?,
-    })
+    let meta = common.meta.copy()?;
+    told.put(
+        key,
+        Told::Live {
+            version: 1,
+            content,
+            meta,
+        },
+    )
+}
+
+fn junction(alloc: Global, k: u32) -> Content
+    requires { 1 ≤ k }
+    ensures { result ≡ junction k }
+{
+    Content::Node {
+        tags: Tags::new(alloc),
+        at: place_of(k),
+    }
 }
 
 // The place of a node of the grid.
@@ -169,11 +241,34 @@ fn street(alloc: Global, common: &Common, j: u32) -> Result<Content, AllocError>
     requires few { (1 ≤ j) × (j ≤ 100000) }
     ensures { IfOk result (λ content. content ≡ street j) }
 {
-    let mut tags = Tags::new(alloc);
-    tags.put(common.highway.copy()?, common.residential.copy()?)?;
-    tags.put(common.name.copy()?, with_number(alloc, "Street ", j)?)?;
     let refs = Refs::from_vec(ten_from(alloc, 9 * (j - 1) + 1)?)?;
+    let tags = street_tags(alloc, common, j)?;
     Ok(Content::Way { tags, refs })
+}
+
+fn street_tags(alloc: Global, common: &Common, j: u32) -> Result<Tags, AllocError>
+    requires { common.now ≡ in_common }
+    ensures { IfOk result (λ tags. tags ≡ residential ++ named (codes "Street " ++ decimal j)) }
+{
+    let name = with_number(alloc, "Street ", j)?;
+    let mut tags = Tags::new(alloc);
+    put_copied(&mut tags, &common.highway, &common.residential)?;
+    put_tag(&mut tags, &common.name, name)?;
+    Ok(tags)
+}
+
+fn put_copied(tags: &mut Tags, key: &Text, value: &Text) -> Result<(), AllocError>
+    requires { 0 < length key.now }
+    ensures { OnOk result (tags.new ≡ with_tag tags.old key.now value.now) }
+{
+    put_tag(tags, key, value.copy()?)
+}
+
+fn put_tag(tags: &mut Tags, key: &Text, value: Text) -> Result<(), AllocError>
+    requires { 0 < length key.now }
+    ensures { OnOk result (tags.new ≡ with_tag tags.old key.now value) }
+{
+    tags.put(key.copy()?, value)
 }
 
 fn route(alloc: Global, common: &Common, q: u32) -> Result<Content, AllocError>
@@ -181,12 +276,29 @@ fn route(alloc: Global, common: &Common, q: u32) -> Result<Content, AllocError>
     requires few { (1 ≤ q) × (q ≤ 10000) }
     ensures { IfOk result (λ content. content ≡ route q) }
 {
-    let mut tags = Tags::new(alloc);
-    tags.put(common.number.copy()?, with_number(alloc, "", q)?)?;
-    tags.put(common.kind.copy()?, common.route.copy()?)?;
-    let streets = ten_from(alloc, 10 * (q - 1) + 1)?;
-    let members = Members::from_vec(legs(alloc, common, &streets)?)?;
+    let members = Members::from_vec(route_legs(alloc, common, q)?)?;
+    let tags = route_tags(alloc, common, q)?;
     Ok(Content::Relation { tags, members })
+}
+
+fn route_tags(alloc: Global, common: &Common, q: u32) -> Result<Tags, AllocError>
+    requires { common.now ≡ in_common }
+    ensures { IfOk result (λ tags. tags ≡ route_tags (decimal q)) }
+{
+    let number = with_number(alloc, "", q)?;
+    let mut tags = Tags::new(alloc);
+    put_tag(&mut tags, &common.number, number)?;
+    put_copied(&mut tags, &common.kind, &common.route)?;
+    Ok(tags)
+}
+
+fn route_legs(alloc: Global, common: &Common, q: u32) -> Result<Vec<Member>, AllocError>
+    requires common { common.now ≡ in_common }
+    requires few { (1 ≤ q) × (q ≤ 10000) }
+    ensures { IfOk result (λ members. members.items ≡ map leg (ten_from (10 * (q - 1) + 1))) }
+{
+    let streets = ten_from(alloc, 10 * (q - 1) + 1)?;
+    legs(alloc, common, &streets)
 }
 
 // The ways as members without a role.

@@ -6,17 +6,19 @@ use Rattle.sample_city.proofs.Allowed.{route_told}
 use Rattle.sample_city.proofs.Rows.{told_more}
 use Rattle.sample_city.proofs.city.tell_routes.Goals as goal
 
+pub tell-requires : goal.tell-requires
+tell-requires c = record {
+  common = c.requires.common;
+  allowed = rw (c.key.ensures, c.in_ok-route.ensures) (route_told c.loop-q.q c.loop-q.invariant.low (omega arith));
+}
+
 pub loop-q-preserved : goal.loop-q-preserved
 loop-q-preserved c =
-    let is : c.put.new.self ≡ with_told c.loop-q.told (numbered kind.Relation c.loop-q.q) (as_told (route c.loop-q.q)) =
-    c.in_ok-put.ensures.ok
-    ∙ ap₂ (with_told c.loop-q.told) c.key.ensures (c.in_ok-live.ensures ∙ ap as_told c.in_ok-route.ensures) in
+    let is : c.tell.new.told ≡ with_told c.loop-q.told (numbered kind.Relation c.loop-q.q) (as_told (route c.loop-q.q)) =
+    c.in_ok-tell.ensures
+    ∙ ap₂ (with_told c.loop-q.told) c.key.ensures (ap as_told c.in_ok-route.ensures) in
     record {
       low = omega arith;
       high = omega arith;
-      left = told_more kind.Relation route c.loop-q.q (c.args.routes + 1) c.loop-q.told c.put.new.self (omega arith) is ∙ c.loop-q.invariant.left;
+      left = told_more kind.Relation route c.loop-q.q (c.args.routes + 1) c.loop-q.told c.tell.new.told (omega arith) is ∙ c.loop-q.invariant.left;
     }
-
-pub put-requires : goal.put-requires
-put-requires c =
-    rw (c.key.ensures, c.in_ok-live.ensures, c.in_ok-route.ensures) (route_told c.loop-q.q c.loop-q.invariant.low (omega arith))
