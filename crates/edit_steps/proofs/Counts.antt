@@ -2,7 +2,8 @@
 use Rattle.std.proofs.Common.{◌≡◌, ℕ, zero, suc, ◌+◌, ◌≤◌, ◌<◌, Bool, true, false, List, [], ◌∷◌, ◌++◌, length, take, map, get_or, None, Some, refl, sym, ap, ◌∙◌, subst, arith, ◌⊎◌, inl, inr}
 use Rattle.std.specs.Prelude.{nat_le}
 use Rattle.std.proofs.lemmas.Bool.Decides.{nat_tests}
-use Rattle.std.proofs.lemmas.List.{take_more, take_all, get_or-map, length-map, length_push, map-append}
+use Rattle.std.proofs.Math.Nat.{eq-or-lt_of_le}
+use Rattle.std.proofs.lemmas.List.{take_more, take_all, get_or-map, get_or_append_left, get_or_push, length-map, length_push, map-append}
 use Rattle.tool_api.specs.declared.verb.Verb.{Verb}
 use Rattle.tool_api.specs.Plain.{same_verb}
 use Rattle.tool_api.proofs.SameVerb.{same_is}
@@ -138,44 +139,21 @@ pub record Gathered (verbs others : List Verb) (met : List (List Verb)) (i : ℕ
   pub boxes : (n : ℕ) (verb : Verb) → n < i → n + 1 ≤ count_verb verbs verb → IsThere verb (get_or met n [])
   pub left : (verb : Verb) → count_verb verbs verb ≤ count_verb others verb + i
 
-pub gathered_none : (verbs : List Verb) → Gathered verbs verbs [] 0
-gathered_none verbs = record { count = refl; boxes = λ n verb h some. absurd (omega (arith, h)); left = λ verb. omega arith }
-
-get_or_last : (vs : List (List Verb)) (v : List Verb) (n : ℕ) → n ≡ length vs → get_or (vs ++ v ∷ []) n [] ≡ v
-get_or_last [] v n e = ap (λ k. get_or (v ∷ []) k []) e
-get_or_last (w ∷ vs) v zero e = absurd (omega (arith, e))
-get_or_last (w ∷ vs) v (suc n) e = get_or_last vs v n (omega (arith, e))
-
-get_or_front : (vs : List (List Verb)) (v : List Verb) (n : ℕ) → n < length vs → get_or (vs ++ v ∷ []) n [] ≡ get_or vs n []
-get_or_front [] v n h = absurd (omega (arith, h))
-get_or_front (w ∷ vs) v zero h = refl
-get_or_front (w ∷ vs) v (suc n) h = get_or_front vs v n (omega (arith, h))
-
 pub gathered_on : (verbs left own others : List Verb) (met more : List (List Verb)) (i : ℕ) → more ≡ met ++ own ∷ [] → AreDealt left own others → Gathered verbs left met i → Gathered verbs others more (i + 1)
 gathered_on verbs left own others met more i is dealt before = record {
   count = ap length is ∙ length_push met own ∙ ap (λ n. n + 1) before.count;
-  boxes = λ n verb h some. subst (λ vs. IsThere verb (get_or vs n [])) (sym is) (boxes_by n verb some (split_le n i (omega (arith, h))));
+  boxes = λ n verb h some. subst (λ vs. IsThere verb (get_or vs n [])) (sym is) (boxes_by n verb some (eq-or-lt_of_le {n = n} {m = i} (omega (arith, h))));
   left = λ verb. omega (arith, before.left verb, dealt.counts verb, dealt.most verb);
 }
   where
-    split_le : (n k : ℕ) → n ≤ k → (n ≡ k) ⊎ (n < k)
-    split_le zero zero h = inl refl
-    split_le zero (suc k) h = inr (omega arith)
-    split_le (suc n) zero h = absurd (omega (arith, h))
-    split_le (suc n) (suc k) h = next (split_le n k (omega (arith, h)))
-      where
-        next : (n ≡ k) ⊎ (n < k) → (suc n ≡ suc k) ⊎ (suc n < suc k)
-        next (inl e) = inl (ap suc e)
-        next (inr l) = inr (omega (arith, l))
-
     some_own : (verb : Verb) → i + 1 ≤ count_verb verbs verb → (n : ℕ) → count_verb own verb ≡ n → 1 ≤ count_verb own verb
     some_own verb some zero e = dealt.first verb (omega (arith, e, some, before.left verb, dealt.counts verb))
     some_own verb some (suc n) e = omega (arith, e)
 
     boxes_by : (n : ℕ) (verb : Verb) → n + 1 ≤ count_verb verbs verb → (n ≡ i) ⊎ (n < i) → IsThere verb (get_or (met ++ own ∷ []) n [])
     boxes_by n verb some (inl e) =
-        subst (IsThere verb) (sym (get_or_last met own n (e ∙ sym before.count))) (counted_there own verb (some_own verb (omega (arith, some, e)) (count_verb own verb) refl))
-    boxes_by n verb some (inr h) = subst (IsThere verb) (sym (get_or_front met own n (omega (arith, h, before.count)))) (before.boxes n verb h some)
+        subst (IsThere verb) (sym (get_or_push met own [] n (before.count ∙ sym e))) (counted_there own verb (some_own verb (omega (arith, some, e)) (count_verb own verb) refl))
+    boxes_by n verb some (inr h) = subst (IsThere verb) (sym (get_or_append_left met (own ∷ []) [] n (omega (arith, h, before.count)))) (before.boxes n verb h some)
 
 pub gathered_first : (verbs : List Verb) (met : List (List Verb)) → met ≡ [] → Gathered verbs verbs met 0
-gathered_first verbs met none = subst (λ vs. Gathered verbs verbs vs 0) (sym none) (gathered_none verbs)
+gathered_first verbs met none = subst (λ vs. Gathered verbs verbs vs 0) (sym none) (record { count = refl; boxes = λ n verb h some. absurd (omega (arith, h)); left = λ verb. omega arith })

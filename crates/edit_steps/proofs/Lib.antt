@@ -10,4 +10,5 @@ mod Ran
 mod Refusing
 mod Settles
 pub mod Steps
+pub mod Tests
 mod Texts

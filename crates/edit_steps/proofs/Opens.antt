@@ -5,8 +5,8 @@ use Rattle.dataset.specs.Patch.{PatchValue}
 use Rattle.tool_api.specs.declared.reply.Reply.{Reply}
 use Rattle.tool_api.specs.declared.reply.Reply.TheVariants as reply
 use Rattle.edit_script.specs.declared.step.Act.{Act}
-use Rattle.edit_script.specs.declared.step.Act.TheVariants.{Job, Generate, History, Look, File, Serve, Editor, Meet}
-use Rattle.edit_script.specs.declared.step.HistoryStep.TheVariants.{Begin, End, Undo, Redo}
+use Rattle.edit_script.specs.declared.step.Act.TheVariants.{Job, Generate, History, File}
+use Rattle.edit_script.specs.declared.step.HistoryStep.TheVariants.{Begin, Undo, Redo}
 use Rattle.edit_script.specs.declared.step.Purpose.TheVariants.{Download, Import, Confirm, Resume}
 use Rattle.edit_script.specs.declared.reply.StepRefusal.{StepRefusal}
 use Rattle.edit_script.specs.Order.{inside_after, may_stand}
@@ -14,10 +14,12 @@ use Rattle.edit_history.specs.declared.counts.Group.{Group}
 use Rattle.edit_history.specs.declared.counts.Group.TheVariants.{Outside, Running, Refused}
 use Rattle.edit_history.specs.Machine.{State, done_in, refused_in, ran}
 use Rattle.edit_history.specs.Moved.{Move}
+use Rattle.edit_history.specs.declared.edit_step.EditAnswer.{EditAnswer}
 use Rattle.edit_steps.specs.declared.limits.Limits.{Limits}
 use Rattle.edit_steps.specs.declared.loading.Found.{Found}
 use Rattle.edit_steps.specs.declared.loading.Found.TheVariants as found
 use Rattle.edit_steps.specs.Groups.{is_open, is_given_up}
+use Rattle.edit_steps.proofs.Tests.{either}
 use Rattle.edit_steps.specs.Turn.{turn, act_turn, file_turn, settled_turn, confirm_turn, resume_turn, skipped_turn}
 use Rattle.edit_steps.specs.Settled.{confirmed, resumed}
 
@@ -37,10 +39,7 @@ ran_open (reply.Refused why) u s going = refused_open s.group s refl going
 
 file_open : (limit : ℕ) (found : Found) (s : State) → is_given_up s.group ≡ false → is_open (file_turn limit found s).state.group ≡ is_open s.group
 file_open limit (found.Job job) s going = ran_open _ _ s going
-file_open limit (found.Bad fault) s going = refused_open s.group s refl going
-file_open limit found.Nothing s going = refused_open s.group s refl going
-file_open limit (found.Bytes bytes) s going = refused_open s.group s refl going
-file_open limit (found.Objects objects) s going = refused_open s.group s refl going
+file_open limit f s going = refused_open s.group s refl going
 
 settled_open : (answer : Result PatchValue StepRefusal) (s : State) → is_open s.group ≡ false → is_open (settled_turn answer s).state.group ≡ is_open s.group
 settled_open (Ok patch) s outside = sym outside
@@ -48,42 +47,27 @@ settled_open (Err why) s outside = refl
 
 confirm_open : (found : Found) (s : State) → is_given_up s.group ≡ false → is_open s.group ≡ false → is_open (confirm_turn found s).state.group ≡ is_open s.group
 confirm_open (found.Bytes bytes) s going outside = settled_open (confirmed s.now bytes) s outside
-confirm_open (found.Bad fault) s going outside = refused_open s.group s refl going
-confirm_open found.Nothing s going outside = refused_open s.group s refl going
-confirm_open (found.Job job) s going outside = refused_open s.group s refl going
-confirm_open (found.Objects objects) s going outside = refused_open s.group s refl going
+confirm_open f s going outside = refused_open s.group s refl going
 
 resume_open : (limit : ℕ) (found : Found) (s : State) → is_given_up s.group ≡ false → is_open s.group ≡ false → is_open (resume_turn limit found s).state.group ≡ is_open s.group
 resume_open limit (found.Bytes bytes) s going outside = settled_open (resumed limit s.now bytes) s outside
-resume_open limit (found.Bad fault) s going outside = refused_open s.group s refl going
-resume_open limit found.Nothing s going outside = refused_open s.group s refl going
-resume_open limit (found.Job job) s going outside = refused_open s.group s refl going
-resume_open limit (found.Objects objects) s going outside = refused_open s.group s refl going
+resume_open limit f s going outside = refused_open s.group s refl going
 
--- answers and saved sessions are taken outside groups alone
-taken_outside : (is_inside : Bool) (a : Act) → may_stand true a ≡ false → may_stand is_inside a ≡ true → is_inside ≡ false
+-- what may not stand in a group stands outside
+pub taken_outside : (is_inside : Bool) (a : Act) → may_stand true a ≡ false → may_stand is_inside a ≡ true → is_inside ≡ false
 taken_outside true a never stands = absurd cc
 taken_outside false a never stands = refl
-
-either_open : {T : Type 0} (test : Bool) (a b : Move T) (open_before : Bool) → is_open a.state.group ≡ open_before → is_open b.state.group ≡ open_before → is_open (if test then a else b).state.group ≡ open_before
-either_open true a b open_before e f = e
-either_open false a b open_before e f = f
 
 act_open : (limits : Limits) (found : Found) (act : Act) (s : State) → may_stand (is_open s.group) act ≡ true → is_given_up s.group ≡ false → is_open (act_turn limits found act s).state.group ≡ inside_after (is_open s.group) act
 act_open limits found (Job job) s stands going = ran_open _ _ s going
 act_open limits found (Generate streets) s stands going = ran_open _ _ s going
-act_open limits found (History Begin) s stands going = refl
-act_open limits found (History End) s stands going = refl
-act_open limits found (History (Undo n)) s stands going = either_open _ _ _ (is_open s.group) refl refl
-act_open limits found (History (Redo n)) s stands going = either_open _ _ _ (is_open s.group) refl refl
-act_open limits found (Look look) s stands going = refl
+act_open limits found (History (Undo n)) s stands going = either (λ (m : Move EditAnswer). is_open m.state.group ≡ is_open s.group) _ _ _ refl refl
+act_open limits found (History (Redo n)) s stands going = either (λ (m : Move EditAnswer). is_open m.state.group ≡ is_open s.group) _ _ _ refl refl
 act_open limits found (File name (Download area wanted)) s stands going = file_open limits.objects found s going
 act_open limits found (File name Import) s stands going = file_open limits.objects found s going
 act_open limits found (File name Confirm) s stands going = confirm_open found s going (taken_outside (is_open s.group) (File name Confirm) refl stands)
 act_open limits found (File name Resume) s stands going = resume_open limits.objects found s going (taken_outside (is_open s.group) (File name Resume) refl stands)
-act_open limits found (Serve name) s stands going = refl
-act_open limits found (Editor n) s stands going = refl
-act_open limits found (Meet step) s stands going = refl
+act_open limits found act s stands going = refl
 
 pub given_up_open : (g : Group) → is_given_up g ≡ true → is_open g ≡ true
 given_up_open Outside e = absurd cc
@@ -92,16 +76,7 @@ given_up_open Refused e = refl
 
 skipped_open : (act : Act) (s : State) → is_given_up s.group ≡ true → is_open (skipped_turn act s).state.group ≡ inside_after (is_open s.group) act
 skipped_open (History Begin) s given_up = given_up_open s.group given_up
-skipped_open (History End) s given_up = refl
-skipped_open (History (Undo n)) s given_up = refl
-skipped_open (History (Redo n)) s given_up = refl
-skipped_open (Job job) s given_up = refl
-skipped_open (Generate streets) s given_up = refl
-skipped_open (Look look) s given_up = refl
-skipped_open (File name purpose) s given_up = refl
-skipped_open (Serve name) s given_up = refl
-skipped_open (Editor n) s given_up = refl
-skipped_open (Meet step) s given_up = refl
+skipped_open act s given_up = refl
 
 turn_open_by : (limits : Limits) (found : Found) (act : Act) (s : State) (given_up : Bool) → may_stand (is_open s.group) act ≡ true → is_given_up s.group ≡ given_up → is_open (if given_up then skipped_turn act s else act_turn limits found act s).state.group ≡ inside_after (is_open s.group) act
 turn_open_by limits found act s true stands e = skipped_open act s e

@@ -8,10 +8,8 @@ use Rattle.edit_script.specs.declared.reply.StepRefusal.{StepRefusal}
 use Rattle.edit_steps.specs.Planned.{plan_refused, planned}
 
 gives_err : (why : PlanRefusal) (answer : Result (List Change) PlanRefusal) → Gives (Err why) answer → why ≢ plan.Memory → answer ≡ Err why
-gives_err (plan.Conflicts count first) answer is found = is
-gives_err (plan.IncompleteRef key of) answer is found = is
-gives_err (plan.Cyclic keys) answer is found = is
 gives_err plan.Memory answer is found = absurd (found refl)
+gives_err why answer is found = is
 
 -- a refused plan
 pub planned_refused : (why : PlanRefusal) (refusal : StepRefusal) (answer : Result (List Change) PlanRefusal) → Gives (Err why) answer → why ≢ plan.Memory → refusal ≡ plan_refused why → Err refusal ≡ planned answer

@@ -11,20 +11,16 @@ use Rattle.edit_script.specs.declared.reply.StepRefusal.{StepRefusal}
 use Rattle.edit_steps.specs.Settled.{answers_refused, of_answers, saved_refused, of_saved}
 
 confirms_err : (why : ConfirmFault) (answer : Result PatchValue ConfirmFault) → Confirms (Err why) answer → why ≢ answers.Memory → answer ≡ Err why
-confirms_err (answers.Plan refusal) answer is found = is
-confirms_err (answers.WrongAnswer line) answer is found = is
-confirms_err (answers.IdTaken key) answer is found = is
 confirms_err answers.Memory answer is found = absurd (found refl)
+confirms_err why answer is found = is
 
 -- answers that aren't taken
 pub confirm_refused : (why : ConfirmFault) (refusal : StepRefusal) (answer : Result PatchValue ConfirmFault) → Confirms (Err why) answer → why ≢ answers.Memory → refusal ≡ answers_refused why → Err refusal ≡ of_answers answer
 confirm_refused why refusal answer is found same = ap Err same ∙ sym (ap of_answers (confirms_err why answer is found))
 
 resumes_err : (why : SavedFault) (answer : Result PatchValue SavedFault) → Resumes (Err why) answer → why ≢ saved.Memory → answer ≡ Err why
-resumes_err (saved.BadSaved line) answer is found = is
-resumes_err (saved.Unsound key) answer is found = is
-resumes_err saved.TableFull answer is found = is
 resumes_err saved.Memory answer is found = absurd (found refl)
+resumes_err why answer is found = is
 
 -- a saved session that isn't taken
 pub resume_refused : (why : SavedFault) (refusal : StepRefusal) (answer : Result PatchValue SavedFault) → Resumes (Err why) answer → why ≢ saved.Memory → refusal ≡ saved_refused why → Err refusal ≡ of_saved answer

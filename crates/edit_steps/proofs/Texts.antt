@@ -1,13 +1,9 @@
 -- Texts that are written one behind the other.
-use Rattle.std.proofs.Common.{◌≡◌, ℕ, List, ◌++◌, Result, Ok, Err, OnOk, ap, ◌∙◌, append_assoc}
+use Rattle.std.proofs.Common.{◌≡◌, ℕ, List, ◌++◌, Result, OnOk, ap, ◌∙◌, append_assoc}
+use Rattle.edit_script.proofs.Texts.{last_text}
 
 pub two_texts : (old first new p q : List ℕ) → first ≡ old ++ p → new ≡ first ++ q → new ≡ old ++ (p ++ q)
 two_texts old first new p q a b = b ∙ ap (λ l. l ++ q) a ∙ append_assoc old p q
-
--- the last one by a call whose answer is returned
-pub last_text : {T E : Type 0} (result : Result T E) (old first new p q : List ℕ) → first ≡ old ++ p → OnOk result (new ≡ first ++ q) → OnOk result (new ≡ old ++ (p ++ q))
-last_text (Ok x) old first new p q a b = two_texts old first new p q a b
-last_text (Err e) old first new p q a b = tt
 
 pub last_of_four : {T E : Type 0} (result : Result T E) (old first second third new p q r s : List ℕ) → first ≡ old ++ p → second ≡ first ++ q → third ≡ second ++ r → OnOk result (new ≡ third ++ s)
     → OnOk result (new ≡ old ++ (p ++ (q ++ (r ++ s))))

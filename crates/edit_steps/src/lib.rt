@@ -11,7 +11,7 @@
 //! Each function that moves the history has one `requires` and one `ensures` on it (`Fits`, `Moved`);
 //! each that writes promises the whole text after Ok and a front of it after Err. To add a look, which an editor may take who
 //! waits for an answer, give `look_answer` a line and `look_at` an arm; to add something for which a file is read, give
-//! `file_found` and `purpose_turn` a line, and `find_file` and `interpret_act` an arm, with its lemma in `proofs/Doings`. A text
+//! `file_found` and `purpose_turn` a line, and `find_file` and `interpret_act` an arm. A text
 //! of its own behind a reply is a variant of `Behind`, and a file of another kind one of `Found`.
 #![tactic(auto)]
 

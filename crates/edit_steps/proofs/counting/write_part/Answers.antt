@@ -1,7 +1,7 @@
 use Rattle.std.proofs.lemmas.Result.{on_err_weaker}
 use Rattle.osm_base.proofs.ExtendLaws.{extends_more}
 use Rattle.edit_steps.specs.Counted.{part}
-use Rattle.edit_steps.proofs.Texts.{last_text}
+use Rattle.edit_script.proofs.Texts.{last_text}
 use Rattle.edit_steps.proofs.counting.write_part.Goals as goal
 
 pub returns : goal.returns

@@ -1,6 +1,6 @@
 use Rattle.std.proofs.lemmas.Result.{on_err_weaker}
 use Rattle.osm_base.proofs.ExtendLaws.{extends_more}
-use Rattle.edit_steps.proofs.Texts.{last_text}
+use Rattle.edit_script.proofs.Texts.{last_text}
 use Rattle.edit_steps.proofs.sent.write_key_behind.Goals as goal
 
 pub returns : goal.returns
