@@ -19,23 +19,14 @@ pub finds_always : {F G X : Type 0} (o : Option F) (there : F → G) (other : G)
 finds_always None there other found x is = record { given = other; is = is; by_files = tt }
 finds_always (Some files) there other found x is = record { given = there files; is = is; by_files = refl }
 
--- what comes of what was found
-pub finds_then : {F G X Y : Type 0} (o : Option F) (there : F → G) (found : X) (comes : G → X) (f : X → Y) (x : Y) → Finds o there found comes → x ≡ f found → Finds o there x (λ given. f (comes given))
-finds_then o there found comes f x finds is = record { given = finds.given; is = is ∙ ap f finds.is; by_files = finds.by_files }
-
-not_begun : (h rest : Option (List ℕ)) → Begins h false rest → None ≡ h
-not_begun None rest begins = refl
-not_begun (Some bytes) rest begins = let never : false ≡ true = begins.0 in absurd cc
+-- what a read would have given, and what comes of it
+pub would_find : {F G X : Type 0} (o : Option F) (there : F → G) (other : G) (comes : G → X) → (found : X) × Finds o there found comes
+would_find None there other comes = (comes other, record { given = other; is = refl; by_files = tt })
+would_find (Some files) there other comes = (comes (there files), record { given = there files; is = refl; by_files = refl })
 
 begun : (h rest : Option (List ℕ)) → Begins h true rest → (bytes : List ℕ) × (h ≡ Some bytes) × (rest ≡ Some bytes)
 begun None rest begins = let never : true ≡ false = begins in absurd cc
 begun (Some bytes) rest begins = (bytes, refl, begins.1)
-
--- no file was begun
-pub finds_missing : {X : Type 0} (o : Option Shelved) (name : List ℕ) (rest : Option (List ℕ)) (found : X) (comes : Given → X) → found ≡ comes None
-    → IfSome o (λ files. Begins (held files name) false rest) → Finds o (λ files. held files name) found comes
-finds_missing None name rest found comes is begins = record { given = None; is = is; by_files = tt }
-finds_missing (Some files) name rest found comes is begins = record { given = None; is = is; by_files = not_begun (held files name) rest begins }
 
 -- a file was begun, and read
 pub finds_begun : {X : Type 0} (o : Option Shelved) (name : List ℕ) (rest : Option (List ℕ)) (found : X) (comes : Given → X)

@@ -42,9 +42,6 @@ pub record Ended {S : Type 0} (runs : List Given → List Step → S → List (S
 texts_push : {X : Type 0} (text : X → List ℕ) (xs : List X) (x : X) → flat_map text (xs ++ x ∷ []) ≡ flat_map text xs ++ text x
 texts_push text xs x = flat_map-append text xs (x ∷ []) ∙ ap (λ l. flat_map text xs ++ l) (append-nil (text x))
 
-all_front : (old new : Option (List ℕ)) (text : List ℕ) → Appends old new text → AppendsFront old new text
-all_front old new text all = record { front = text; back = []; whole = sym (append-nil text); appended = all }
-
 module _ {S : Type 0} (runs : List Given → List Step → S → List (Step × Given × S)) (text : Step × Given × S → List ℕ) (Good : Step × Given × S → Type 0) (o : Option Shelved) (old : Option (List ℕ)) (steps : List Step) (first : S) where
   pub starts : (s : S) → s ≡ first → Goes runs text Good o old old 0 steps first s
   starts s same = record { given = []; by_files = first_files o steps; before = []; on = λ more. ap (runs more steps) (sym same); written = Appends-nil old; good = All-nil Good }
@@ -63,12 +60,6 @@ module _ {S : Type 0} (runs : List Given → List Step → S → List (Step × G
       }
 
   module _ (mid : Option (List ℕ)) (i : ℕ) (s : S) (goes : Goes runs text Good o old mid i steps first s) where
-    -- Nothing is written of the step.
-    pub stops : (Ready : Step × Given × S → Type 0) → ((at : Step × Given × S) → Good at → Ready at) → Stopped runs text Ready o old mid steps first
-    stops Ready weaker = let rest = rest_given o (drop i steps) in
-        stopped_at Ready mid (goes.given ++ rest) goes.before (runs rest (drop i steps) s) (closes o goes.given (drop i steps) steps goes.by_files) (goes.on rest)
-        (all_front old mid (flat_map text goes.before) goes.written) (All-weaker Good Ready weaker goes.before goes.good)
-
     -- All steps have run.
     pub ends : length steps ≤ i → ((given : List Given) → runs given [] s ≡ []) → Ended runs text Good o old mid steps first
     ends past none =

@@ -40,11 +40,6 @@ module _ (limits : Limits) (o : Option Shelved) (old : Option (List ℕ)) where
   }
 
   module _ (mid : Option (List ℕ)) (i : ℕ) (steps : List Step) (s : State) (goes : StepsGo mid i steps s) where
-    -- The read fails.
-    pub steps_stop : {T : Type 0} (stop : Stop) → StepsRan {T = T} {E = Stop} limits o old mid (Err stop) steps
-    steps_stop stop =
-        ran_stopped mid steps stop (run.stops (states_before limits) (λ (at : Step × Given × State). step_text limits at.1 at.0 at.2) (λ (at : Step × Given × State). IsSound at.2.now) o old steps first_state mid i s goes (λ (at : Step × Given × State). IsSound at.2.now) (λ at sound. sound))
-
     -- All steps have run.
     pub steps_end : {T : Type 0} (x : T) → length steps ≤ i → StepsRan {T = T} {E = Stop} limits o old mid (Ok x) steps
     steps_end x past =

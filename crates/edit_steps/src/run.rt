@@ -7,7 +7,7 @@ ghost use Rattle.edit_steps.specs.Asked.{MayTake, MayRunAll};
 ghost use Rattle.edit_steps.specs.Load.{MayFind};
 ghost use Rattle.edit_steps.specs.Planned.{IsSized};
 ghost use Rattle.edit_history.specs.Moved.{Fits};
-ghost use Rattle.edit_steps.specs.Send.{Plays};
+ghost use Rattle.edit_steps.specs.Send.{Plays, RunsNext};
 ghost use Rattle.edit_steps.specs.States.{StepsRan};
 ghost use Rattle.edit_steps.specs.Stop.{StopCause, WriteCause};
 ghost use Rattle.edit_steps.specs.Turn.{turn, behind_text, response_text};
@@ -47,11 +47,28 @@ pub fn run_steps<S: Shelf, K: Sink>(
     ensures cause { StopCause (S.faults shelf.old) (S.faults shelf.new) (K.faults out.old) (K.faults out.new) result }
 {
     for step in steps {
-        history.ds().sound();
-        let found = find(alloc, limits, shelf, history.group(), &step.act)?;
-        run_step(alloc, limits, out, history, step, &found)?;
+        run_next(alloc, limits, shelf, out, history, step)?;
     }
     Ok(())
+}
+
+// Runs the next step, over a sound table: what it finds on the shelf, and what it does with that.
+fn run_next<S: Shelf, K: Sink>(
+    alloc: Global,
+    limits: Limits,
+    shelf: &mut S,
+    out: &mut K,
+    history: &mut History,
+    step: &Step,
+) -> Result<(), Stop>
+    requires { Fits (λ b. done (b.vtable, b.value)) (λ b. undone (b.vtable, b.value)) (λ b. kind (b.vtable, b.value)) history.old (MayTake step.now.act) }
+    ensures told { S.told shelf.new ≡ S.told shelf.old }
+    ensures runs { RunsNext (λ b. done (b.vtable, b.value)) (λ b. undone (b.vtable, b.value)) (λ b. kind (b.vtable, b.value)) limits (S.told shelf.old) history.old history.new (K.taken out.old) (K.taken out.new) result step.now }
+    ensures cause { StopCause (S.faults shelf.old) (S.faults shelf.new) (K.faults out.old) (K.faults out.new) result }
+{
+    history.ds().sound();
+    let found = find(alloc, limits, shelf, history.group(), &step.act)?;
+    run_step(alloc, limits, out, history, step, &found)
 }
 
 // Runs one step: what it does, its reply, and the text behind the reply.
