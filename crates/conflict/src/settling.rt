@@ -150,10 +150,25 @@ pub fn settle_plan(ds: &DataSet, key: Key, entry: Entry, limit: u64) -> Result<P
 {
     let mut refs = Vec::new(ds.alloc());
     push_refs_by(mine(&entry), &mut refs)?;
-    if let Some(refusal) = settled_tests(ds, key, &entry, &refs)? {
+    settled_plan(ds, key, entry, &refs, limit)
+}
+
+/// As `settle_plan`, with what the entry refers to.
+fn settled_plan(
+    ds: &DataSet,
+    key: Key,
+    entry: Entry,
+    refs: &[Key],
+    limit: u64,
+) -> Result<Plan, AllocError>
+    requires sound { settled_tests ds.now key entry ≡ None → IsSound (settled_table ds.now key (Some entry)) }
+    requires refs { refs.now ≡ refs_by (mine_of entry) }
+    ensures { IfOk result (Plans ds.now (settle ds.now limit key (Some entry))) }
+{
+    if let Some(refusal) = settled_tests(ds, key, &entry, refs)? {
         return Ok(Plan::Refused(refusal));
     }
-    let draft = settled_draft(ds, key, entry, &refs)?;
+    let draft = settled_draft(ds, key, entry, refs)?;
     if let Some(refusal) = room_test(ds, &draft, limit)? {
         return Ok(Plan::Refused(refusal));
     }

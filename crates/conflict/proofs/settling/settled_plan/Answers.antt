@@ -2,7 +2,7 @@ use Rattle.std.proofs.Common.{◌∙◌, sym, subst}
 use Rattle.dataset.specs.Draft.{drafted}
 use Rattle.dataset.specs.Sound.{IsSound}
 use Rattle.conflict.proofs.Plans.{refused, no_room, settles}
-use Rattle.conflict.proofs.settling.settle_plan.Goals as goal
+use Rattle.conflict.proofs.settling.settled_plan.Goals as goal
 
 pub returns-in-Some : goal.returns-in-Some
 returns-in-Some c = refused c.args.ds.now c.args.limit c.args.key c.args.entry c.in-Some.refusal (sym c.in-Some.is ∙ c.in_ok-refusal.ensures)
