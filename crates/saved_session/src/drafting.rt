@@ -3,7 +3,7 @@
 ghost use Rattle.std.specs.Prelude.{◌≡◌, OnOk, IfOk, T};
 ghost use Rattle.std.specs.FinMap.Entries.{is_sorted};
 ghost use Rattle.osm_base.specs.Rank.{rank_cmp};
-ghost use Rattle.osm_table.specs.Table.{with_entry, without_entry};
+ghost use Rattle.osm_table.specs.Table.{keys_by_rank, with_entry, without_entry};
 ghost use Rattle.dataset.specs.Draft.{drafted};
 ghost use Rattle.saved_session.specs.Drafting.{with_all, without_all};
 ghost use Rattle.saved_session.specs.Reading.{table_of};
@@ -37,6 +37,14 @@ fn take_all_out(ds: &DataSet, draft: &mut Draft, keys: &[Key]) -> Result<(), All
     Ok(())
 }
 
+/// Takes all keys of the table out.
+fn empty_out(ds: &DataSet, draft: &mut Draft) -> Result<(), AllocError>
+    ensures { OnOk result (drafted draft.new ds.now ≡ without_all (keys_by_rank ds.now) (drafted draft.old ds.now)) }
+{
+    let keys = ds.ordered()?;
+    take_all_out(ds, draft, keys.as_slice())
+}
+
 fn put_all_in(ds: &DataSet, draft: &mut Draft, entries: &KeyedEntries) -> Result<(), AllocError>
     ensures { OnOk result (drafted draft.new ds.now ≡ with_all entries.now (drafted draft.old ds.now)) }
 {
@@ -56,8 +64,7 @@ pub fn draft_of(ds: &DataSet, saved: &KeyedTable) -> Result<Draft, AllocError>
     ensures { IfOk result (λ draft. drafted draft ds.now ≡ table_of (record { next = saved.now.next; entries = saved.now.entries })) }
 {
     let mut draft = Draft::with_capacity(ds, saved.entries.len())?;
-    let keys = ds.ordered()?;
-    take_all_out(ds, &mut draft, keys.as_slice())?;
+    empty_out(ds, &mut draft)?;
     put_all_in(ds, &mut draft, &saved.entries)?;
     draft.set_next(saved.next);
     Ok(draft)

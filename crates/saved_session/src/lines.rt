@@ -1,10 +1,11 @@
 //! The lines of a saved session, read one after the other.
 
-ghost use Rattle.std.specs.Prelude.{◌≡◌, ◌++◌, ◌+◌, ◌<◌, ◌^◌, Some, None, Ok, length, MatchResult, OnOk};
-ghost use Rattle.std.specs.Option.{option_to_list};
+ghost use Rattle.std.specs.Prelude.{◌≡◌, ◌++◌, ◌+◌, ◌<◌, ◌^◌, [], Some, None, Ok, length, MatchResult, OnOk, IfOk};
+ghost use Rattle.std.specs.Option.{option_map, option_to_list};
 ghost use Rattle.opl_file.specs.Cut.{lines_of};
+ghost use Rattle.saved_session.specs.declared.place.Place.{Place};
 ghost use Rattle.saved_session.specs.declared.place.Place.TheVariants.{Head};
-ghost use Rattle.saved_session.specs.Reading.{has_ended, entries_from, session_from, behind_header};
+ghost use Rattle.saved_session.specs.Reading.{Entries, has_ended, entries_from, session_from, behind_header, step, stepped};
 ghost use Rattle.saved_session.specs.Words.{header_of};
 ghost use Rattle.saved_session.specs.Drafting.{Refuses};
 
@@ -42,34 +43,70 @@ fn has_ended(place: &Place) -> bool
     }
 }
 
-/// The entries of the lines behind a header, which has that number.
-fn read_entries(desk: &mut Desk, number: u64, bytes: &[u8]) -> Result<Vec<SavedEntry>, SavedFault>
-    requires { number + 1 + length bytes.now < 2 ^ 64 }
-    ensures { MatchResult result (λ es. entries_from (number + 1) (Head None) (lines_of bytes.now) ≡ Ok es.items) (Refuses (entries_from (number + 1) (Head None) (lines_of bytes.now))) }
+/// Adds what a line made, and answers where the next one stands.
+fn put_made(entries: &mut Vec<SavedEntry>, made: Step) -> Result<Place, AllocError>
+    ensures place { IfOk result (λ next. next ≡ made.place) }
+    ensures entries { OnOk result (entries.new.items ≡ entries.old.items ++ option_to_list made.entry) }
 {
-    let mut entries = Vec::new(desk.pool.allocator());
+    let Step { place, entry } = made;
+    push_made(entries, entry).and(Ok(place))
+}
+
+/// Adds what the line, which has that number, makes in its place, and answers where the next one stands.
+fn next_place(
+    desk: &mut Desk,
+    entries: &mut Vec<SavedEntry>,
+    here: Place,
+    number: u64,
+    line: &[u8],
+) -> Result<Place, SavedFault>
+    ensures { MatchResult result (λ next. option_map {U = Place × Entries} (λ s. (s.place, entries.old.items ++ option_to_list s.entry)) (step here line.now) ≡ Some (next, entries.new.items)) (Refuses (stepped number (step here line.now) (λ _. Ok []))) }
+{
+    match step(desk, here, line) {
+        Err(Unread::Memory) => Err(SavedFault::Memory),
+        Err(Unread::Outside) => Err(SavedFault::BadSaved { line: number }),
+        Ok(made) => Ok(put_made(entries, made)?),
+    }
+}
+
+/// Adds the entries of the lines behind a header, which has that number.
+fn read_lines(
+    desk: &mut Desk,
+    entries: &mut Vec<SavedEntry>,
+    number: u64,
+    bytes: &[u8],
+) -> Result<(), SavedFault>
+    requires none { entries.old.items ≡ [] }
+    requires few { number + 1 + length bytes.now < 2 ^ 64 }
+    ensures { MatchResult result (λ _. entries_from (number + 1) (Head None) (lines_of bytes.now) ≡ Ok entries.new.items) (Refuses (entries_from (number + 1) (Head None) (lines_of bytes.now))) }
+{
     let mut place = Place::Head { last: None };
     let mut count = number;
     let mut rest = bytes;
     while !rest.is_empty() {
         let (line, after) = next_line(rest);
         count += 1;
-        match step(desk, place, freed(line)) {
-            Err(Unread::Memory) => return Err(SavedFault::Memory),
-            Err(Unread::Outside) => return Err(SavedFault::BadSaved { line: count }),
-            Ok(made) => {
-                let Step { place: next, entry } = made;
-                push_made(&mut entries, entry)?;
-                place = next;
-            }
-        }
+        place = next_place(desk, entries, place, count, freed(line))?;
         rest = after;
     }
-    if has_ended(&place) {
-        Ok(entries)
+    // Dropped by a call: on a way out, the code of all that a place owns would be written out.
+    let ended = has_ended(&place);
+    drop(place);
+    if ended {
+        Ok(())
     } else {
         Err(SavedFault::BadSaved { line: count + 1 })
     }
+}
+
+/// The entries of the lines behind a header, which has that number.
+fn read_entries(desk: &mut Desk, number: u64, bytes: &[u8]) -> Result<Vec<SavedEntry>, SavedFault>
+    requires { number + 1 + length bytes.now < 2 ^ 64 }
+    ensures { MatchResult result (λ es. entries_from (number + 1) (Head None) (lines_of bytes.now) ≡ Ok es.items) (Refuses (entries_from (number + 1) (Head None) (lines_of bytes.now))) }
+{
+    let mut entries = Vec::new(desk.pool.allocator());
+    read_lines(desk, &mut entries, number, bytes)?;
+    Ok(entries)
 }
 
 /// The table of a text. All before the first line that begins with `session ` is skipped.

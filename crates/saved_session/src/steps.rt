@@ -1,10 +1,17 @@
 //! What a line makes in its place.
 
-ghost use Rattle.std.specs.Prelude.{◌≡◌, IfOk, codes};
+ghost use Rattle.std.specs.Prelude.{◌≡◌, ◌==◌, ◌&&◌, if◌then◌else◌, not, is_some, Some, None, IfOk, codes};
 ghost use Rattle.std.specs.Str.{bytes_eq};
 ghost use Rattle.osm_base.specs.Meta.{empty_meta};
+ghost use Rattle.osm_base.specs.Rank.{is_key};
+ghost use Rattle.osm_base.specs.Same.{same_meta};
+ghost use Rattle.osm_table.specs.Same.{same_mine};
 ghost use Rattle.osm_table.specs.Table.{held_by};
+ghost use Rattle.osm_table.specs.declared.entry.Entry.TheVariants as entries;
 ghost use Rattle.opl_file.specs.Unread.{Gives};
+ghost use Rattle.saved_session.specs.declared.place.Place.TheVariants as places;
+ghost use Rattle.saved_session.specs.declared.words.Head.TheVariants as heads;
+ghost use Rattle.saved_session.specs.Saved.{mine_version};
 ghost use Rattle.saved_session.specs.Reading.{object_written, object_text, object_behind, server_base, base_as, base_at, mine_at, theirs_at, may_stand, is_behind, awaiting, ending, with_mine, with_base, with_words, with_head, step};
 
 use crate::heads::{cut_word, read_head};
@@ -55,13 +62,38 @@ fn read_object(desk: &mut Desk, key: Key, text: &[u8]) -> Result<OplObject, Unre
 {
     match read_line(&mut desk.pool, text, Mode::Import)? {
         LineKind::Skipped => Err(Unread::Outside),
-        LineKind::Object(object) => {
-            if same_key(key, object.key) && is_written(&mut desk.written, &object, text)? {
-                Ok(object)
-            } else {
-                Err(Unread::Outside)
-            }
-        }
+        LineKind::Object(object) => as_written(&mut desk.written, key, object, text),
+    }
+}
+
+fn as_written(
+    written: &mut Vec<u8>,
+    key: Key,
+    object: OplObject,
+    text: &[u8],
+) -> Result<OplObject, Unread>
+    ensures { Gives result (if is_key key object.key && bytes_eq (object_written object) text.now then Some object else None) }
+{
+    if is_asked(written, key, &object, text)? {
+        Ok(object)
+    } else {
+        Err(Unread::Outside)
+    }
+}
+
+/// Whether the text is the written form of the object, and the object has that key.
+fn is_asked(
+    written: &mut Vec<u8>,
+    key: Key,
+    object: &OplObject,
+    text: &[u8],
+) -> Result<bool, AllocError>
+    ensures { IfOk result (λ asked. asked ≡ (is_key key object.now.key && bytes_eq (object_written object.now) text.now)) }
+{
+    if same_key(key, object.key) {
+        is_written(written, object, text)
+    } else {
+        Ok(false)
     }
 }
 
@@ -116,17 +148,24 @@ fn base_at(desk: &mut Desk, key: Key, word: BaseWord, line: &[u8]) -> Result<Bas
     base_as(word, object.version, object.side, object.meta).ok_or(Unread::Outside)
 }
 
+/// Whether the object may stand as mine beside that base.
+fn is_own(object: &OplObject, key: Key, base: &Base, unknown: &Meta) -> bool
+    requires { unknown.now ≡ empty_meta }
+    ensures { result ≡ (is_some object.now.side && not (same_mine object.now.side (held_by base.now)) && object.now.version == mine_version key.id && same_meta object.now.meta empty_meta) }
+{
+    object.side.is_some()
+        && !same_mine(object.side.as_ref(), base.content())
+        && object.version == mine_version(key.id)
+        && object.meta.same(unknown)
+}
+
 #[tactic(auto, unfolding(crate::specs::Reading::mine_at))]
 fn mine_at(desk: &mut Desk, key: Key, base: &Base, line: &[u8]) -> Result<Option<Content>, Unread>
     ensures { Gives result (mine_at key base.now line.now) }
 {
     let unknown = Meta::empty(desk.pool.allocator())?;
     let object = object_behind(desk, b"mine", key, line)?;
-    if object.side.is_some()
-        && !same_mine(object.side.as_ref(), base.content())
-        && object.version == mine_version(key.id)
-        && object.meta.same(&unknown)
-    {
+    if is_own(&object, key, base, &unknown) {
         Ok(object.side)
     } else {
         Err(Unread::Outside)
@@ -259,21 +298,94 @@ fn with_head(alloc: Global, last: Option<Key>, head: Head) -> Result<Step, Unrea
 {
     match head {
         Head::End => Ok(awaiting(Place::Behind)),
-        Head::Incomplete(key) => {
-            if is_behind(last, key) {
-                Ok(ending(key, SharedEntry::new(alloc, Entry::Incomplete)?))
-            } else {
-                Err(Unread::Outside)
-            }
-        }
-        Head::Known { key, words } => {
-            if is_behind(last, key) && may_stand(words.mine, words.base) {
-                Ok(with_words(alloc, key, words)?)
-            } else {
-                Err(Unread::Outside)
-            }
-        }
+        Head::Incomplete(key) => with_incomplete(alloc, last, key),
+        Head::Known { key, words } => with_known(alloc, last, key, words),
     }
+}
+
+fn with_incomplete(alloc: Global, last: Option<Key>, key: Key) -> Result<Step, Unread>
+    ensures { Gives result (with_head last (heads.Incomplete key)) }
+{
+    if is_behind(last, key) {
+        Ok(ending(key, SharedEntry::new(alloc, Entry::Incomplete)?))
+    } else {
+        Err(Unread::Outside)
+    }
+}
+
+fn with_known(alloc: Global, last: Option<Key>, key: Key, words: Words) -> Result<Step, Unread>
+    ensures { Gives result (with_head last (heads.Known key words)) }
+{
+    if is_behind(last, key) && may_stand(words.mine, words.base) {
+        Ok(with_words(alloc, key, words)?)
+    } else {
+        Err(Unread::Outside)
+    }
+}
+
+/// The first line of an entry, or the end.
+#[tactic(auto, unfolding(crate::specs::Reading::step))]
+fn at_head(desk: &mut Desk, last: Option<Key>, line: &[u8]) -> Result<Step, Unread>
+    ensures { Gives result (step (places.Head last) line.now) }
+{
+    let head = read_head(&mut desk.written, line)?;
+    with_head(desk.pool.allocator(), last, head)
+}
+
+#[tactic(auto, unfolding(crate::specs::Reading::step))]
+fn at_base(desk: &mut Desk, key: Key, words: Words, line: &[u8]) -> Result<Step, Unread>
+    ensures { Gives result (step (places.Base key words) line.now) }
+{
+    let base = base_at(desk, key, words.base, line)?;
+    Ok(with_base(desk.pool.allocator(), key, base, words.mine, words.why)?)
+}
+
+#[tactic(auto, unfolding(crate::specs::Reading::step))]
+fn at_mine(
+    desk: &mut Desk,
+    key: Key,
+    base: Base,
+    why: Option<Why>,
+    line: &[u8],
+) -> Result<Step, Unread>
+    ensures { Gives result (step (places.Mine key base why) line.now) }
+{
+    let mine = mine_at(desk, key, &base, line)?;
+    Ok(with_mine(desk.pool.allocator(), key, base, mine, why)?)
+}
+
+#[tactic(auto, unfolding(crate::specs::Reading::step))]
+fn at_theirs(
+    desk: &mut Desk,
+    key: Key,
+    base: Base,
+    mine: Option<Content>,
+    why: Why,
+    line: &[u8],
+) -> Result<Step, Unread>
+    ensures { Gives result (step (places.Theirs key base mine why) line.now) }
+{
+    let theirs = theirs_at(desk, key, line)?;
+    let conflict = Conflict { why, theirs };
+    Ok(in_conflict(desk.pool.allocator(), key, base, mine, conflict)?)
+}
+
+fn in_conflict(
+    alloc: Global,
+    key: Key,
+    base: Base,
+    mine: Option<Content>,
+    conflict: Conflict,
+) -> Result<Step, AllocError>
+    ensures { IfOk result (λ s. s ≡ ending key (entries.Known base mine (Some conflict))) }
+{
+    let conflict = Shared::new(alloc, conflict)?;
+    let entry = Entry::Known {
+        base,
+        mine,
+        conflict: Some(conflict),
+    };
+    Ok(ending(key, SharedEntry::new(alloc, entry)?))
 }
 
 /// What a line makes in its place.
@@ -281,35 +393,16 @@ fn with_head(alloc: Global, last: Option<Key>, head: Head) -> Result<Step, Unrea
 pub fn step(desk: &mut Desk, here: Place, line: &[u8]) -> Result<Step, Unread>
     ensures { Gives result (step here line.now) }
 {
-    let alloc = desk.pool.allocator();
     match here {
-        Place::Head { last } => {
-            let head = read_head(&mut desk.written, line)?;
-            with_head(alloc, last, head)
-        }
-        Place::Base { key, words } => {
-            let base = base_at(desk, key, words.base, line)?;
-            Ok(with_base(alloc, key, base, words.mine, words.why)?)
-        }
-        Place::Mine { key, base, why } => {
-            let mine = mine_at(desk, key, &base, line)?;
-            Ok(with_mine(alloc, key, base, mine, why)?)
-        }
+        Place::Head { last } => at_head(desk, last, line),
+        Place::Base { key, words } => at_base(desk, key, words, line),
+        Place::Mine { key, base, why } => at_mine(desk, key, base, why, line),
         Place::Theirs {
             key,
             base,
             mine,
             why,
-        } => {
-            let theirs = theirs_at(desk, key, line)?;
-            let conflict = Some(Shared::new(alloc, Conflict { why, theirs })?);
-            let entry = Entry::Known {
-                base,
-                mine,
-                conflict,
-            };
-            Ok(ending(key, SharedEntry::new(alloc, entry)?))
-        }
+        } => at_theirs(desk, key, base, mine, why, line),
         Place::Behind => Ok(awaiting(Place::Behind)),
     }
 }

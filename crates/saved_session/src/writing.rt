@@ -4,7 +4,7 @@ ghost use Rattle.std.specs.List.{flat_map};
 ghost use Rattle.std.specs.Option.{option_copied};
 ghost use Rattle.osm_base.specs.Extends.{Extends};
 ghost use Rattle.osm_base.specs.Meta.{empty_meta};
-ghost use Rattle.osm_table.specs.Table.{held_by};
+ghost use Rattle.osm_table.specs.Table.{held_by, keys_by_rank};
 ghost use Rattle.osm_table.specs.declared.entry.Entry.TheVariants as entries;
 ghost use Rattle.saved_session.specs.Words.{base_word, mine_word, why_word, words_of, base_written, mine_written, why_written, words_written, head_written, header_written};
 ghost use Rattle.saved_session.specs.declared.words.Head.TheVariants.{Incomplete, Known};
@@ -380,14 +380,30 @@ fn write_entries(
 ///
 /// # Errors
 /// No memory was left; what stood in `out` stays at its front.
-#[tactic(auto, using(osm_base::proofs::ExtendLaws::extends_steps), unfolding(crate::specs::Saved::saved))]
+#[tactic(auto, using(osm_base::proofs::ExtendLaws::extends_steps))]
 pub fn write_saved(ds: &DataSet, out: &mut Vec<u8>) -> Result<(), AllocError>
     ensures written { OnOk result (out.new.items ≡ out.old.items ++ saved ds.now) }
     ensures kept { OnErr result (Extends out.old.items out.new.items) }
 {
     let unknown = Meta::empty(*out.allocator())?;
     let keys = ds.ordered()?;
+    write_keyed(ds, keys.as_slice(), &unknown, out)
+}
+
+/// Appends the text of the table, of which these are the keys.
+#[tactic(auto, using(osm_base::proofs::ExtendLaws::extends_steps), unfolding(crate::specs::Saved::saved))]
+fn write_keyed(
+    ds: &DataSet,
+    keys: &[Key],
+    unknown: &Meta,
+    out: &mut Vec<u8>,
+) -> Result<(), AllocError>
+    requires keys { keys.now ≡ keys_by_rank ds.now }
+    requires unknown { unknown.now ≡ empty_meta }
+    ensures written { OnOk result (out.new.items ≡ out.old.items ++ saved ds.now) }
+    ensures kept { OnErr result (Extends out.old.items out.new.items) }
+{
     write_saved_head(ds, out)?;
-    write_entries(ds, keys.as_slice(), &unknown, out)?;
+    write_entries(ds, keys, unknown, out)?;
     write_saved_end(out)
 }
