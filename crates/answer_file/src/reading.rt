@@ -1,5 +1,5 @@
 //! The answers of a file.
-ghost use Rattle.std.specs.Prelude.{◌≡◌, IfOk};
+ghost use Rattle.std.specs.Prelude.{◌≡◌, [], IfOk};
 ghost use Rattle.answer_file.specs.Answers.{answers_of};
 
 use crate::line::answer_of;
@@ -30,6 +30,24 @@ pub(crate) fn read_answers(alloc: Global, bytes: &[u8]) -> Result<FileAnswers, A
 {
     let mut answers = Vec::new(alloc);
     let mut lines = Vec::new(alloc);
+    let wrong = read_onto(bytes, &mut answers, &mut lines)?;
+    Ok(FileAnswers {
+        answers,
+        lines,
+        wrong,
+    })
+}
+
+/// Appends the answers of a file, and the line of each, and tells the first line that gives no answer.
+fn read_onto(
+    bytes: &[u8],
+    answers: &mut Vec<Answer>,
+    lines: &mut Vec<u64>,
+) -> Result<Option<u64>, AllocError>
+    requires answers { answers.old.items ≡ [] }
+    requires lines { lines.old.items ≡ [] }
+    ensures { IfOk result (λ wrong. answers_of bytes.now ≡ record { answers = answers.new.items; lines = lines.new.items; wrong = wrong }) }
+{
     let mut count = 0u64;
     let mut rest = bytes;
     while !rest.is_empty() {
@@ -46,18 +64,8 @@ pub(crate) fn read_answers(alloc: Global, bytes: &[u8]) -> Result<FileAnswers, A
                 lines.push(count)?;
             }
             Err(Unread::Memory) => return Err(AllocError),
-            Err(Unread::Outside) => {
-                return Ok(FileAnswers {
-                    answers,
-                    lines,
-                    wrong: Some(count),
-                });
-            }
+            Err(Unread::Outside) => return Ok(Some(count)),
         }
     }
-    Ok(FileAnswers {
-        answers,
-        lines,
-        wrong: None,
-    })
+    Ok(None)
 }

@@ -2,7 +2,7 @@ use Rattle.std.proofs.Common.{◌≡◌, ◌+◌, ◌≤◌, length}
 use Rattle.opl_file.specs.Cut.{lines_of}
 use Rattle.answer_file.specs.Answers.{answers_from, answers_of}
 use Rattle.answer_file.proofs.SoFar.{onto_front}
-use Rattle.answer_file.proofs.reading.read_answers.Given as goal
+use Rattle.answer_file.proofs.reading.read_onto.Given as goal
 
 abbrev pub invariant-loop-rest : goal.invariant-loop-rest
 invariant-loop-rest l = record {
