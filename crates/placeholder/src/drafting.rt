@@ -1,4 +1,5 @@
 //! A draft that takes answers.
+ghost use Rattle.std.specs.Prelude.{◌≡◌, Some};
 ghost use Rattle.osm_table.specs.Table.{with_entry, without_entry};
 ghost use Rattle.dataset.specs.Draft.{drafted};
 ghost use Rattle.placeholder.specs.Confirmed.{based_on, made_entry, moved};
@@ -74,17 +75,31 @@ fn mine_at(draft: &Draft, ds: &DataSet, key: Key) -> Result<Option<Content>, All
 fn made(draft: Draft, ds: &DataSet, placeholder: Key, id: i64) -> Result<Draft, AllocError>
     ensures { DraftsTable ds.now result (made ds.now (drafted draft ds.now) placeholder id) }
 {
+    match mine_at(&draft, ds, placeholder)? {
+        None => Ok(draft),
+        Some(content) => made_of(draft, ds, &content, placeholder, id),
+    }
+}
+
+/// As `made`, of what the placeholder's object holds.
+fn made_of(
+    draft: Draft,
+    ds: &DataSet,
+    content: &Content,
+    placeholder: Key,
+    id: i64,
+) -> Result<Draft, AllocError>
+    requires { drafted_mine draft ds.now placeholder ≡ Some content.now }
+    ensures { DraftsTable ds.now result (made ds.now (drafted draft ds.now) placeholder id) }
+{
     let alloc = ds.alloc();
-    let Some(content) = mine_at(&draft, ds, placeholder)? else {
-        return Ok(draft);
-    };
     let draft = all_moved(draft, ds, ds.users(placeholder), placeholder, id)?;
     let draft = without_entry(draft, ds, placeholder)?;
     let key = Key {
         kind: placeholder.kind,
         id,
     };
-    let entry = made_entry(alloc, renamed(alloc, &content, placeholder, id)?)?;
+    let entry = made_entry(alloc, renamed(alloc, content, placeholder, id)?)?;
     with_entry(draft, ds, key, entry)
 }
 
