@@ -4,9 +4,9 @@ ghost use Rattle.dataset.specs.Draft.{drafted};
 ghost use Rattle.dataset.specs.Sound.{IsSound};
 ghost use Rattle.renamed_content.specs.Renamed.{renamed};
 ghost use Rattle.tool_api.specs.Changes.{all_added};
-ghost use Rattle.tool_api.specs.Import.{import};
+ghost use Rattle.tool_api.specs.Import.{AreNewObjects, import};
 ghost use Rattle.tool_api.specs.Planned.{Plans};
-ghost use Rattle.import_tool.specs.Known.{called};
+ghost use Rattle.import_tool.specs.Known.{Names, called};
 
 use crate::new_keys::{NewKeys, new_keys};
 use crate::reference_checks::reference_tests;
@@ -37,11 +37,26 @@ fn import_plan(ds: &DataSet, new: &NewObjects, limit: u64) -> Result<Plan, Alloc
 {
     let objects = new.as_slice();
     let names = NewKeys::new(ds.alloc(), objects, ds.next())?;
-    if let Some(refusal) = reference_tests(ds, &names, objects)? {
+    named_plan(ds, objects, &names, limit)
+}
+
+/// As `import_plan`, with what the objects are called in the table.
+fn named_plan(
+    ds: &DataSet,
+    objects: &[NewObject],
+    names: &NewKeys,
+    limit: u64,
+) -> Result<Plan, AllocError>
+    requires sound { IsSound ds.now }
+    requires objects { AreNewObjects objects.now }
+    requires names { Names ds.now.next objects.now names.now.keys.entries }
+    ensures { IfOk result (Plans ds.now (import ds.now limit objects.now)) }
+{
+    if let Some(refusal) = reference_tests(ds, names, objects)? {
         return Ok(Plan::Refused(refusal));
     }
     let made = new_keys(ds.alloc(), objects, ds.next())?;
-    let draft = import_draft(ds, objects, &names)?;
+    let draft = import_draft(ds, objects, names)?;
     closed(ds, draft, &[], limit, made)
 }
 

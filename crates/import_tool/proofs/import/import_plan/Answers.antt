@@ -1,21 +1,15 @@
-use Rattle.std.proofs.Common.{◌≡◌, Err, sym, ap, ◌∙◌, subst, IfOk}
+use Rattle.std.proofs.Common.{ℕ, sym, subst, IfOk}
 use Rattle.tool_api.specs.Import.{AreNewObjects, import}
 use Rattle.tool_api.specs.Planned.{Plans}
-use Rattle.import_tool.proofs.Ends.{refused, keeps, ends}
+use Rattle.import_tool.specs.Known.{Names}
 use Rattle.import_tool.proofs.import.import_plan.Goals as goal
 
-pub returns-in-Some : goal.returns-in-Some
-returns-in-Some c =
-    subst (λ objects. import c.args.ds.now c.args.limit objects ≡ Err c.in-Some.refusal) c.as_slice-objects.ensures.value
-    (refused c.args.ds.now c.args.limit c.as_slice-objects.result.now _ _ c.next.ensures c.in_ok-names.ensures c.in-Some.refusal (sym c.in_ok-refusal.ensures ∙ c.in-Some.is))
-
-pub closed-requires : goal.closed-requires
-closed-requires c =
-    let are : AreNewObjects c.as_slice-objects.result.now = subst AreNewObjects (sym c.as_slice-objects.ensures.value) c.as_slice-objects.ensures.new_objects in
-    record { sound = keeps c.args.ds.now c.args.limit c.as_slice-objects.result.now _ _ c.next.ensures c.in_ok-names.ensures _ (sym c.in_ok-refusal.ensures ∙ c.in_default.is) c.requires are c.in_ok-draft.ensures }
+pub named_plan-requires : goal.named_plan-requires
+named_plan-requires c = record {
+  sound = c.requires;
+  objects = subst AreNewObjects (sym c.as_slice-objects.ensures.value) c.as_slice-objects.ensures.new_objects;
+  names = subst (λ (next : ℕ). Names next c.as_slice-objects.result.now c.in_ok-names.names.keys.entries) c.next.ensures c.in_ok-names.ensures;
+}
 
 pub returns : goal.returns
-returns c =
-    subst (λ o. IfOk c.closed.result (Plans c.args.ds.now o))
-    (ends c.args.ds.now c.args.limit c.as_slice-objects.result.now _ _ c.next.ensures c.in_ok-names.ensures _ _ _ (sym c.in_ok-refusal.ensures ∙ c.in_default.is) c.next-2.ensures c.in_ok-made.ensures c.in_ok-draft.ensures
-    ∙ ap (import c.args.ds.now c.args.limit) c.as_slice-objects.ensures.value) c.closed.ensures
+returns c = subst (λ objects. IfOk c.named_plan.result (Plans c.args.ds.now (import c.args.ds.now c.args.limit objects))) c.as_slice-objects.ensures.value c.named_plan.ensures
