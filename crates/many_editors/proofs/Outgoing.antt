@@ -50,10 +50,7 @@ use Rattle.many_editors.specs.Shown.{shown_editor, shown_meeting, verbs_met, Are
 use Rattle.many_editors.specs.States.{IsServer}
 use Rattle.many_editors.proofs.Fetching.{state_tellable}
 use Rattle.many_editors.proofs.Laying.{length_before}
-use Rattle.many_editors.proofs.Lifting.{all_at, all_set, fits_at, kept_left, lifts, map_same, shown_at, with_set}
-
-same_ok : {A B : Type 0} (r : Result A B) (x y : A) → r ≡ Ok x → r ≡ Ok y → x ≡ y
-same_ok r x y e f = let h : Ok x ≡ Ok y = sym e ∙ f in cc
+use Rattle.many_editors.proofs.Lifting.{all_at, all_set, fits_at, kept_left, lifts, map_same, sends_as, shown_at, with_set}
 
 told_some : (o : Option Objects) (objects : List OplObject) → Some objects ≡ option_map told_objects o → (m : Objects) × (o ≡ Some m) × (objects ≡ told_objects m)
 told_some None objects e = cc
@@ -226,13 +223,4 @@ module _ {X : Type 0} {F : X → Type 0} (done undone : DynBox X Global F → Li
       plan_at e h = ap (λ (f : seen.Editor). upload f.state.now) (sym (both (shown_editor done undone x) e _ (shown_at done undone old n x at) h)) ∙ ap upload (sym table) ∙ plan
 
       pub out_left : {E : Type 0} (new : Meeting X F) (result : Result MeetReply E) → OnErr result (LeftMeeting done undone kind n (λ _. take count changes) old new) → OnErr result (LeftMeeting done undone kind n (changes_sent (act.Send count)) old new)
-      out_left new (Ok answer) left = tt
-      out_left new (Err why) left = record {
-        histories = left.histories;
-        verbs = left.verbs;
-        left = record {
-          took = λ e h. subst (λ cs. TookFirst (length (shown_meeting done undone new).earlier - length (shown_meeting done undone old).earlier) e.state.now cs old.world (shown_meeting done undone old).earlier new.world (shown_meeting done undone new).earlier)
-              (ap (first_planned count) (sym (plan_at e h))) (left.left.took e h);
-          others = left.left.others;
-        };
-      }
+      out_left new result = sends_as done undone kind old new result n (λ _. take count changes) (changes_sent (act.Send count)) (λ e h. ap (first_planned count) (sym (plan_at e h)))

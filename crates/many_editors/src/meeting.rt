@@ -4,6 +4,7 @@ ghost use Rattle.std.specs.Option.{option_copied};
 ghost use Rattle.download.specs.Tell.{AreTellable};
 ghost use Rattle.edit_history.specs.Trail.{KeepNothing};
 ghost use Rattle.upload_order.specs.Refused.{upload};
+ghost use Rattle.upload_order.specs.World.{IsSoundWorld};
 ghost use Rattle.server_world.specs.Unsound.{first_unsound};
 ghost use Rattle.many_editors.specs.declared.act.MeetAct.TheVariants as act;
 ghost use Rattle.many_editors.specs.Acts.{met};
@@ -32,6 +33,7 @@ use osm_base::{Area, Key, Tags};
 use osm_table::Shared;
 use server_world::{World, WorldEntry};
 use std::alloc::{AllocError, Global};
+use std::mem;
 use tool_api::{Job, Tool};
 use upload_order::{Changes, PlanRefusal, plan};
 
@@ -93,14 +95,8 @@ impl Meeting {
         ensures unsound { IfOk result (λ answer. IfSome answer (λ key. IsKept done undone self.old self.new)) }
         ensures err { OnErr result (IsKept done undone self.old self.new) }
     {
-        let world = served(self.alloc(), objects)?;
-        match world.first_unsound()? {
-            Some(key) => Ok(Some(key)),
-            None => {
-                self.world = world;
-                Ok(None)
-            }
-        }
+        let mut world = served(self.alloc(), objects)?;
+        swap_sound(&mut self.world, &mut world)
     }
 
     /// What an editor does, and what comes of it, with at most so many objects in its table.
@@ -257,6 +253,24 @@ impl Meeting {
             answers: outcome.answers,
         });
         Ok(MeetReply::Sent(accepted, outcome.refused))
+    }
+}
+
+/// Has a server and a world change places where the world is sound; else the answer is its least object that refers to one
+/// that isn't live. Neither is dropped here, so that no way out has a world to take apart.
+fn swap_sound(server: &mut World, world: &mut World) -> Result<Option<Key>, AllocError>
+    ensures answer { IfOk result (λ answer. answer ≡ first_unsound world.old) }
+    ensures sound { IfOk result (λ answer. IfNone answer (IsSoundWorld world.old)) }
+    ensures swapped { IfOk result (λ answer. IfNone answer (server.new ≡ world.old)) }
+    ensures kept { IfOk result (λ answer. IfSome answer (λ key. server.new ≡ server.old)) }
+    ensures err { OnErr result (server.new ≡ server.old) }
+{
+    match world.first_unsound()? {
+        Some(key) => Ok(Some(key)),
+        None => {
+            mem::swap(server, world);
+            Ok(None)
+        }
     }
 }
 

@@ -61,7 +61,7 @@ returns-in-Fetch g c =
     let table = same_table c.args.self.now c.args.editor y c.index.result.now c.ds.result.now at (there_at _ _ c.args.self.now c.args.editor c.index.result.now c.requires.asked.there c.index.ensures) c.ds.ensures in
     record {
       moved = fetch_moved _ _ _ c.args.self.now c.args.editor c.args.act.now y at c.requires c.ds.result.now table c.sound.ensures c.args.limit c.fetch.new.self c.fetch.result (sym c.is_some.ensures ∙ c.if-is_some.false) c.in-Fetch.back c.in-Fetch.area c.in-Fetch.wanted c.in-Fetch.is c.fetch.ensures.comes;
-      left = sends_as _ _ _ c.args.self.now c.fetch.new.self c.fetch.result c.args.editor _ (changes_sent c.args.act.now) (λ t. ap (λ a. changes_sent a t) (sym c.in-Fetch.is)) c.fetch.ensures.left;
+      left = sends_as _ _ _ c.args.self.now c.fetch.new.self c.fetch.result c.args.editor _ (changes_sent c.args.act.now) (λ e h. ap (λ a. changes_sent a e.state.now) (sym c.in-Fetch.is)) c.fetch.ensures.left;
     }
 
 pub send-requires-clause-asked : goal.send-requires-clause-asked
@@ -77,7 +77,7 @@ returns-in-Send g c =
     let table = same_table c.args.self.now c.args.editor y c.index.result.now c.ds.result.now at (there_at _ _ c.args.self.now c.args.editor c.index.result.now c.requires.asked.there c.index.ensures) c.ds.ensures in
     record {
       moved = send_moved _ _ _ c.args.self.now c.args.editor c.args.act.now y at c.requires c.ds.result.now table c.sound.ensures c.args.limit c.send.new.self c.send.result (sym c.is_some.ensures ∙ c.if-is_some.false) c.in-Send.count c.in-Send.is c.send.ensures.comes;
-      left = sends_as _ _ _ c.args.self.now c.send.new.self c.send.result c.args.editor _ (changes_sent c.args.act.now) (λ t. ap (λ a. changes_sent a t) (sym c.in-Send.is)) c.send.ensures.left;
+      left = sends_as _ _ _ c.args.self.now c.send.new.self c.send.result c.args.editor _ (changes_sent c.args.act.now) (λ e h. ap (λ a. changes_sent a e.state.now) (sym c.in-Send.is)) c.send.ensures.left;
     }
 
 pub returns-in-Answer-clause-moved : goal.returns-in-Answer-clause-moved
