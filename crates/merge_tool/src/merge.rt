@@ -1,9 +1,9 @@
 //! Takes in a download.
-ghost use Rattle.std.specs.Prelude.{◌≡◌, IfOk};
+ghost use Rattle.std.specs.Prelude.{◌≡◌, None, IfOk, OnOk};
 ghost use Rattle.dataset.specs.Sound.{IsSound};
-ghost use Rattle.tool_api.specs.Merged.{merge};
+ghost use Rattle.tool_api.specs.Merged.{clash_test, merge};
 ghost use Rattle.tool_api.specs.Planned.{Plans};
-ghost use Rattle.merge_tool.specs.Drafts.{IsMerged, IsStaged, renewed_names, going_keys};
+ghost use Rattle.merge_tool.specs.Drafts.{AreGoing, IsMerged, IsStaged, renewed_names, going_keys};
 
 use crate::arrival::arrival_plan;
 use crate::clash::clash_test;
@@ -37,10 +37,29 @@ fn merged(
     told.sound();
     let mut draft = staged;
     let candidates = KeySet::from_slice(ds.alloc(), candidates)?;
-    let wanted = want(ds, told, &mut draft, names)?;
-    let held = hold(ds, told, &mut draft, &candidates, names, &wanted.names)?;
-    write(ds, told, &mut draft, &candidates, &wanted.keys, &held)?;
+    merge_onto(ds, told, &mut draft, names, &candidates)?;
     Ok(draft)
+}
+
+/// As `merged`, onto the draft of the cases.
+fn merge_onto(
+    ds: &DataSet,
+    told: &ToldMap,
+    draft: &mut Draft,
+    names: &[Key],
+    candidates: &KeySet,
+) -> Result<(), AllocError>
+    requires sound { IsSound ds.now }
+    requires entries { IsStaged ds.now told.now draft.old }
+    requires names { names.now ≡ renewed_names ds.now told.now }
+    requires going { AreGoing ds.now told.now candidates.now }
+    ensures entries { OnOk result (IsMerged ds.now told.now draft.new) }
+    ensures number { OnOk result (draft.new.next ≡ draft.old.next) }
+{
+    told.sound();
+    let wanted = want(ds, told, draft, names)?;
+    let held = hold(ds, told, draft, candidates, names, &wanted.names)?;
+    write(ds, told, draft, candidates, &wanted.keys, &held)
 }
 
 /// The plan of any download, by the case of each object.
@@ -54,10 +73,30 @@ fn cases_plan(ds: &DataSet, told: &ToldMap, limit: u64) -> Result<Plan, AllocErr
         candidates,
         clashes,
     } = Staging::of(ds, told)?;
-    if let Some(refusal) = clash_test(ds, told, clashes)? {
-        return Ok(Plan::Refused(refusal));
+    match clash_test(ds, told, clashes)? {
+        Some(refusal) => Ok(Plan::Refused(refusal)),
+        None => clear_plan(ds, told, limit, draft, &names, &candidates),
     }
-    let draft = merged(ds, told, draft, &names, &candidates)?;
+}
+
+/// As `cases_plan`, where no versions clash, by the outcome of the cases.
+fn clear_plan(
+    ds: &DataSet,
+    told: &ToldMap,
+    limit: u64,
+    staged: Draft,
+    names: &[Key],
+    candidates: &[Key],
+) -> Result<Plan, AllocError>
+    requires sound { IsSound ds.now }
+    requires clear { clash_test ds.now told.now.told ≡ None }
+    requires entries { IsStaged ds.now told.now staged }
+    requires number { staged.next ≡ ds.now.next }
+    requires names { names.now ≡ renewed_names ds.now told.now }
+    requires candidates { candidates.now ≡ going_keys ds.now told.now }
+    ensures { IfOk result (Plans ds.now (merge ds.now limit told.now)) }
+{
+    let draft = merged(ds, told, staged, names, candidates)?;
     if let Some(refusal) = room_test(ds, &draft, limit)? {
         return Ok(Plan::Refused(refusal));
     }

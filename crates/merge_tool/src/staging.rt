@@ -82,9 +82,9 @@ impl Staging {
     {
         let old = ds.entry_along(near, key);
         let verdict = decide(old, news);
-        let new = staged(ds.alloc(), verdict, old, news)?;
         push_if_going(verdict, key, &mut self.candidates)?;
         push_if_clashing(verdict, key, &mut self.clashes)?;
+        let new = staged(ds.alloc(), verdict, old, news)?;
         push_renewed(verdict, after(old, &new), &mut self.names)?;
         let new = bared(ds, told, key, new)?;
         note(&mut self.draft, key, new)?;

@@ -1,43 +1,13 @@
-use Rattle.std.proofs.Common.{◌∙◌, ap, List}
-use Rattle.osm_base.specs.Rank.{is_key}
-use Rattle.osm_base.specs.declared.key.Key.{Key}
-use Rattle.closure.specs.Closure.{has}
-use Rattle.dataset.specs.Draft.{drafted}
 use Rattle.merge_tool.proofs.HeldEnds.{going_are}
-use Rattle.merge_tool.proofs.Finals.{finally}
 use Rattle.merge_tool.proofs.merge.merged.Goals as goal
 
-pub want-requires : goal.want-requires
-want-requires c = record { sound = c.requires.sound; entries = c.requires.entries; names = c.requires.names }
-
-pub hold-requires : goal.hold-requires
-hold-requires c = record {
+pub merge_onto-requires : goal.merge_onto-requires
+merge_onto-requires c = record {
   sound = c.requires.sound;
-  candidates = going_are c.args.ds.now c.args.told.now c.requires.sound c.sound.ensures.each c.args.candidates.now c.in_ok-candidates.candidates c.requires.candidates c.in_ok-candidates.ensures;
+  entries = c.requires.entries;
   names = c.requires.names;
-  late = λ k. ap (λ (ks : List Key). has is_key ks k) c.deref.ensures.value ∙ c.in_ok-wanted.ensures.names k;
+  going = going_are c.args.ds.now c.args.told.now c.requires.sound c.sound.ensures.each c.args.candidates.now c.in_ok-candidates.candidates c.requires.candidates c.in_ok-candidates.ensures;
 }
 
-pub write-requires : goal.write-requires
-write-requires c = record { going = going_are c.args.ds.now c.args.told.now c.requires.sound c.sound.ensures.each c.args.candidates.now c.in_ok-candidates.candidates c.requires.candidates c.in_ok-candidates.ensures }
-
-pub returns-clause-entries : goal.returns-clause-entries
-returns-clause-entries c =
-    let t = c.args.ds.now in
-    let m = c.args.told.now in
-    finally t m c.requires.sound c.sound.ensures.each (drafted c.args.staged t) (drafted c.want.new.draft t) (drafted c.hold.new.draft t) (drafted c.write.new.draft t)
-    c.args.names.now c.in_ok-candidates.candidates c.in_ok-wanted.wanted.keys c.in_ok-wanted.wanted.names.items c.in_ok-held.held
-    (record {
-      staged = c.requires.entries;
-      names = c.requires.names;
-      going = going_are t m c.requires.sound c.sound.ensures.each c.args.candidates.now c.in_ok-candidates.candidates c.requires.candidates c.in_ok-candidates.ensures;
-      wants = c.in_ok-wanted.ensures.wanted;
-      late = c.in_ok-wanted.ensures.names;
-      came = c.in_ok-wanted.ensures.entries;
-      holds = c.in_ok-held.ensures.held;
-      stood = c.in_ok-held.ensures.entries;
-      ended = c.in_ok-write.ensures.entries;
-    })
-
-pub returns-clause-number : goal.returns-clause-number
-returns-clause-number c = c.in_ok-write.ensures.number ∙ c.in_ok-held.ensures.number ∙ c.in_ok-wanted.ensures.number
+pub returns : goal.returns
+returns c = record { entries = c.in_ok-merge_onto.ensures.entries; number = c.in_ok-merge_onto.ensures.number }
