@@ -1,13 +1,17 @@
-"""What `run` needs of the toolkit, by the `rt` that there is.
+"""What `run`, and bench/time/proofs, need of the toolkit, by the `rt` that there is.
 
 `rattle-kit-13f` keeps beside itself what `rt ci` proved: `Keeping` takes the libraries from there. With `rattle-kit-13b`, which keeps
 nothing (`Building`), and where `rt ci` kept none, those are taken that `./editor --prove --keep` left in the launcher's folder
 (`Launched`), which are of the same text by the same toolkit or aren't taken. Each other one is built as `rt ci` does.
 """
 import hashlib
+import importlib.machinery
+import importlib.util
 import os
+import pathlib
 import re
 import shutil
+import subprocess
 import sys
 import tempfile
 
@@ -21,6 +25,17 @@ READ_OF_ALL = ['Crate', 'crates_of', 'free', 'handles_of', 'must_fail', 'need', 
 READ_OF_KEEPING = ['AT_LIMIT', 'BAD', 'Kept', 'MISSED', 'REFUSED', 'checked', 'copy_crates', 'stamp_of']
 # the parts of a crate's folder that its proof reads
 PARTS = ('src', 'specs', 'proofs')
+
+
+def load_rt():
+    """The toolkit's `rt`, as a module."""
+    if not shutil.which('rt'):
+        sys.exit('there is no rt: install the toolkit that README.md names')
+    page = subprocess.run(['rt', 'doc'], stdout=subprocess.PIPE, text=True).stdout.strip()
+    loader = importlib.machinery.SourceFileLoader('rt', str(pathlib.Path(page).parent / 'bin' / 'rt'))
+    rt = importlib.util.module_from_spec(importlib.util.spec_from_loader('rt', loader))
+    loader.exec_module(rt)
+    return rt
 
 
 def kit_of(rt, top, root, room):
