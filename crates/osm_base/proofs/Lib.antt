@@ -13,6 +13,7 @@ pub mod RankedKeys
 pub mod ExtendLaws
 pub mod AnyMap
 pub mod TagLaws
+pub mod Cloned
 mod Examples
 mod TagPlaces
 mod ValueExamples

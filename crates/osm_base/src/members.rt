@@ -24,7 +24,6 @@ pub struct Member {
 /// is no option here and a list takes 8 bytes where it is kept.
 #[derive(Drop)]
 pub struct Members {
-    alloc: Global,
     shared: Rc<Vec<Member>>,
 }
 
@@ -35,6 +34,14 @@ impl Model for Members {
     ghost Value = { List Member };
 
     ghost view = { λ m. m.shared.value.items };
+}
+
+impl Clone for Member {
+    ghost is_clone = { λ member copy. copy ≡ member };
+
+    fn clone(&self) -> Result<Member, AllocError> {
+        self.copy()
+    }
 }
 
 impl Member {
@@ -88,10 +95,8 @@ impl Members {
     pub fn from_vec(items: Vec<Member>) -> Result<Self, AllocError>
         ensures { IfOk result (λ members. members ≡ items.items) }
     {
-        let alloc = *items.allocator();
         Ok(Members {
-            alloc,
-            shared: Rc::new(alloc, items)?,
+            shared: Rc::new(*items.allocator(), items)?,
         })
     }
 
@@ -99,11 +104,13 @@ impl Members {
     ///
     /// # Errors
     /// No memory was left, and nothing has changed.
+    #[tactic(auto, using(crate::proofs::Cloned::kept_or_cloned))]
     pub fn push(&mut self, member: Member) -> Result<(), AllocError>
         ensures ok { OnOk result (self.new ≡ self.old ++ member ∷ []) }
         ensures err { OnErr result (self.new ≡ self.old) }
     {
-        push_shared(self.alloc, &mut self.shared, member)
+        Rc::make_mut(&mut self.shared)?.push(member)?;
+        Ok(())
     }
 
     /// The members, in order.
@@ -121,7 +128,6 @@ impl Members {
         ensures { IfOk result (λ members. members ≡ self.now) }
     {
         Ok(Members {
-            alloc: self.alloc,
             shared: self.shared.clone()?,
         })
     }
@@ -133,35 +139,6 @@ impl Members {
     {
         same_items(self.as_slice(), other.as_slice())
     }
-}
-
-// Writes in place where nobody else has the list, and else to a copy.
-fn push_shared(
-    alloc: Global,
-    shared: &mut Rc<Vec<Member>>,
-    member: Member,
-) -> Result<(), AllocError>
-    ensures ok { OnOk result (shared.new.value.items ≡ shared.old.value.items ++ member ∷ []) }
-    ensures err { OnErr result (shared.new.value.items ≡ shared.old.value.items) }
-{
-    if let Some(items) = Rc::get_mut(shared) {
-        items.push(member)?;
-        return Ok(());
-    }
-    let mut items = copies(alloc, shared.as_slice())?;
-    items.push(member)?;
-    *shared = Rc::new(alloc, items)?;
-    Ok(())
-}
-
-fn copies(alloc: Global, items: &[Member]) -> Result<Vec<Member>, AllocError>
-    ensures { IfOk result (λ copies. copies.items ≡ items.now) }
-{
-    let mut copies = Vec::with_capacity(alloc, items.len())?;
-    for item in items {
-        copies.push(item.copy()?)?;
-    }
-    Ok(copies)
 }
 
 fn same_items(a: &[Member], b: &[Member]) -> bool

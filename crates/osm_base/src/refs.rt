@@ -12,7 +12,6 @@ use std::rc::Rc;
 /// is no option here and a list takes 8 bytes where it is kept.
 #[derive(Drop)]
 pub struct Refs {
-    alloc: Global,
     shared: Rc<Vec<i64>>,
 }
 
@@ -52,10 +51,8 @@ impl Refs {
     pub fn from_vec(ids: Vec<i64>) -> Result<Self, AllocError>
         ensures { IfOk result (λ refs. refs ≡ ids.items) }
     {
-        let alloc = *ids.allocator();
         Ok(Refs {
-            alloc,
-            shared: Rc::new(alloc, ids)?,
+            shared: Rc::new(*ids.allocator(), ids)?,
         })
     }
 
@@ -63,11 +60,13 @@ impl Refs {
     ///
     /// # Errors
     /// No memory was left, and nothing has changed.
+    #[tactic(auto, using(crate::proofs::Cloned::kept_or_cloned))]
     pub fn push(&mut self, id: i64) -> Result<(), AllocError>
         ensures ok { OnOk result (self.new ≡ self.old ++ id ∷ []) }
         ensures err { OnErr result (self.new ≡ self.old) }
     {
-        push_shared(self.alloc, &mut self.shared, id)
+        Rc::make_mut(&mut self.shared)?.push(id)?;
+        Ok(())
     }
 
     /// The ids, in order.
@@ -85,7 +84,6 @@ impl Refs {
         ensures { IfOk result (λ refs. refs ≡ self.now) }
     {
         Ok(Refs {
-            alloc: self.alloc,
             shared: self.shared.clone()?,
         })
     }
@@ -97,19 +95,4 @@ impl Refs {
     {
         self.as_slice() == other.as_slice()
     }
-}
-
-// Writes in place where nobody else has the list, and else to a copy.
-fn push_shared(alloc: Global, shared: &mut Rc<Vec<i64>>, id: i64) -> Result<(), AllocError>
-    ensures ok { OnOk result (shared.new.value.items ≡ shared.old.value.items ++ id ∷ []) }
-    ensures err { OnErr result (shared.new.value.items ≡ shared.old.value.items) }
-{
-    if let Some(ids) = Rc::get_mut(shared) {
-        ids.push(id)?;
-        return Ok(());
-    }
-    let mut ids = Vec::from_slice(alloc, shared.as_slice())?;
-    ids.push(id)?;
-    *shared = Rc::new(alloc, ids)?;
-    Ok(())
 }
