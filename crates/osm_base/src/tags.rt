@@ -1,8 +1,7 @@
 //! Tags: pairs of a key and a value, in the order of the keys' bytes.
-ghost use Rattle.std.specs.Prelude.{◌≡◌, ◌<◌, ◌==◌, ◌&&◌, ◌∷◌, ◌↔◌, [], length, Some, IfOk, OnOk, OnErr, IsTrue, T, nat_lt, slice_index_or};
-ghost use Rattle.std.specs.List.{slice_get};
+ghost use Rattle.std.specs.Prelude.{◌≡◌, ◌<◌, ◌==◌, ◌&&◌, ◌∷◌, ◌↔◌, [], length, IfOk, OnOk, OnErr, IsTrue, T, nat_lt, slice_index_or};
 ghost use Rattle.std.specs.Ordering.{is_lt, eq_by_cmp};
-ghost use Rattle.std.specs.Option.{option_copied, option_map};
+ghost use Rattle.std.specs.Option.{option_copied};
 ghost use Rattle.osm_base.specs.Boxed.{items_of};
 ghost use Rattle.osm_base.specs.Same.{same_tags};
 ghost use Rattle.osm_base.specs.Tags.{bytes_cmp, are_tags, value_of, with_tag, without_tag, has_tag, place_of};
@@ -76,22 +75,6 @@ impl Tags {
         items_of(&self.items).is_empty()
     }
 
-    /// The key of the tag at a place.
-    pub fn key_at(&self, i: usize) -> &[u8]
-        requires { i < length self.now }
-        ensures { option_map (λ t. t.0) (slice_get self.now i) ≡ Some result.now }
-    {
-        items_of(&self.items)[i].0.as_bytes()
-    }
-
-    /// The value of the tag at a place.
-    pub fn value_at(&self, i: usize) -> &[u8]
-        requires { i < length self.now }
-        ensures { option_map (λ t. t.1) (slice_get self.now i) ≡ Some result.now }
-    {
-        items_of(&self.items)[i].1.as_bytes()
-    }
-
     /// The tags, in order.
     pub fn as_slice(&self) -> &[(Text, Text)]
         ensures value { result.now ≡ self.now }
@@ -123,7 +106,7 @@ impl Tags {
         ensures ok { OnOk result (self.new ≡ with_tag self.old key value) }
         ensures err { OnErr result (self.new ≡ self.old) }
     {
-        put_boxed(self.alloc, &mut self.items, key, value)?;
+        put_boxed(self.alloc, &mut self.items, (key, value))?;
         Ok(())
     }
 
@@ -144,7 +127,7 @@ impl Tags {
     {
         Ok(Tags {
             alloc: self.alloc,
-            items: copied(self.alloc, &self.items)?,
+            items: copied(&self.items)?,
         })
     }
 
@@ -172,33 +155,33 @@ fn boxed(alloc: Global, list: Vec<(Text, Text)>) -> Result<Pairs, AllocError>
     Ok(Some(Box::new(alloc, list)?))
 }
 
-fn copied(alloc: Global, items: &Pairs) -> Result<Pairs, AllocError>
+fn copied(items: &Pairs) -> Result<Pairs, AllocError>
     ensures { IfOk result (λ copy. items_of copy ≡ items_of items.now) }
 {
     match items {
         None => Ok(None),
-        Some(list) => Ok(boxed(alloc, copies(alloc, list.as_slice())?)?),
+        Some(list) => Ok(Some(list.clone()?)),
     }
 }
 
 // The first tag has room for itself alone, since most objects that are tagged have few.
-fn put_boxed(alloc: Global, items: &mut Pairs, key: Text, value: Text) -> Result<(), AllocError>
+fn put_boxed(alloc: Global, items: &mut Pairs, tag: (Text, Text)) -> Result<(), AllocError>
     requires { T (are_tags (items_of items.old)) }
-    ensures ok { OnOk result (items_of items.new ≡ with_tag (items_of items.old) key value) }
+    ensures ok { OnOk result (items_of items.new ≡ with_tag (items_of items.old) tag.0 tag.1) }
     ensures err { OnErr result (items_of items.new ≡ items_of items.old) }
 {
     match items {
-        None => *items = boxed(alloc, one_tag(alloc, key, value)?)?,
-        Some(list) => put_item(list.as_mut(), key, value)?,
+        None => *items = boxed(alloc, one_tag(alloc, tag)?)?,
+        Some(list) => put_item(list.as_mut(), tag)?,
     }
     Ok(())
 }
 
-fn one_tag(alloc: Global, key: Text, value: Text) -> Result<Vec<(Text, Text)>, AllocError>
-    ensures { IfOk result (λ list. list.items ≡ (key, value) ∷ []) }
+fn one_tag(alloc: Global, tag: (Text, Text)) -> Result<Vec<(Text, Text)>, AllocError>
+    ensures { IfOk result (λ list. list.items ≡ tag ∷ []) }
 {
     let mut list = Vec::with_capacity(alloc, 1)?;
-    list.push((key, value))?;
+    list.push(tag)?;
     Ok(list)
 }
 
@@ -211,17 +194,11 @@ fn take_boxed(items: &mut Pairs, key: &[u8]) -> bool
         return false;
     };
     let was_there = take_item(list.as_mut(), key);
-    free_if_empty(items);
-    was_there
-}
-
-// Gives the blocks back where no tag is left.
-fn free_if_empty(items: &mut Pairs)
-    ensures { items_of items.new ≡ items_of items.old }
-{
-    if items_of(items).is_empty() {
+    // Gives the blocks back where no tag is left.
+    if list.is_empty() {
         *items = None;
     }
+    was_there
 }
 
 fn value_in<'a>(items: &'a [(Text, Text)], key: &[u8]) -> Option<&'a [u8]>
@@ -244,16 +221,16 @@ fn is_in(items: &[(Text, Text)], key: &[u8]) -> bool
     stands_at(items, at, key)
 }
 
-fn put_item(items: &mut Vec<(Text, Text)>, key: Text, value: Text) -> Result<(), AllocError>
+fn put_item(items: &mut Vec<(Text, Text)>, tag: (Text, Text)) -> Result<(), AllocError>
     requires { T (are_tags items.old.items) }
-    ensures ok { OnOk result (items.new.items ≡ with_tag items.old.items key value) }
+    ensures ok { OnOk result (items.new.items ≡ with_tag items.old.items tag.0 tag.1) }
     ensures err { OnErr result (items.new.items ≡ items.old.items) }
 {
-    let at = place(items, key.as_bytes());
-    if stands_at(items, at, key.as_bytes()) {
-        items[at] = (key, value);
+    let at = place(items, tag.0.as_bytes());
+    if stands_at(items, at, tag.0.as_bytes()) {
+        items[at] = tag;
     } else {
-        items.insert(at, (key, value))?;
+        items.insert(at, tag)?;
     }
     Ok(())
 }
@@ -296,16 +273,6 @@ fn is_at(tag: &(Text, Text), key: &[u8]) -> bool
     ensures { result ≡ eq_by_cmp bytes_cmp key.now tag.now.0 }
 {
     key.cmp(&tag.0.as_bytes()).is_eq()
-}
-
-fn copies(alloc: Global, items: &[(Text, Text)]) -> Result<Vec<(Text, Text)>, AllocError>
-    ensures { IfOk result (λ copies. copies.items ≡ items.now) }
-{
-    let mut copies = Vec::with_capacity(alloc, items.len())?;
-    for item in items {
-        copies.push((item.0.copy()?, item.1.copy()?))?;
-    }
-    Ok(copies)
 }
 
 fn same_items(a: &[(Text, Text)], b: &[(Text, Text)]) -> bool

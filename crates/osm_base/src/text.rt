@@ -46,6 +46,14 @@ impl From<AllocError> for TextFault {
     }
 }
 
+impl Clone for Text {
+    ghost is_clone = { λ text copy. copy ≡ text };
+
+    fn clone(&self) -> Result<Text, AllocError> {
+        self.copy()
+    }
+}
+
 impl Text {
     /// The empty text.
     ///
