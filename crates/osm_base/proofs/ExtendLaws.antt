@@ -30,3 +30,8 @@ pub ruleset extends_steps = (extends_itself, extends_appended, extends_more)
 pub failed_after : {A E : Type 0} (r : Result A E) (old mid new more : List ℕ) → mid ≡ old ++ more → take (length mid) new ≡ mid → OnErr r (Extends old new)
 failed_after (Ok x) old mid new more e h = tt
 failed_after (Err x) old mid new more e h = extends_more old mid new more e h
+
+-- a first write failed
+pub failed_first : {A E : Type 0} (r : Result A E) (old new : List ℕ) → new ≡ old → OnErr r (Extends old new)
+failed_first (Ok x) old new e = tt
+failed_first (Err x) old new e = extends_itself old new e

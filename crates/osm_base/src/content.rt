@@ -73,12 +73,12 @@ impl Content {
                 at: *at,
             }),
             Content::Way { tags, refs } => Ok(Content::Way {
-                tags: tags.copy()?,
                 refs: refs.copy()?,
+                tags: tags.copy()?,
             }),
             Content::Relation { tags, members } => Ok(Content::Relation {
-                tags: tags.copy()?,
                 members: members.copy()?,
+                tags: tags.copy()?,
             }),
         }
     }
