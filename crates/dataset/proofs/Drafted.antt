@@ -97,7 +97,7 @@ append_nil [] = refl
 append_nil {A = A} (x ∷ xs) = ap (λ (ys : List A). x ∷ ys) (append_nil xs)
 
 -- one step of the code
-pub edit_step : (d : DraftValue) (t : TableValue) (k : Key) (after : Option Entry) (o : Option Edit) (ks : List Key) (es : List Edit) → fin.get d.puts k ≡ Some after → IsEditOf (entry_of t k) k after o → DiffOver t (drafted d t) ks es → DiffOver t (drafted d t) (ks ++ k ∷ []) (es ++ option_to_list o)
+edit_step : (d : DraftValue) (t : TableValue) (k : Key) (after : Option Entry) (o : Option Edit) (ks : List Key) (es : List Edit) → fin.get d.puts k ≡ Some after → IsEditOf (entry_of t k) k after o → DiffOver t (drafted d t) ks es → DiffOver t (drafted d t) (ks ++ k ∷ []) (es ++ option_to_list o)
 edit_step d t k after None ks es there is over =
     let now : entry_of (drafted d t) k ≡ after = get_drafted d t k ∙ ap (λ (o : Option (Option Entry)). unwrap_or o (entry_of t k)) there in
     subst (λ (fs : List Edit). DiffOver t (drafted d t) (ks ++ k ∷ []) fs) (sym (append_nil es)) (more_alike t (drafted d t) ks es k over (is ∙ sym now))
@@ -109,14 +109,9 @@ edit_step d t k after (Some e) ks es there is over =
 pub none_step : (d : DraftValue) (t : TableValue) (k : Key) (ks : List Key) (es : List Edit) → fin.get d.puts k ≡ None → DiffOver t (drafted d t) ks es → DiffOver t (drafted d t) (ks ++ k ∷ []) es
 none_step d t k ks es gone over = more_alike t (drafted d t) ks es k over (sym (get_drafted d t k ∙ ap (λ (o : Option (Option Entry)). unwrap_or o (entry_of t k)) gone))
 
-pub same_step : (d : DraftValue) (t : TableValue) (k : Key) (after : Option Entry) (o : Option Edit) (ks : List Key) (es : List Edit) → fin.get d.puts k ≡ Some after → IsEditOf (entry_of t k) k after o → o ≡ None → DiffOver t (drafted d t) ks es → DiffOver t (drafted d t) (ks ++ k ∷ []) es
-same_step d t k after o ks es there is none over =
-    let now : entry_of (drafted d t) k ≡ after = get_drafted d t k ∙ ap (λ (o : Option (Option Entry)). unwrap_or o (entry_of t k)) there in
-    more_alike t (drafted d t) ks es k over (subst (IsEditOf (entry_of t k) k after) none is ∙ sym now)
-
-pub push_step : (d : DraftValue) (t : TableValue) (k : Key) (after : Option Entry) (o : Option Edit) (e : Edit) (ks : List Key) (es fs : List Edit) → fin.get d.puts k ≡ Some after → IsEditOf (entry_of t k) k after o → o ≡ Some e → fs ≡ es ++ e ∷ [] → DiffOver t (drafted d t) ks es → DiffOver t (drafted d t) (ks ++ k ∷ []) fs
-push_step d t k after o e ks es fs there is some items over =
-    subst (λ (gs : List Edit). DiffOver t (drafted d t) (ks ++ k ∷ []) gs) (sym items) (edit_step d t k after (Some e) ks es there (subst (IsEditOf (entry_of t k) k after) some is) over)
+-- where what was found is pushed
+pub found_step : (d : DraftValue) (t : TableValue) (k : Key) (after : Option Entry) (o : Option Edit) (ks : List Key) (es fs : List Edit) → fin.get d.puts k ≡ Some after → IsEditOf (entry_of t k) k after o → fs ≡ es ++ option_to_list o → DiffOver t (drafted d t) ks es → DiffOver t (drafted d t) (ks ++ k ∷ []) fs
+found_step d t k after o ks es fs there is items over = subst (λ (gs : List Edit). DiffOver t (drafted d t) (ks ++ k ∷ []) gs) (sym items) (edit_step d t k after o ks es there is over)
 
 -- an edit to what is the same
 pub edit_to : (before : Option Entry) (k : Key) (after new : Option Entry) (o : Option Edit) → after ≡ new → IsEditOf before k after o → IsEditOf before k new o

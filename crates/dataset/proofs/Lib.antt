@@ -1,3 +1,4 @@
+mod Results
 pub mod Looked
 pub mod Laws
 pub mod Exactness

@@ -17,7 +17,7 @@ ghost use Rattle.dataset.specs.Index.{count_kept};
 ghost use Rattle.dataset.specs.PatchKept.{edits_told};
 ghost use Rattle.dataset.specs.Sides.{side, led};
 
-use crate::difference::{edits_of_entries, edits_of_told, edits_over, told_edits};
+use crate::difference::{edits_of_draft, edits_of_entries, edits_of_told, told_edits};
 use crate::draft::Draft;
 use crate::edit::Edit;
 use crate::index::Index;
@@ -27,6 +27,7 @@ use osm_base::Key;
 use osm_table::{KeyedEntries, Ordered, OwnTable, Shared, SharedEntry, Table, ToldMap};
 use std::alloc::{AllocError, Global};
 use std::marker::Model;
+use std::mem::replace;
 
 /// The objects of a session. Its table is always sound, and it knows the users of each key.
 #[derive(Drop)]
@@ -149,8 +150,7 @@ impl DataSet {
         ensures value { IfOk result (λ patch. patch ≡ diff self.now (drafted draft.now self.now)) }
         ensures differs { IfOk result (λ patch. IsDiff self.now (drafted draft.now self.now) patch) }
     {
-        let keys = draft.ordered()?;
-        let edits = edits_over(*keys.allocator(), &self.table, draft, &keys)?;
+        let edits = edits_of_draft(&self.table, draft)?;
         Ok(Patch::listed(edits, self.table.next(), draft.next()))
     }
 
@@ -284,7 +284,9 @@ fn lead_told(
         return Ok(());
     }
     let edits = told_edits(told.value())?;
-    lead_listed(table, index, edits.as_slice(), forth, next)
+    let led = lead_listed(table, index, edits.as_slice(), forth, next);
+    drop(edits);
+    led
 }
 
 /// The told map becomes the table, or all stays as it was.
@@ -300,9 +302,17 @@ fn become_told(
     ensures err { OnErr result (table.new ≡ table.old) }
 {
     let users = Index::told(told.copy()?)?;
-    let all = Table::told(told.copy()?, next);
-    set_both(table, index, all, users);
-    Ok(())
+    // Dropped by a call: on a way out, the code of all that an index owns would be written out.
+    match told.copy() {
+        Ok(told) => {
+            set_both(table, index, Table::told(told, next), users);
+            Ok(())
+        }
+        Err(e) => {
+            drop(users);
+            Err(e)
+        }
+    }
 }
 
 /// The table gives up its objects.
@@ -321,8 +331,8 @@ fn set_both(table: &mut Table, index: &mut Index, new_table: Table, new_index: I
     ensures table { table.new ≡ new_table }
     ensures index { index.new ≡ new_index }
 {
-    *table = new_table;
-    *index = new_index;
+    drop(replace(table, new_table));
+    drop(replace(index, new_index));
 }
 
 /// Leads the table by one side of edits to the number of its next new object, or leaves all as it was. Costs one look-up an
@@ -368,8 +378,12 @@ fn lead_own(
     ensures err { OnErr result (table.new ≡ table.old) }
 {
     let writes = writes_of(table.alloc(), edits, forth)?;
-    put_keys(table, edits, forth)?;
+    if let Err(e) = put_keys(table, edits, forth) {
+        drop(writes);
+        return Err(e);
+    }
     if let Err(e) = index.lead(edits, forth) {
+        drop(writes);
         drop_keys(table, edits, !forth);
         return Err(e);
     }

@@ -74,8 +74,7 @@ impl Draft {
         ensures err { OnErr result (self.new ≡ self.old) }
     {
         let after = share(self.alloc, after)?;
-        self.put_shared(key, after)?;
-        Ok(())
+        self.put_shared(key, after)
     }
 
     /// As `put`, of an entry that stands elsewhere already.
@@ -87,7 +86,7 @@ impl Draft {
         ensures ok { OnOk result (self.new ≡ record { puts = map.insert self.old.puts key after; next = self.old.next }) }
         ensures err { OnErr result (self.new ≡ self.old) }
     {
-        self.puts.insert(key, after)?;
+        drop(self.puts.insert(key, after)?);
         Ok(())
     }
 
@@ -123,7 +122,7 @@ impl Draft {
     pub fn entry<'a>(&'a self, ds: &'a DataSet, key: Key) -> Option<&'a SharedEntry>
         ensures { option_copied result ≡ entry_of (drafted self.now ds.now) key }
     {
-        match self.puts.get(&key) {
+        match self.get(key) {
             Some(after) => after.as_ref(),
             None => ds.entry(key),
         }
@@ -138,8 +137,7 @@ impl Draft {
         ensures { IfOk result (λ keys. keys.items ≡ map.keys self.now.puts) }
     {
         let mut keys = keys(self.alloc, &self.puts)?;
-        keys.sort()?;
-        Ok(keys)
+        keys.sort().and(Ok(keys))
     }
 }
 

@@ -4,10 +4,11 @@ ghost use Rattle.osm_base.specs.RisingKeys.{rises, is_in};
 ghost use Rattle.osm_base.specs.declared.key.Key.{Key};
 ghost use Rattle.osm_table.specs.Told.{table_told};
 ghost use Rattle.ref_index.specs.declared.pair.Pair.{Pair};
-ghost use Rattle.ref_index.specs.Bag.{times};
-ghost use Rattle.dataset.specs.Exact.{IsExact, pairs_by};
+ghost use Rattle.ref_index.specs.Bag.{count, times};
+ghost use Rattle.dataset.specs.Exact.{IsExact, pairs_by, times_key};
 ghost use Rattle.dataset.specs.Index.{count_kept};
 ghost use Rattle.dataset.specs.Sides.{side};
+ghost use Rattle.dataset.specs.ToldIndex.{refs_told};
 
 use crate::edit::Edit;
 use crate::pairs::{keep_pairs, lead_pairs};
@@ -16,6 +17,7 @@ use osm_base::Key;
 use osm_table::{Shared, ToldMap};
 use ref_index::RefIndex;
 use std::alloc::{AllocError, Global};
+use std::mem::replace;
 
 /// Who refers to what. As long as no reference comes or goes behind a first download it stands beside
 /// the told map; the first edit that moves one makes it an index of its own.
@@ -86,11 +88,20 @@ impl Index {
                 if keep_pairs(edits) {
                     return Ok(());
                 }
-                let mut index = told.own()?;
-                lead_pairs(&mut index, edits, forth)?;
-                *self = Index::Own(index);
+                let index = own_led(told, edits, forth)?;
+                // Dropped by a call: on the way out, the code of all that an index owns would be written out.
+                drop(replace(self, Index::Own(index)));
                 Ok(())
             }
         }
     }
+}
+
+/// The pairs of a told map in an index of its own, led by one side of edits.
+fn own_led(told: &ToldIndex, edits: &[Edit], forth: bool) -> Result<RefIndex, AllocError>
+    requires { (p : Pair) → times p (pairs_by (side (not forth)) edits.now) ≤ times_key p.of (refs_told told.now p.user) }
+    ensures { IfOk result (λ index. (p : Pair) → times p (pairs_by (side (not forth)) edits.now) + count index p ≡ times p (pairs_by (side forth) edits.now) + times_key p.of (refs_told told.now p.user)) }
+{
+    let mut index = told.own()?;
+    lead_pairs(&mut index, edits, forth).and(Ok(index))
 }

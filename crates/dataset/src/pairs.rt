@@ -3,6 +3,7 @@
 ghost use Rattle.std.specs.Prelude.{◌≡◌, ◌+◌, ◌<◌, ◌≤◌, not, if◌then◌else◌, None, length, take, slice_index_or, OnOk, OnErr, IfOk};
 ghost use Rattle.std.specs.List.{list_all};
 ghost use Rattle.std.specs.Option.{option_copied, option_map};
+ghost use Rattle.std.specs.FinMap as fin;
 ghost use Rattle.osm_base.specs.Content.{refs_of};
 ghost use Rattle.osm_table.specs.Told.{entry_told, told_at};
 ghost use Rattle.ref_index.specs.declared.pair.Pair.{Pair};
@@ -81,13 +82,25 @@ pub fn keep_pairs(edits: &[Edit]) -> bool
 pub fn index_of(told: &ToldMap) -> Result<RefIndex, AllocError>
     ensures { IfOk result (λ index. (p : Pair) → count index p ≡ times_key p.of (refs_told told.now p.user)) }
 {
-    let mut index = RefIndex::new(told.alloc());
     let keys = told.ordered()?;
+    let mut index = RefIndex::new(told.alloc());
+    // Dropped by a call: on a way out, the code of all that an index owns would be written out.
+    let added = add_objects(&mut index, told, keys.as_slice());
+    drop(keys);
+    added.and(Ok(index))
+}
+
+/// Adds the pairs of all objects to an index that has none, by rank.
+fn add_objects(index: &mut RefIndex, told: &ToldMap, keys: &[Key]) -> Result<(), AllocError>
+    requires none { index.old ≡ fin.empty }
+    requires keys { keys.now ≡ fin.keys told.now.told }
+    ensures { OnOk result ((p : Pair) → count index.new p ≡ times_key p.of (refs_told told.now p.user)) }
+{
     let at = Cell::new(0);
-    for key in keys.as_slice() {
-        add_object(&mut index, told, &at, *key)?;
+    for key in keys {
+        add_object(index, told, &at, *key)?;
     }
-    Ok(index)
+    Ok(())
 }
 
 /// Adds the pairs of an object, or none of them. It is sought as in `content_along`.

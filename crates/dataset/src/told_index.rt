@@ -5,6 +5,7 @@
 //! are in an index by hash; a closed map has none. How often a pair is there stands in what is told.
 ghost use Rattle.std.specs.Prelude.{◌≡◌, ◌||◌, false, T, length, IfOk, OnOk};
 ghost use Rattle.std.specs.List.{list_any};
+ghost use Rattle.std.specs.FinMap as fin;
 ghost use Rattle.osm_base.specs.Content.{refs_of};
 ghost use Rattle.osm_base.specs.RisingKeys.{rises, is_in};
 ghost use Rattle.osm_base.specs.declared.key.Key.{Key};
@@ -110,14 +111,35 @@ fn users_at<'a>(told: &ToldMap, lists: &'a Lists, of: Key) -> &'a [Key]
 fn lists_of(told: &ToldMap) -> Result<Lists, AllocError>
     ensures { IfOk result (λ lists. AreBeside told.now lists.users.items lists.others) }
 {
-    let mut lists = empty_lists(told)?;
     let keys = told.ordered()?;
+    let lists = lists_by(told, keys.as_slice());
+    // Dropped by a call: on a way out, the code of all that keys own would be written out.
+    drop(keys);
+    lists
+}
+
+/// As `lists_of`, by the keys by rank.
+fn lists_by(told: &ToldMap, keys: &[Key]) -> Result<Lists, AllocError>
+    requires { keys.now ≡ fin.keys told.now.told }
+    ensures { IfOk result (λ lists. AreBeside told.now lists.users.items lists.others) }
+{
+    let mut lists = empty_lists(told)?;
+    put_objects(&mut lists, told, keys).and(Ok(lists))
+}
+
+/// Puts all objects into empty lists, by rank.
+fn put_objects(lists: &mut Lists, told: &ToldMap, keys: &[Key]) -> Result<(), AllocError>
+    requires places { length lists.old.users.items ≡ length told.now.order }
+    requires none { (p : Pair) → is_kept told.now lists.old.users.items lists.old.others p ≡ false }
+    requires keys { keys.now ≡ fin.keys told.now.told }
+    ensures { OnOk result (AreBeside told.now lists.new.users.items lists.new.others) }
+{
     let at = Cell::new(0);
     let mut near = 0;
-    for key in keys.as_slice() {
-        near = put_object(&mut lists, told, &at, near, *key)?;
+    for key in keys {
+        near = put_object(lists, told, &at, near, *key)?;
     }
-    Ok(lists)
+    Ok(())
 }
 
 /// An empty list for each key.

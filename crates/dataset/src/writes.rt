@@ -40,16 +40,24 @@ fn push_write(writes: &mut Vec<Write>, write: Option<Write>) -> Result<(), Alloc
     Ok(())
 }
 
+/// Adds the writes of the edits behind others.
+fn push_writes(writes: &mut Vec<Write>, edits: &[Edit], forth: bool) -> Result<(), AllocError>
+    requires { writes.old.items ≡ [] }
+    ensures { OnOk result (writes.new.items ≡ writes_of forth edits.now) }
+{
+    for edit in edits {
+        let write = write_of(edit, forth)?;
+        push_write(writes, write)?;
+    }
+    Ok(())
+}
+
 /// The writes of the edits whose keys stay. Edits that bring or take out keys have none.
 pub fn writes_of(alloc: Global, edits: &[Edit], forth: bool) -> Result<Vec<Write>, AllocError>
     ensures { IfOk result (λ writes. writes.items ≡ writes_of forth edits.now) }
 {
     let mut writes = Vec::new(alloc);
-    for edit in edits {
-        let write = write_of(edit, forth)?;
-        push_write(&mut writes, write)?;
-    }
-    Ok(writes)
+    push_writes(&mut writes, edits, forth).and(Ok(writes))
 }
 
 fn put_fresh(table: &mut OwnTable, edit: &Edit, forth: bool) -> Result<(), AllocError>

@@ -19,5 +19,5 @@ returns-then-len-clause-ok c =
     c.become_empty.ensures.table
     ∙ told_goes c.args.told.now.told c.args.table.now c.args.forth c.args.next c.if-not-forth.true c.requires.stands (len ∙ ap (λ (m : ToldValue). fin.len m.told) c.value.ensures)
 
-pub lead_listed-requires-clause-order : goal.lead_listed-requires-clause-order
-lead_listed-requires-clause-order c = subst (λ (es : List Edit). T (in_order es)) (sym (c.as_slice.ensures.value ∙ c.in_ok-edits.ensures)) (told_patch _ 0 0).by_rank
+pub lead_listed-led-requires-clause-order : goal.lead_listed-led-requires-clause-order
+lead_listed-led-requires-clause-order c = subst (λ (es : List Edit). T (in_order es)) (sym (c.as_slice.ensures.value ∙ c.in_ok-edits.ensures)) (told_patch _ 0 0).by_rank

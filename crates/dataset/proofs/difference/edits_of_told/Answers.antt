@@ -7,5 +7,5 @@ use Rattle.dataset.proofs.difference.edits_of_told.Goals as goal
 
 pub returns : goal.returns
 returns c =
-    subst (λ (keys : List Key). IfOk c.edits_of_keys.result (λ edits. DiffOver c.args.table.now (drafted (arrivals c.args.told.now.told c.args.table.now.next) c.args.table.now) keys edits.items))
-    (c.as_slice.ensures ∙ c.in_ok-keys.ensures) c.edits_of_keys.ensures
+    subst (λ (keys : List Key). IfOk c.edits_of_keys-edits.result (λ edits. DiffOver c.args.table.now (drafted (arrivals c.args.told.now.told c.args.table.now.next) c.args.table.now) keys edits.items))
+    (c.as_slice.ensures ∙ c.in_ok-keys.ensures) c.edits_of_keys-edits.ensures

@@ -1,16 +1,9 @@
-use Rattle.std.proofs.Common.{refl, ◌∙◌, arith}
-use Rattle.dataset.proofs.ToldIndex.{none_indexed, more_indexed, all_indexed}
+use Rattle.std.proofs.Common.{◌∙◌}
+use Rattle.dataset.proofs.Results.{and_ok}
 use Rattle.dataset.proofs.pairs.index_of.Goals as goal
 
-pub loop-key-init : goal.loop-key-init
-loop-key-init c = none_indexed c.args.told.now.told c.new-index.result c.new-index.ensures
-
-pub loop-key-preserved : goal.loop-key-preserved
-loop-key-preserved c =
-    more_indexed c.args.told.now c.as_slice-key-items.result.now c.loop-key.key-index _ _ c.loop-key.index c.add_object.new.index
-    (c.as_slice-key-items.ensures ∙ c.in_ok-keys.ensures) (omega arith) refl c.in_ok-add_object.ensures.ok c.loop-key.invariant
+pub add_objects-added-requires : goal.add_objects-added-requires
+add_objects-added-requires c = record { none = c.new-index.ensures; keys = c.as_slice.ensures ∙ c.in_ok-keys.ensures }
 
 pub returns : goal.returns
-returns c =
-    all_indexed c.args.told.now c.as_slice-key-items.result.now c.loop-key.key-index c.loop-key.index
-    (c.as_slice-key-items.ensures ∙ c.in_ok-keys.ensures) (omega arith) c.loop-key.invariant
+returns c = and_ok _ c.add_objects-added.result c.add_objects-added.new.index c.and.result c.and.ensures (λ all. all) c.add_objects-added.ensures
