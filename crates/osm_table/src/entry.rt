@@ -113,8 +113,8 @@ impl Base {
                 meta,
             } => Ok(Base::Live {
                 version: *version,
-                content: content.copy()?,
                 meta: meta.copy()?,
+                content: content.copy()?,
             }),
             Base::Gone { version, meta } => Ok(Base::Gone {
                 version: *version,

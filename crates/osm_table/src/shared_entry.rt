@@ -181,10 +181,11 @@ impl SharedEntry {
         match self.shared.as_ref() {
             Kept::Incomplete => Ok(Entry::Incomplete),
             Kept::Unchanged { base } => known_of(base, base.content(), None),
-            Kept::Other { parts } => {
-                let conflict = copy_conflict(&parts.conflict)?;
-                known_of(&parts.base, parts.mine.as_ref(), conflict)
-            }
+            Kept::Other { parts } => known_of(
+                &parts.base,
+                parts.mine.as_ref(),
+                parts.conflict.as_ref(),
+            ),
         }
     }
 
@@ -299,7 +300,10 @@ fn known(alloc: Global, parts: Parts) -> Result<SharedEntry, AllocError>
     ensures { IfOk result (λ shared. shared ≡ Known parts.base parts.mine parts.conflict) }
 {
     if is_unchanged(&parts) {
-        return shared(alloc, Kept::Unchanged { base: parts.base });
+        let Parts { base, mine, .. } = parts;
+        // Let go by a call: else the code of all that it owns would be written out.
+        drop(mine);
+        return shared(alloc, Kept::Unchanged { base });
     }
     let parts = Box::new(alloc, parts)?;
     shared(alloc, Kept::Other { parts })
@@ -321,21 +325,29 @@ fn lent(conflict: &Option<Shared<Conflict>>) -> Option<&Conflict>
     }
 }
 
-/// An entry in this conflict, with copies of a base and a mine.
+/// An entry with copies of a base, a mine and a conflict.
 fn known_of(
     base: &Base,
     mine: Option<&Content>,
-    conflict: Option<Shared<Conflict>>,
+    conflict: Option<&Shared<Conflict>>,
 ) -> Result<Entry, AllocError>
-    ensures { IfOk result (λ entry. entry ≡ Known base.now (option_copied mine.entry) conflict) }
+    ensures { IfOk result (λ entry. entry ≡ Known base.now (option_copied mine.entry) (option_copied conflict.entry)) }
 {
-    let base = base.copy()?;
+    let conflict = copy_conflict(conflict)?;
     let mine = copy_mine(mine)?;
-    Ok(Entry::Known {
-        base,
-        mine,
-        conflict,
-    })
+    match base.copy() {
+        Ok(base) => Ok(Entry::Known {
+            base,
+            mine,
+            conflict,
+        }),
+        Err(refused) => {
+            // Let go by calls: else the code of all that they own would be written out.
+            drop(mine);
+            drop(conflict);
+            Err(refused)
+        }
+    }
 }
 
 fn copy_mine(mine: Option<&Content>) -> Result<Option<Content>, AllocError>
@@ -348,9 +360,9 @@ fn copy_mine(mine: Option<&Content>) -> Result<Option<Content>, AllocError>
 }
 
 fn copy_conflict(
-    conflict: &Option<Shared<Conflict>>,
+    conflict: Option<&Shared<Conflict>>,
 ) -> Result<Option<Shared<Conflict>>, AllocError>
-    ensures { IfOk result (λ copy. copy ≡ conflict.now) }
+    ensures { IfOk result (λ copy. copy ≡ option_copied conflict.entry) }
 {
     match conflict {
         None => Ok(None),
