@@ -4,7 +4,8 @@ use Rattle.std.specs.declared.cmp.Ordering.TheVariants.{Less}
 use Rattle.std.specs.Ordering.{is_eq}
 use Rattle.std.specs.List.{zip, IsDistinct, AllByRecursion}
 use Rattle.std.specs.Map.{keys_of, lookup}
-use Rattle.std.specs.Prelude.{slice_get, IfNone, OnOk, OnErr, Result, Ok, Err, T}
+use Rattle.std.specs.Prelude.{slice_get, IfNone, IfOk, OnOk, OnErr, Result, Ok, Err, T}
+use Rattle.std.specs.Result.{result_and}
 use Rattle.std.proofs.lemmas.List.{length-map}
 use Rattle.std.proofs.lemmas.Map.Keys.{IsDistinct-head, IsDistinct-tail}
 use Rattle.std.proofs.lemmas.Slice.Zip.{firsts-zip}
@@ -79,6 +80,11 @@ when_ok (Err e) p = tt
 pub if_err : {A B P : Type 0} (r : Result A B) → P → OnErr r P
 if_err (Ok a) p = tt
 if_err (Err e) p = p
+
+-- what is answered where a step passes
+pub and_ok : {T U E P : Type 0} (Q : U → Type 0) (r : Result T E) (u : U) → (P → Q u) → OnOk r P → IfOk (result_and r (Ok u)) Q
+and_ok Q (Ok x) u more h = more h
+and_ok Q (Err e) u more h = tt
 
 -- Entries beside their keys.
 

@@ -133,10 +133,6 @@ place_none ks k p is h = subst (IsPlace ks k) is h
 pub place_some : (ks : List Key) (k : Key) (p : Option ℕ) (i : ℕ) → p ≡ Some i → IsPlace ks k p → slice_get ks i ≡ Some k
 place_some ks k p i is h = subst (IsPlace ks k) is h
 
-pub no_place : (p : Option ℕ) → is_some p ≡ false → p ≡ None
-no_place None is = refl
-no_place (Some i) is = let no : true ≡ false = is in cc
-
 -- what holds holds where there is none
 pub when_none : {A P : Type 0} (o : Option A) → P → IfNone o P
 when_none None p = p

@@ -3,6 +3,7 @@ ghost use Rattle.std.specs.Prelude.{◌≡◌, ◌<◌, ◌++◌, ◌∷◌, if�
 ghost use Rattle.std.specs.Option.{option_copied, option_map};
 ghost use Rattle.std.specs.FinMap as map;
 ghost use Rattle.std.specs.List.{IsDistinct, zip};
+ghost use Rattle.std.specs.List.Sorted.{IsPermutation, IsSorted};
 ghost use Rattle.std.specs.Map.{lookup, keys_of};
 ghost use Rattle.osm_base.specs.KeyEq.{eq};
 ghost use Rattle.osm_base.specs.Rank.{rank_cmp};
@@ -81,8 +82,7 @@ impl KeyedEntries {
         ensures { IfOk result (λ entries. entries ≡ list.items) }
     {
         let mut entries = KeyedEntries::with_capacity(alloc, list.len())?;
-        put_all(&mut entries, list)?;
-        Ok(entries)
+        put_all(&mut entries, list).and(Ok(entries))
     }
 
     /// Sets the entry of a key, and drops the one that it had. A new key comes last. One that comes
@@ -199,9 +199,7 @@ impl KeyedEntries {
         if self.places.rise(&self.keys) {
             return Ok(Ordered::standing(&self.keys));
         }
-        let mut keys = Vec::from_slice(self.alloc(), &self.keys)?;
-        keys.sort()?;
-        Ok(Ordered::sorted(Keys::from_vec(keys)))
+        Ok(Ordered::sorted(listed_by_rank(self.alloc(), &self.keys)?))
     }
 
     /// The same entries under the same keys. It shares the entries, and hashes nothing.
@@ -222,6 +220,16 @@ impl KeyedEntries {
     pub fn alloc(&self) -> Global {
         *self.keys.allocator()
     }
+}
+
+/// The keys of a list by rank.
+fn listed_by_rank(alloc: Global, keys: &[Key]) -> Result<Keys, AllocError>
+    ensures permutation { IfOk result (λ ks. IsPermutation keys.now ks) }
+    ensures sorted { IfOk result (λ ks. IsSorted rank_cmp ks) }
+{
+    let mut keys = Vec::from_slice(alloc, keys)?;
+    keys.sort()?;
+    Ok(Keys::from_vec(keys))
 }
 
 /// Sets the entries of a list, one after the other.

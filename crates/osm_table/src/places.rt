@@ -65,13 +65,13 @@ impl Places {
                     rising::put_post(posts, keys.len(), key)?;
                     return Ok(None);
                 }
-                let place = rising::place_of(keys, posts, key);
-                if place.is_none() {
-                    let mut places = hashed(keys, room, *posts.allocator())?;
-                    places.insert(key, keys.len())?;
-                    *self = Places::Hashed(places);
+                if let Some(place) = rising::place_of(keys, posts, key) {
+                    return Ok(Some(place));
                 }
-                Ok(place)
+                let mut places = hashed(keys, room, *posts.allocator())?;
+                let place = put_hashed(&mut places, keys, key);
+                *self = Places::Hashed(places);
+                place
             }
             Places::Hashed(places) => put_hashed(places, keys, key),
         }
@@ -182,8 +182,10 @@ fn place_or(places: &mut HashMap<Key, usize>, key: Key, new: usize) -> Result<us
     ensures absent { OnErr result (get eq places.old key ≡ None) }
     ensures kept { OnErr result ((q : Key) → get eq places.new q ≡ get eq places.old q) }
 {
-    let kept = places.entry(key)?.or_insert(new);
-    Ok(*kept)
+    match places.entry(key) {
+        Ok(entry) => Ok(*entry.or_insert(new)),
+        Err(_) => Err(AllocError),
+    }
 }
 
 /// Takes out a key whose place is hashed. The last key comes into its place, which is answered. It costs a look-up of each.

@@ -66,8 +66,8 @@ impl ToldMap {
         ensures { IfOk result (λ told. told ≡ record { told = map.empty; order = [] }) }
     {
         Ok(ToldMap {
-            entries: KeyedEntries::with_capacity(alloc, keys)?,
             mentioned: SharedEntry::told(alloc, Told::Mentioned)?,
+            entries: KeyedEntries::with_capacity(alloc, keys)?,
             all_there: true,
             closed: false,
             near: 0,

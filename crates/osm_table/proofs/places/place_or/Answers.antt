@@ -1,5 +1,5 @@
 use Rattle.std.proofs.Common.{arith}
 use Rattle.osm_table.proofs.places.place_or.Goals as goal
 
-pub returns-clause-put : goal.returns-clause-put
-returns-clause-put c q = grind (arith, (c.in_ok-places.ensures.update.0 c.or_insert-kept.result.now).0 q)
+pub returns-in-Ok-clause-put : goal.returns-in-Ok-clause-put
+returns-in-Ok-clause-put c q = grind (arith, (c.in-Ok.ensures.update.0 c.or_insert.result.now).0 q)

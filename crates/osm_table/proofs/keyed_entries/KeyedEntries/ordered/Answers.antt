@@ -21,8 +21,8 @@ returns-then-rise c =
 pub returns : goal.returns
 returns c =
     let keys = kept_keys c.self.inside.keys c.self.inside.entries c.self.invariant.1 c.self.view_is in
-    let listed = c.in_ok-keys.ensures.items ∙ c.deref-2.ensures.value ∙ keys in
-    c.sorted.ensures ∙ c.from_vec.ensures
-    ∙ by_rank c.args.self.now c.sort.new.self.items c.in_ok-sort.ensures.sorted
-    (subst (λ (ks : List Key). IsPermutation ks c.sort.new.self.items) listed c.in_ok-sort.ensures.permutation)
+    let sorted = c.in_ok-listed_by_rank.field-0 in
+    c.sorted.ensures
+    ∙ by_rank c.args.self.now sorted c.in_ok-listed_by_rank.ensures.sorted
+    (subst (λ (ks : List Key). IsPermutation ks sorted) (c.deref-2.ensures.value ∙ keys) c.in_ok-listed_by_rank.ensures.permutation)
     (subst (λ (ks : List Key). IsDistinct eq ks) keys (in_place_distinct c.self.inside.keys.items c.self.inside.places c.self.invariant.0))
