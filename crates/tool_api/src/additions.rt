@@ -41,6 +41,5 @@ pub fn add_new(draft: &mut Draft, content: Content) -> Result<(), AllocError>
             mine: Some(content),
             conflict: None,
         }),
-    )?;
-    Ok(())
+    )
 }

@@ -1,6 +1,7 @@
 //! Drafts in which each of several objects has its content edited.
 ghost use Rattle.std.specs.Prelude.{◌≡◌, None, OnOk, IfOk};
 ghost use Rattle.std.specs.Option.{option_map};
+ghost use Rattle.std.specs.FinMap as map;
 ghost use Rattle.osm_base.specs.declared.content.Content.{Content};
 ghost use Rattle.dataset.specs.Draft.{drafted};
 ghost use Rattle.dataset.specs.Sound.{IsSound};
@@ -70,11 +71,19 @@ fn edited_entry<E: EditContent>(entry: Entry, rule: &E) -> Result<Entry, AllocEr
             base,
             mine,
             conflict,
-        } => Ok(Entry::Known {
-            base,
-            mine: edited_mine(mine, rule)?,
-            conflict,
-        }),
+        } => match edited_mine(mine, rule) {
+            Ok(mine) => Ok(Entry::Known {
+                base,
+                mine,
+                conflict,
+            }),
+            Err(e) => {
+                // Dropped by calls: on a way out, the code of all that they own would be written out.
+                drop(base);
+                drop(conflict);
+                Err(e)
+            }
+        },
     }
 }
 
@@ -101,10 +110,22 @@ pub fn edit_all<E: EditContent>(
     ensures { OnOk result (drafted draft.new ds.now ≡ changed (drafted draft.old ds.now) (edit ds.now (E.edited rule.now)) keys.now) }
 {
     for key in keys {
-        let after = edited_at(ds, *key, rule)?;
-        draft.put(*key, after)?;
+        edit_one(ds, *key, rule, draft)?;
     }
     Ok(())
+}
+
+/// As `edit_all`, for one key.
+fn edit_one<E: EditContent>(
+    ds: &DataSet,
+    key: Key,
+    rule: &E,
+    draft: &mut Draft,
+) -> Result<(), AllocError>
+    ensures { OnOk result (draft.new ≡ record { puts = map.insert draft.old.puts key (edit ds.now (E.edited rule.now) key); next = draft.old.next }) }
+{
+    let after = edited_at(ds, key, rule)?;
+    draft.put(key, after)
 }
 
 /// The draft in which each of the keys has its content edited. A look-up and a copy each.
@@ -115,8 +136,7 @@ fn edited_draft<E: EditContent>(ds: &DataSet, keys: &[Key], rule: &E) -> Result<
     ensures { IfOk result (λ draft. drafted draft ds.now ≡ changed ds.now (edit ds.now (E.edited rule.now)) keys.now) }
 {
     let mut draft = Draft::new(ds);
-    edit_all(ds, keys, rule, &mut draft)?;
-    Ok(draft)
+    edit_all(ds, keys, rule, &mut draft).and(Ok(draft))
 }
 
 /// The plan of a job that edits the content of each of the keys, after the closing tests. It makes no key. A look-up and

@@ -1,6 +1,6 @@
 //! The tool of a command.
-ghost use Rattle.std.specs.Prelude.{◌≡◌, ◌<◌, [], ◌∷◌, ◌++◌, length, OnOk, OnErr, vec_len, vec_capacity};
-ghost use Rattle.dataset.specs.Patch.{StandsBefore, after_of};
+ghost use Rattle.std.specs.Prelude.{◌≡◌, ◌<◌, [], ◌∷◌, ◌++◌, length, IfOk, OnOk, OnErr, vec_len, vec_capacity};
+ghost use Rattle.dataset.specs.Patch.{IsDiff, StandsBefore, after_of};
 ghost use Rattle.dataset.specs.Diff.{diff};
 ghost use Rattle.dataset.specs.Draft.{drafted};
 ghost use Rattle.dataset.specs.Sound.{IsSound};
@@ -74,9 +74,19 @@ fn commit(behind: &mut Vec<Patch>, ds: &mut DataSet, draft: Draft) -> Result<(),
     ensures err_table { OnErr result (ds.new ≡ ds.old) }
     ensures err_done { OnErr result (behind.new.items ≡ behind.old.items) }
 {
-    let patch = ds.patch_of(&draft)?;
-    drop(draft);
+    let patch = difference_of(ds, draft)?;
     lead_on(behind, ds, patch)
+}
+
+/// The difference between the table and the draft's table. The draft is let go.
+fn difference_of(ds: &DataSet, draft: Draft) -> Result<Patch, AllocError>
+    ensures value { IfOk result (λ patch. patch ≡ diff ds.now (drafted draft ds.now)) }
+    ensures differs { IfOk result (λ patch. IsDiff ds.now (drafted draft ds.now) patch) }
+{
+    let patch = ds.patch_of(&draft);
+    // Dropped by a call: on a way out, the code of all that a draft owns would be written out.
+    drop(draft);
+    patch
 }
 
 /// Leads the table on by the patch, and puts that behind the others. It costs the patch's entries and their references.

@@ -1,6 +1,6 @@
 use Rattle.std.proofs.Common.{◌∙◌, sym, ◌<◌, length, arith, false, true}
 use Rattle.tool_api.proofs.Seen.{is_not, named_again, named_once}
-use Rattle.tool_api.proofs.checks.twice_test.Goals as goal
+use Rattle.tool_api.proofs.checks.seen_test.Goals as goal
 
 pub returns-then-not-branch : goal.returns-then-not-branch
 returns-then-not-branch c =
