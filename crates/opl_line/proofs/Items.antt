@@ -9,6 +9,13 @@ use Rattle.opl_line.specs.Field.{is, ref_text}
 use Rattle.opl_line.proofs.Digits.{id_unbroken}
 use Rattle.opl_line.proofs.Unbroken.{before_all, after_none}
 
+-- the first byte and those behind it
+pub first_behind : (bytes : List ℕ) → 1 ≤ length bytes → bytes ≡ get_or bytes 0 0 ∷ take (length bytes - 1) (drop 1 bytes)
+first_behind [] some = absurd (omega arith)
+first_behind (b ∷ bytes) some =
+    let at : length (b ∷ bytes) - 1 ≡ length bytes = omega arith in
+    rw (at, take-length bytes) refl
+
 no_place : (b : ℕ) → is_ascii_digit b ≡ true → is 120 b ≡ false
 no_place b digit = grind (arith, nat_tests, digit)
 

@@ -4,6 +4,8 @@ pub mod Fronts
 pub mod Coordinates
 pub mod Digits
 pub mod Items
+mod Members
+mod Ways
 pub mod Times
 pub mod Unbroken
 pub mod ListsAgain
