@@ -71,7 +71,6 @@ fn no_fields() -> Fields
 }
 
 /// Takes the fields between blanks in, one after the other.
-#[tactic(auto, using(crate::proofs::Fronts::split_front, crate::proofs::Fronts::behind_shorter))]
 fn fields_of(
     pool: &mut Pool,
     mode: Mode,

@@ -164,7 +164,6 @@ fn read_ref(item: &[u8]) -> Option<i64>
 }
 
 // `n` and an id. What isn't of this form may be a reference too.
-#[tactic(auto, using(crate::proofs::Items::ref_before, crate::proofs::Items::ref_after))]
 fn plain_ref(bytes: &[u8]) -> Option<(i64, Option<&[u8]>)>
     ensures value { IfSome result (λ r. ref_text (before (is_one_of 44 44) bytes.now) ≡ Some r.0) }
     ensures rest { IfSome result (λ r. option_map (λ rest. rest.now) r.1 ≡ after (is_one_of 44 44) bytes.now) }
@@ -206,7 +205,6 @@ fn ref_into<'t>(refs: &mut Refs, bytes: &'t [u8]) -> Result<Option<&'t [u8]>, Li
 }
 
 /// The references between commas.
-#[tactic(auto, using(crate::proofs::Fronts::split_front, crate::proofs::Fronts::behind_shorter))]
 fn all_refs(pool: &mut Pool, text: &[u8]) -> Result<Refs, LineAnswer>
     ensures { Gives (λ refs. refs) result (folded ref_into [] (split (is_one_of 44 44) text.now)) }
 {
