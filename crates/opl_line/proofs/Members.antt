@@ -30,3 +30,8 @@ pub role_left : (item : List ℕ) (b : ℕ) (text : List ℕ) (kind : Kind) (id 
     → member_at item ≡ (or_fault faults.BadText (unescaped rest) >>= λ role. Ok (record { key = record { kind = kind; id = id }; role = role }))
 unfolding member_at
 role_left item b text kind id rest e k i r = rw (e, k, i, r) refl
+
+pub whole_member : (item : List ℕ) (b : ℕ) (text : List ℕ) (kind : Kind) (id : ℤ) (rest role : List ℕ) → item ≡ b ∷ text → kind_letter b ≡ Some kind → id_text (before (is 64) text) ≡ Some id → after (is 64) text ≡ Some rest
+    → or_fault faults.BadText (unescaped rest) ≡ Ok role → member_at item ≡ Ok (record { key = record { kind = kind; id = id }; role = role })
+unfolding member_at
+whole_member item b text kind id rest role e k i r t = rw (e, k, i, r, t) refl

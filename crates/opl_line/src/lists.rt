@@ -241,7 +241,6 @@ pub fn refs_allowed(mode: Mode, ids: &[i64]) -> bool
 }
 
 /// A kind, an id, `@` and a role.
-#[tactic(auto, unfolding(crate::specs::Field::member_at))]
 fn member_at(pool: &mut Pool, item: &[u8]) -> Result<Member, LineAnswer>
     ensures { Gives (λ member. member) result (member_at item.now) }
 {

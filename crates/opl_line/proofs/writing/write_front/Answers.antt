@@ -1,5 +1,9 @@
-use Rattle.osm_base.proofs.ExtendLaws.{extends_more, failed_after}
+use Rattle.osm_base.proofs.ExtendLaws.{extends_itself, extends_more, failed_after}
 use Rattle.opl_line.proofs.writing.write_front.Goals as goal
+
+pub returns-in_err-push-clause-kept : goal.returns-in_err-push-clause-kept
+returns-in_err-push-clause-kept c =
+    failed_after c.from_residual-in_err-push.result _ _ _ _ c.in_ok-write_number.ensures.written (extends_more _ _ _ _ c.in_ok-extend_from_slice.ensures.items (extends_itself _ _ c.in_err-push.ensures.items))
 
 pub returns-in_err-write_number-2-clause-kept : goal.returns-in_err-write_number-2-clause-kept
 returns-in_err-write_number-2-clause-kept c =
