@@ -3,17 +3,14 @@ ghost use Rattle.std.specs.Prelude.{◌≡◌};
 
 pub use opl_file::Unread;
 use std::alloc::{AllocError, AllocFailed};
-use thiserror::Error;
 
 /// Why a script has no steps.
-#[derive(Error, Debug, Drop)]
+#[derive(Drop)]
 pub enum ScriptFault {
     /// The first line outside the grammar, numbered from 1.
-    #[error("line {0} is outside the grammar")]
     BadLine(u64),
 
     /// No memory was left.
-    #[error("out of memory")]
     Memory,
 }
 

@@ -4,7 +4,7 @@ use Rattle.edit_script.specs.declared.place.Place.TheVariants.{Start}
 use Rattle.edit_script.specs.Script.{steps_of, steps_from}
 use Rattle.edit_script.proofs.Lists.{onto_front}
 use Rattle.edit_script.proofs.Orderly.{IsPlaced, place_behind}
-use Rattle.edit_script.proofs.script.read_script.Given as goal
+use Rattle.edit_script.proofs.script.read_steps.Given as goal
 
 abbrev pub invariant-loop-rest : goal.invariant-loop-rest
 invariant-loop-rest l = record {

@@ -10,7 +10,7 @@ use Rattle.edit_script.specs.Place.{may_stand_at, place_after}
 use Rattle.edit_script.specs.Script.{after_line, line_of, onto_steps, steps_from}
 use Rattle.edit_script.proofs.Lists.{onto_front, onto_front-asks}
 use Rattle.edit_script.proofs.Orderly.{IsPlaced, place_behind, placed-more, place_behind-more, placed_meeting, placed_orderly, placed_other}
-use Rattle.edit_script.proofs.script.read_script.Goals as goal
+use Rattle.edit_script.proofs.script.read_steps.Goals as goal
 
 -- a line outside the grammar is a bad one,
 outside : (front : List Step) (place : Place) (line : ℕ) (text : List ℕ) (texts : List (List ℕ)) → line_of text ≡ None → onto_front front (steps_from place line (text ∷ texts)) ≡ Err line
