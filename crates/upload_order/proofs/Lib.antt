@@ -1,3 +1,4 @@
+mod Loops
 mod WaitingLaws
 pub mod Keys
 mod Counted

@@ -3,7 +3,7 @@
 //! A relation waits for those that use it and are neither gone nor emptied. Each use is counted once, and taken back once:
 //! when its user goes or is emptied. So a relation that waits for none is found in log n steps, and so is the one to be
 //! emptied where all wait.
-ghost use Rattle.std.specs.Prelude.{◌≡◌, [], T, IfOk, if◌then◌else◌};
+ghost use Rattle.std.specs.Prelude.{◌≡◌, [], T, IfOk, OnOk, if◌then◌else◌};
 ghost use Rattle.std.specs.List.{list_any};
 ghost use Rattle.std.specs.FinMap as fin;
 ghost use Rattle.osm_base.specs.RisingKeys.{rises};
@@ -34,16 +34,17 @@ fn held_refs(alloc: Global, ds: &DataSet, key: Key) -> Result<Vec<Key>, AllocErr
     }
 }
 
-/// The keys, each with the number of those of them whose bases refer to it.
-fn counted(alloc: Global, ds: &DataSet, keys: &[Key]) -> Result<Waiting, AllocError>
-    ensures { IfOk result (λ w. w ≡ raised_by (held_refs ds.now) (put_all fin.empty keys.now) keys.now) }
+/// Adds the keys, each with the number of those of them whose bases refer to it.
+fn count(waiting: &mut Waiting, alloc: Global, ds: &DataSet, keys: &[Key]) -> Result<(), AllocError>
+    requires { waiting.old ≡ fin.empty }
+    ensures { OnOk result (waiting.new ≡ raised_by (held_refs ds.now) (put_all fin.empty keys.now) keys.now) }
 {
-    let mut waiting = put_keys(Waiting::new(alloc), keys)?;
+    put_keys(waiting, keys)?;
     for key in keys {
         let refs = held_refs(alloc, ds, *key)?;
-        waiting = raise_all(waiting, &refs)?;
+        raise_all(waiting, &refs)?;
     }
-    Ok(waiting)
+    Ok(())
 }
 
 fn has_some(waiting: &Waiting, keys: &[Key]) -> bool
@@ -52,38 +53,38 @@ fn has_some(waiting: &Waiting, keys: &[Key]) -> bool
     keys.iter().any(|key| waiting.has(*key))
 }
 
-/// Those of the keys whose bases refer to one that waits.
-fn clearable(
+/// Adds those of the keys whose bases refer to one that waits.
+fn put_clearable(
+    clearable: &mut RankSet,
     alloc: Global,
     ds: &DataSet,
     keys: &[Key],
     waiting: &Waiting,
-) -> Result<RankSet, AllocError>
-    ensures { IfOk result (λ s. s ≡ put_where (λ k. list_any (has waiting.now) (held_refs ds.now k)) [] keys.now) }
+) -> Result<(), AllocError>
+    ensures { OnOk result (clearable.new ≡ put_where (λ k. list_any (has waiting.now) (held_refs ds.now k)) clearable.old keys.now) }
 {
-    let mut set = RankSet::new(alloc);
     for key in keys {
         let refs = held_refs(alloc, ds, *key)?;
-        set = set.put_if(*key, has_some(waiting, &refs))?;
+        clearable.put_if(*key, has_some(waiting, &refs))?;
     }
-    Ok(set)
+    Ok(())
 }
 
-/// With one less for each to which the base of a key refers, if it counted.
-fn released(
+/// Takes back one for each to which the base of a key refers, if it counted.
+fn release(
+    waiting: &mut Waiting,
     alloc: Global,
     ds: &DataSet,
-    waiting: Waiting,
     key: Key,
     counted: bool,
-) -> Result<Waiting, AllocError>
-    ensures { IfOk result (λ w. w ≡ (if counted then changed_all one_less waiting (held_refs ds.now key) else waiting)) }
+) -> Result<(), AllocError>
+    ensures { OnOk result (waiting.new ≡ (if counted then changed_all one_less waiting.old (held_refs ds.now key) else waiting.old)) }
 {
     if counted {
         let refs = held_refs(alloc, ds, key)?;
         lower_all(waiting, &refs)
     } else {
-        Ok(waiting)
+        Ok(())
     }
 }
 
@@ -96,22 +97,47 @@ pub fn falls_of(alloc: Global, ds: &DataSet, keys: &[Key]) -> Result<Vec<Down>, 
     requires { T (rises keys.now) }
     ensures { IfOk result (λ downs. downs.items ≡ falls (held_refers ds.now) keys.now) }
 {
-    let mut waiting = counted(alloc, ds, keys)?;
-    let mut clearable = clearable(alloc, ds, keys, &waiting)?;
+    let mut waiting = Waiting::new(alloc);
+    let mut clearable = RankSet::new(alloc);
     let mut cleared = RankSet::new(alloc);
+    let downs = falls_by(&mut waiting, &mut clearable, &mut cleared, alloc, ds, keys);
+    // Dropped by calls: else what they own would be taken apart here.
+    drop(waiting);
+    drop(clearable);
+    drop(cleared);
+    downs
+}
+
+/// As `falls_of`, with no keys that wait, that can be emptied or that were; they are lent, so that no way out drops them.
+fn falls_by(
+    waiting: &mut Waiting,
+    clearable: &mut RankSet,
+    cleared: &mut RankSet,
+    alloc: Global,
+    ds: &DataSet,
+    keys: &[Key],
+) -> Result<Vec<Down>, AllocError>
+    requires rise { T (rises keys.now) }
+    requires none { waiting.old ≡ fin.empty }
+    requires none_clearable { clearable.old ≡ [] }
+    requires none_cleared { cleared.old ≡ [] }
+    ensures { IfOk result (λ downs. downs.items ≡ falls (held_refers ds.now) keys.now) }
+{
+    count(waiting, alloc, ds, keys)?;
+    put_clearable(clearable, alloc, ds, keys, waiting)?;
     let mut downs = Vec::new(alloc);
     loop {
         if let Some(key) = waiting.pop() {
             let counted = clearable.remove(key);
-            waiting = released(alloc, ds, waiting, key, counted)?;
+            release(waiting, alloc, ds, key, counted)?;
             downs.push(Down::Remove(key, cleared.contains(key)))?;
             continue;
         }
         let Some(user) = clearable.pop() else {
             return Ok(downs);
         };
-        waiting = released(alloc, ds, waiting, user, true)?;
-        cleared = cleared.put(user)?;
+        release(waiting, alloc, ds, user, true)?;
+        cleared.put(user)?;
         downs.push(Down::Clear(user))?;
     }
 }

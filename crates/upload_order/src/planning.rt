@@ -1,13 +1,16 @@
 //! The plan, or why there is none.
 ghost use Rattle.std.specs.Prelude.{◌≡◌, IfOk, List, ℤ};
+ghost use Rattle.std.specs.List.{filter};
+ghost use Rattle.osm_table.specs.Table.{keys_by_rank};
+ghost use Rattle.upload_order.specs.Kinds.{at_key};
 ghost use Rattle.upload_order.specs.Part.{changed_keys};
 ghost use Rattle.upload_order.specs.Plan.{made};
-ghost use Rattle.upload_order.specs.Refused.{upload, Gives};
+ghost use Rattle.upload_order.specs.Refused.{is_open, upload, Gives};
 ghost use Rattle.upload_order.specs.Run.{run_from, Ended, AreFresh};
 ghost use Rattle.upload_order.specs.World.{World, IsSoundWorld, Holds, Alone, AcceptsSoundly, IsEdited};
 
 use crate::change::Changes;
-use crate::marking::{Marks, marked};
+use crate::marking::marked;
 use crate::order::{Order, order_of};
 use crate::part::{Part, part_of};
 use crate::refusal::PlanRefusal;
@@ -42,19 +45,31 @@ pub fn plan(ds: &DataSet) -> Result<Changes, PlanRefusal>
 fn planned(ds: &DataSet) -> Result<Changes, PlanRefusal>
     ensures { Gives result (upload ds.now) }
 {
+    let marks = marked(ds)?;
+    let planned = planned_of(ds, &marks.open, &marks.changed);
+    // Dropped by a call: on each way out the drops of its lists would be written out.
+    drop(marks);
+    planned
+}
+
+/// As `planned`, where it is known what is in conflict and what is changed.
+fn planned_of(ds: &DataSet, conflicts: &[Key], changed: &[Key]) -> Result<Changes, PlanRefusal>
+    requires conflicts { conflicts.now ≡ filter (at_key ds.now is_open) (keys_by_rank ds.now) }
+    requires changed { changed.now ≡ changed_keys ds.now }
+    ensures { Gives result (upload ds.now) }
+{
     let alloc = ds.alloc();
-    let Marks { open, changed } = marked(ds)?;
-    if let Some(refusal) = open_refusal(&open) {
+    if let Some(refusal) = open_refusal(conflicts) {
         return Err(refusal);
     }
-    if let Some(refusal) = loose_refusal(alloc, ds, &changed)? {
+    if let Some(refusal) = loose_refusal(alloc, ds, changed)? {
         return Err(refusal);
     }
-    let Order { order, stuck } = relations(alloc, ds, &changed)?;
+    let Order { order, stuck } = relations(alloc, ds, changed)?;
     if let Some(refusal) = stuck_refusal(stuck) {
         return Err(refusal);
     }
-    let changes = changes_of(alloc, ds, &changed, &order)?;
+    let changes = changes_of(alloc, ds, changed, &order)?;
     Ok(changes)
 }
 

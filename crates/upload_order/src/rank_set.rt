@@ -1,5 +1,5 @@
 //! Sets of keys by rank.
-ghost use Rattle.std.specs.Prelude.{◌≡◌, [], IfOk, if◌then◌else◌};
+ghost use Rattle.std.specs.Prelude.{◌≡◌, [], OnOk, if◌then◌else◌};
 ghost use Rattle.osm_base.specs.RisingKeys.{is_in, with_key, without_key};
 ghost use Rattle.upload_order.specs.First.{first, rest};
 
@@ -8,7 +8,7 @@ use std::alloc::{AllocError, Global};
 use std::collections::BTreeSet;
 use std::marker::Model;
 
-/// Keys by rank, each once. A call that may find no memory takes the set by value, and gives it back where it found enough.
+/// Keys by rank, each once.
 #[derive(Drop)]
 pub struct RankSet {
     keys: BTreeSet<Key>,
@@ -36,26 +36,25 @@ impl RankSet {
         }
     }
 
-    /// With one key more.
+    /// Adds a key.
     ///
     /// # Errors
     /// No memory was left.
-    pub fn put(self, key: Key) -> Result<RankSet, AllocError>
-        ensures { IfOk result (λ s. s ≡ with_key key self) }
+    pub fn put(&mut self, key: Key) -> Result<(), AllocError>
+        ensures { OnOk result (self.new ≡ with_key key self.old) }
     {
-        let RankSet { mut keys } = self;
-        keys.insert(key)?;
-        Ok(RankSet { keys })
+        self.keys.insert(key)?;
+        Ok(())
     }
 
-    /// With one key more, if a test says so.
+    /// Adds a key, if a test says so.
     ///
     /// # Errors
     /// No memory was left.
-    pub fn put_if(self, key: Key, test: bool) -> Result<RankSet, AllocError>
-        ensures { IfOk result (λ s. s ≡ (if test then with_key key self else self)) }
+    pub fn put_if(&mut self, key: Key, test: bool) -> Result<(), AllocError>
+        ensures { OnOk result (self.new ≡ (if test then with_key key self.old else self.old)) }
     {
-        if test { self.put(key) } else { Ok(self) }
+        if test { self.put(key) } else { Ok(()) }
     }
 
     /// Whether a key is one of them.

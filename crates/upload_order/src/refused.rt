@@ -41,16 +41,15 @@ fn keeps(ds: &DataSet, key: Key, of: Key) -> bool
     }
 }
 
-/// With those of the references that are Incomplete and that the object keeps.
-fn put_kept(ds: &DataSet, vouched: RankSet, key: Key, refs: &[Key]) -> Result<RankSet, AllocError>
-    ensures { IfOk result (λ s. s ≡ put_where (λ r. at_key ds.now is_incomplete r && keeps_at ds.now key r) vouched refs.now) }
+/// Adds those of the references that are Incomplete and that the object keeps.
+fn put_kept(ds: &DataSet, vouched: &mut RankSet, key: Key, refs: &[Key]) -> Result<(), AllocError>
+    ensures { OnOk result (vouched.new ≡ put_where (λ r. at_key ds.now is_incomplete r && keeps_at ds.now key r) vouched.old refs.now) }
 {
-    let mut vouched = vouched;
     for of in refs {
         let test = is_incomplete(ds, *of) && keeps(ds, key, *of);
-        vouched = vouched.put_if(*of, test)?;
+        vouched.put_if(*of, test)?;
     }
-    Ok(vouched)
+    Ok(())
 }
 
 /// To what the base of a key refers, in a list whose memory is used again.
@@ -64,18 +63,22 @@ fn list_held(ds: &DataSet, key: Key, refs: &mut Vec<Key>) -> Result<(), AllocErr
     }
 }
 
-/// The Incomplete keys that an object vouches for. Costs a look-up for each reference of a base, and for each Incomplete
+/// Adds the Incomplete keys that an object vouches for. Costs a look-up for each reference of a base, and for each Incomplete
 /// one a search among its users.
-fn vouched_among(alloc: Global, ds: &DataSet, keys: &[Key]) -> Result<RankSet, AllocError>
-    ensures { IfOk result (λ s. s ≡ vouched_among ds.now [] keys.now) }
+fn put_vouched(
+    alloc: Global,
+    ds: &DataSet,
+    keys: &[Key],
+    vouched: &mut RankSet,
+) -> Result<(), AllocError>
+    ensures { OnOk result (vouched.new ≡ vouched_among ds.now vouched.old keys.now) }
 {
-    let mut vouched = RankSet::new(alloc);
     let mut refs = Vec::new(alloc);
     for key in keys {
         list_held(ds, *key, &mut refs)?;
-        vouched = put_kept(ds, vouched, *key, &refs)?;
+        put_kept(ds, vouched, *key, &refs)?;
     }
-    Ok(vouched)
+    Ok(())
 }
 
 fn is_loose(ds: &DataSet, vouched: &RankSet, key: Key) -> bool
@@ -163,7 +166,8 @@ pub fn loose_refusal(
         return Ok(None);
     }
     let keys = vouchers(alloc, ds, changed)?;
-    let vouched = vouched_among(alloc, ds, &keys)?;
+    let mut vouched = RankSet::new(alloc);
+    put_vouched(alloc, ds, &keys, &mut vouched)?;
     Ok(loose_among(ds, &vouched, changed))
 }
 

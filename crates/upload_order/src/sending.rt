@@ -73,8 +73,8 @@ fn empty_relation(alloc: Global) -> Result<Content, AllocError>
     ensures { IfOk result (λ content. content ≡ empty_relation) }
 {
     Ok(Content::Relation {
-        tags: Tags::new(alloc),
         members: Members::new(alloc)?,
+        tags: Tags::new(alloc),
     })
 }
 

@@ -13,7 +13,7 @@ pub returns : goal.returns
 returns c =
     let t = c.args.ds.now in
     c.loose_among-3.ensures
-    ∙ ap (λ (s : List Key). loose_among (is_loose_in t s) t c.args.changed.now) c.in_ok-vouched.ensures
+    ∙ ap (λ (s : List Key). loose_among (is_loose_in t s) t c.args.changed.now) (c.in_ok-put_vouched.ensures ∙ ap (λ (s : List Key). vouched_among t s c.deref.result.now) c.new-vouched.ensures)
     ∙ ap (λ (ks : List Key). loose_among (is_loose_in t (vouched_among t [] ks)) t c.args.changed.now) (c.deref.ensures.value ∙ c.in_ok-keys.ensures)
     ∙ ap (λ (ks : List Key). loose_among (is_loose_in t (vouched_among t [] (vouchers t ks))) t ks) c.requires
     ∙ loose_by_vouchers t

@@ -6,10 +6,10 @@ use Rattle.upload_order.specs.Kinds.{held_refs}
 use Rattle.upload_order.proofs.FallStart.{held_rise}
 use Rattle.upload_order.specs.Counts.{Counts, put_all}
 use Rattle.upload_order.proofs.Raising.{by_room, raises_by_more, raises_by_none}
-use Rattle.upload_order.proofs.falling.counted.Goals as goal
+use Rattle.upload_order.proofs.falling.count.Goals as goal
 
 pub loop-key-init : goal.loop-key-init
-loop-key-init c = raises_by_none (held_refs c.args.ds.now) c.args.keys.now c.in_ok-waiting.waiting (c.in_ok-waiting.ensures ∙ ap (λ (m : Counts). put_all m c.args.keys.now) c.new.ensures)
+loop-key-init c = raises_by_none (held_refs c.args.ds.now) c.args.keys.now c.put_keys.new.waiting (c.in_ok-put_keys.ensures ∙ ap (λ (m : Counts). put_all m c.args.keys.now) c.requires)
 
 pub raise_all-requires : goal.raise_all-requires
 raise_all-requires c =
@@ -25,6 +25,6 @@ loop-key-preserved c =
     let ks = c.args.keys.now in
     let i = c.loop-key.key-index in
     let us = c.deref.ensures.value ∙ c.in_ok-refs.ensures in
-    raises_by_more (held_refs c.args.ds.now) ks i c.loop-key.waiting (drop i ks) c.loop-key.invariant _ (drop (i + 1) ks) c.deref.result.now c.in_ok-waiting-2.waiting
+    raises_by_more (held_refs c.args.ds.now) ks i c.loop-key.waiting (drop i ks) c.loop-key.invariant _ (drop (i + 1) ks) c.deref.result.now c.raise_all.new.waiting
     (drop_more ks i _ (omega arith)) us
-    (subst (λ js. T (rises js)) (sym us) (held_rise c.args.ds.now _)) c.in_ok-waiting-2.ensures
+    (subst (λ js. T (rises js)) (sym us) (held_rise c.args.ds.now _)) c.in_ok-raise_all.ensures
