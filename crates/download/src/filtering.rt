@@ -86,14 +86,67 @@ fn kept_part(
 ) -> Result<Vec<Vec<OplObject>>, AllocError>
     ensures { IfOk result (λ left. objects_in left.items ≡ filter (keeps (objects_in batches.items) area wanted.now) (objects_in batches.items)) }
 {
-    let near = near(alloc, &batches, area)?;
-    keep_ways(&mut batches, wanted, &near);
-    let of_ways = nodes_of_ways(alloc, &batches)?;
-    keep_nodes(&mut batches, area, wanted, &of_ways);
-    let places = places(alloc, &batches)?;
-    let relations = relations_to(alloc, &batches, &places)?;
-    keep_relations(&mut batches, &places, &relations);
+    leave_kept(alloc, &mut batches, area, wanted)?;
     Ok(batches)
+}
+
+// The three passes. The file is lent to them, and each set is dropped by a call behind its pass: on a way out, all that it owns
+// would be written out.
+fn leave_kept(
+    alloc: Global,
+    batches: &mut Vec<Vec<OplObject>>,
+    area: Option<Area>,
+    wanted: &Tags,
+) -> Result<(), AllocError>
+    ensures { OnOk result (objects_in batches.new.items ≡ filter (keeps (objects_in batches.old.items) area wanted.now) (objects_in batches.old.items)) }
+{
+    pass_ways(alloc, batches, area, wanted)?;
+    pass_nodes(alloc, batches, area, wanted)?;
+    let places = places(alloc, batches.as_slice())?;
+    let passed = pass_relations(alloc, batches, &places);
+    drop(places);
+    passed
+}
+
+fn pass_ways(
+    alloc: Global,
+    batches: &mut Vec<Vec<OplObject>>,
+    area: Option<Area>,
+    wanted: &Tags,
+) -> Result<(), AllocError>
+    ensures { OnOk result (objects_in batches.new.items ≡ filter (on_side (way_left wanted.now (near area (objects_in batches.old.items)))) (objects_in batches.old.items)) }
+{
+    let near = near(alloc, batches.as_slice(), area)?;
+    keep_ways(batches, wanted, &near);
+    drop(near);
+    Ok(())
+}
+
+fn pass_nodes(
+    alloc: Global,
+    batches: &mut Vec<Vec<OplObject>>,
+    area: Option<Area>,
+    wanted: &Tags,
+) -> Result<(), AllocError>
+    ensures { OnOk result (objects_in batches.new.items ≡ filter (is_left area wanted.now (among (key_set (references (filter (on_side is_way) (objects_in batches.old.items)))))) (objects_in batches.old.items)) }
+{
+    let of_ways = nodes_of_ways(alloc, batches.as_slice())?;
+    keep_nodes(batches, area, wanted, &of_ways);
+    drop(of_ways);
+    Ok(())
+}
+
+fn pass_relations(
+    alloc: Global,
+    batches: &mut Vec<Vec<OplObject>>,
+    places: &KeySet,
+) -> Result<(), AllocError>
+    ensures { OnOk result (objects_in batches.new.items ≡ filter (on_side (relation_left (among places.now) (among (key_set (keys_of (filter (on_side (is_related (among places.now))) (objects_in batches.old.items))))))) (objects_in batches.old.items)) }
+{
+    let relations = relations_to(alloc, batches.as_slice(), places)?;
+    keep_relations(batches, places, &relations);
+    drop(relations);
+    Ok(())
 }
 
 // The nodes in the box, if there is one.

@@ -4,7 +4,7 @@ ghost use Rattle.osm_base.specs.Content.{node};
 ghost use Rattle.osm_base.specs.declared.members.Member.{Member};
 ghost use Rattle.opl_file.specs.Objects.{objects_in};
 ghost use Rattle.osm_table.specs.Told.{with_told};
-ghost use Rattle.download.specs.Tell.{refs_of_side, references, told_of_object, all_told, told_of, IsTellable, AreTellable};
+ghost use Rattle.download.specs.Tell.{refs_of_side, references, told_of_object, all_told, nothing, told_of, IsTellable, AreTellable};
 ghost use Rattle.download.specs.TellCode.{keys_of_list, keys_in, ArePositive, AreMentioned};
 
 use opl_file::Objects;
@@ -40,18 +40,32 @@ pub fn tell(alloc: Global, objects: Objects) -> Result<ToldMap, AllocError>
 ///
 /// # Errors
 /// No memory was left.
-#[tactic(auto, using(crate::proofs::Found::positive_references))]
 pub fn tell_batches(alloc: Global, batches: Vec<Vec<OplObject>>) -> Result<ToldMap, AllocError>
     requires { AreTellable (objects_in batches.items) }
     ensures { IfOk result (λ told. told ≡ told_of (objects_in batches.items)) }
 {
-    let references = references(alloc, &batches)?;
     let mut told = ToldMap::with_capacity(alloc, count(&batches))?;
-    tell_all(&mut told, batches)?;
-    if mention_all(&mut told, &references)? {
+    tell_onto(alloc, &mut told, batches)?;
+    Ok(told)
+}
+
+// As `tell_batches`, onto a map that tells nothing yet. It is lent, so that the steps have no more to drop.
+#[tactic(auto, using(crate::proofs::Found::positive_references))]
+fn tell_onto(
+    alloc: Global,
+    told: &mut ToldMap,
+    batches: Vec<Vec<OplObject>>,
+) -> Result<(), AllocError>
+    requires tellable { AreTellable (objects_in batches.items) }
+    requires none { told.old ≡ nothing }
+    ensures { OnOk result (told.new ≡ told_of (objects_in batches.items)) }
+{
+    let references = references(alloc, &batches)?;
+    tell_all(told, batches)?;
+    if mention_all(told, &references)? {
         told.close();
     }
-    Ok(told)
+    Ok(())
 }
 
 // What the objects refer to, in a list for each way and each relation. Each list is shared with its object, so no reference is
