@@ -28,7 +28,10 @@ fn patch_to_saved(ds: &DataSet, saved: &KeyedTable) -> Result<Patch, AllocError>
         return ds.patch_of_entries(&saved.entries, saved.next);
     }
     let draft = draft_of(ds, saved)?;
-    ds.patch_of(&draft)
+    let patch = ds.patch_of(&draft);
+    // Dropped by a call: on a way out, all that it owns would be written out.
+    drop(draft);
+    patch
 }
 
 /// The difference to a table that was read, where it is sound and within the limit.

@@ -66,6 +66,7 @@ fn read_object(desk: &mut Desk, key: Key, text: &[u8]) -> Result<OplObject, Unre
     }
 }
 
+// Here and below what isn't handed on is dropped by a call: on a way out, the code of all that it owns would be written out.
 fn as_written(
     written: &mut Vec<u8>,
     key: Key,
@@ -74,10 +75,19 @@ fn as_written(
 ) -> Result<OplObject, Unread>
     ensures { Gives result (if is_key key object.key && bytes_eq (object_written object) text.now then Some object else None) }
 {
-    if is_asked(written, key, &object, text)? {
-        Ok(object)
-    } else {
-        Err(Unread::Outside)
+    match is_asked(written, key, &object, text) {
+        Ok(asked) => {
+            if asked {
+                Ok(object)
+            } else {
+                drop(object);
+                Err(Unread::Outside)
+            }
+        }
+        Err(_) => {
+            drop(object);
+            Err(Unread::Memory)
+        }
     }
 }
 
@@ -159,15 +169,30 @@ fn is_own(object: &OplObject, key: Key, base: &Base, unknown: &Meta) -> bool
         && object.meta.same(unknown)
 }
 
-#[tactic(auto, unfolding(crate::specs::Reading::mine_at))]
 fn mine_at(desk: &mut Desk, key: Key, base: &Base, line: &[u8]) -> Result<Option<Content>, Unread>
     ensures { Gives result (mine_at key base.now line.now) }
 {
     let unknown = Meta::empty(desk.pool.allocator())?;
+    mine_beside(desk, key, base, &unknown, line)
+}
+
+/// As `mine_at`, with the empty metadata.
+#[tactic(auto, unfolding(crate::specs::Reading::mine_at))]
+fn mine_beside(
+    desk: &mut Desk,
+    key: Key,
+    base: &Base,
+    unknown: &Meta,
+    line: &[u8],
+) -> Result<Option<Content>, Unread>
+    requires { unknown.now ≡ empty_meta }
+    ensures { Gives result (mine_at key base.now line.now) }
+{
     let object = object_behind(desk, b"mine", key, line)?;
-    if is_own(&object, key, base, &unknown) {
+    if is_own(&object, key, base, unknown) {
         Ok(object.side)
     } else {
+        drop(object);
         Err(Unread::Outside)
     }
 }
@@ -256,15 +281,18 @@ fn with_held(alloc: Global, key: Key, base: Base, why: Option<Why>) -> Result<St
 {
     match why {
         None => Ok(ending(key, SharedEntry::unchanged(alloc, base)?)),
-        Some(why) => {
-            let mine = held_copy(&base)?;
-            Ok(awaiting(Place::Theirs {
+        Some(why) => match held_copy(&base) {
+            Ok(mine) => Ok(awaiting(Place::Theirs {
                 key,
                 base,
                 mine,
                 why,
-            }))
-        }
+            })),
+            Err(fault) => {
+                drop(base);
+                Err(fault)
+            }
+        },
     }
 }
 
@@ -350,8 +378,13 @@ fn at_mine(
 ) -> Result<Step, Unread>
     ensures { Gives result (step (places.Mine key base why) line.now) }
 {
-    let mine = mine_at(desk, key, &base, line)?;
-    Ok(with_mine(desk.pool.allocator(), key, base, mine, why)?)
+    match mine_at(desk, key, &base, line) {
+        Ok(mine) => Ok(with_mine(desk.pool.allocator(), key, base, mine, why)?),
+        Err(fault) => {
+            drop(base);
+            Err(fault)
+        }
+    }
 }
 
 #[tactic(auto, unfolding(crate::specs::Reading::step))]
@@ -365,9 +398,17 @@ fn at_theirs(
 ) -> Result<Step, Unread>
     ensures { Gives result (step (places.Theirs key base mine why) line.now) }
 {
-    let theirs = theirs_at(desk, key, line)?;
-    let conflict = Conflict { why, theirs };
-    Ok(in_conflict(desk.pool.allocator(), key, base, mine, conflict)?)
+    match theirs_at(desk, key, line) {
+        Ok(theirs) => {
+            let conflict = Conflict { why, theirs };
+            Ok(in_conflict(desk.pool.allocator(), key, base, mine, conflict)?)
+        }
+        Err(fault) => {
+            drop(base);
+            drop(mine);
+            Err(fault)
+        }
+    }
 }
 
 fn in_conflict(
@@ -379,13 +420,21 @@ fn in_conflict(
 ) -> Result<Step, AllocError>
     ensures { IfOk result (λ s. s ≡ ending key (entries.Known base mine (Some conflict))) }
 {
-    let conflict = Shared::new(alloc, conflict)?;
-    let entry = Entry::Known {
-        base,
-        mine,
-        conflict: Some(conflict),
-    };
-    Ok(ending(key, SharedEntry::new(alloc, entry)?))
+    match Shared::new(alloc, conflict) {
+        Ok(conflict) => {
+            let entry = Entry::Known {
+                base,
+                mine,
+                conflict: Some(conflict),
+            };
+            Ok(ending(key, SharedEntry::new(alloc, entry)?))
+        }
+        Err(fault) => {
+            drop(base);
+            drop(mine);
+            Err(fault)
+        }
+    }
 }
 
 /// What a line makes in its place.

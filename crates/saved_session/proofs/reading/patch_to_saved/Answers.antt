@@ -11,4 +11,4 @@ pub patch_of_entries-requires-clause-order : goal.patch_of_entries-requires-clau
 patch_of_entries-requires-clause-order c = rises_entries c.args.saved.now.entries c.requires
 
 pub returns : goal.returns
-returns c = subst (λ (t : TableValue). IfOk c.patch_of.result (λ patch. patch ≡ diff c.args.ds.now t)) c.in_ok-draft.ensures c.patch_of.ensures.value
+returns c = subst (λ (t : TableValue). IfOk c.patch_of-patch.result (λ patch. patch ≡ diff c.args.ds.now t)) c.in_ok-draft.ensures c.patch_of-patch.ensures.value
