@@ -13,13 +13,13 @@ use Rattle.tool_api.specs.Combine.{united, all_tags}
 use Rattle.tool_api.specs.Fuse.{fused, fused_content, users_among}
 use Rattle.tool_api.proofs.Looks.{from_none}
 
-pub draft_is : (t : TableValue) (nodes named users others : List Key) (kept : Key) (tags : List Pair) (d d₁ d₂ d₃ : DraftValue) → d ≡ record { puts = fin.empty; next = t.next }
-    → drafted d₁ t ≡ changed (drafted d t) (edit t (fused_content named kept)) users → drafted d₂ t ≡ changed (drafted d₁ t) (delete t) others
+pub draft_is : (t : TableValue) (nodes : List Key) (kept : Key) (tags : List Pair) (d d₁ d₂ d₃ : DraftValue) → d ≡ record { puts = fin.empty; next = t.next }
+    → drafted d₁ t ≡ changed (drafted d t) (edit t (fused_content nodes kept)) (users_among t nodes) → drafted d₂ t ≡ changed (drafted d₁ t) (delete t) (filter (λ k. not (is_key kept k)) nodes)
     → drafted d₃ t ≡ changed (drafted d₂ t) (edit t (with_tags (λ _. tags))) (kept ∷ [])
-    → named ≡ nodes → users ≡ users_among t nodes → others ≡ filter (λ k. not (is_key kept k)) nodes → tags ≡ united (all_tags t nodes) → drafted d₃ t ≡ fused t nodes kept
-draft_is t nodes named users others kept tags d d₁ d₂ d₃ none first second third names uses rest all =
+    → tags ≡ united (all_tags t nodes) → drafted d₃ t ≡ fused t nodes kept
+draft_is t nodes kept tags d d₁ d₂ d₃ none first second third all =
     let moved : drafted d₁ t ≡ changed t (edit t (fused_content nodes kept)) (users_among t nodes) =
-    from_none t (edit t (fused_content named kept)) users d d₁ none first ∙ (λ i. changed t (edit t (fused_content (names i) kept)) (uses i)) in
+    from_none t (edit t (fused_content nodes kept)) (users_among t nodes) d d₁ none first in
     let gone : drafted d₂ t ≡ changed (changed t (edit t (fused_content nodes kept)) (users_among t nodes)) (delete t) (filter (λ k. not (is_key kept k)) nodes) =
-    second ∙ (λ i. changed (moved i) (delete t) (rest i)) in
+    second ∙ (λ i. changed (moved i) (delete t) (filter (λ k. not (is_key kept k)) nodes)) in
     third ∙ (λ i. changed (gone i) (edit t (with_tags (λ _. all i))) (kept ∷ []))

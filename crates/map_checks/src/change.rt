@@ -1,9 +1,13 @@
 //! The change that fuses nodes, as a draft.
-ghost use Rattle.std.specs.Prelude.{◌≡◌, ◌&&◌, IfOk};
+ghost use Rattle.std.specs.Prelude.{◌≡◌, ◌&&◌, not, IfOk, OnOk};
+ghost use Rattle.std.specs.List.{filter};
+ghost use Rattle.std.specs.FinMap as fin;
 ghost use Rattle.std.specs.Ordering.{int_eq};
+ghost use Rattle.osm_base.specs.Rank.{is_key};
 ghost use Rattle.dataset.specs.Draft.{drafted};
+ghost use Rattle.tool_api.specs.Changes.{changed, edit, delete};
 ghost use Rattle.tool_api.specs.Combine.{all_tags, united};
-ghost use Rattle.tool_api.specs.Fuse.{fused, without_runs, users_among};
+ghost use Rattle.tool_api.specs.Fuse.{fused, fused_content, without_runs, users_among};
 
 use dataset::{DataSet, Draft};
 use osm_base::{Content, Key, Refs, Tags, ranked};
@@ -112,17 +116,56 @@ pub fn fused(ds: &DataSet, nodes: &[Key], kept: Key, tags: Tags) -> Result<Draft
     requires tags { tags ≡ united (all_tags ds.now nodes.now) }
     ensures { IfOk result (λ draft. drafted draft ds.now ≡ fused ds.now nodes.now kept) }
 {
+    let mut draft = Draft::new(ds);
+    fuse_onto(ds, nodes, kept, &HaveTags { tags }, &mut draft)?;
+    Ok(draft)
+}
+
+/// As `fused`, onto a draft that changes nothing. It is lent, as the tags are, so that the steps have no more to drop.
+fn fuse_onto(
+    ds: &DataSet,
+    nodes: &[Key],
+    kept: Key,
+    rule: &HaveTags,
+    draft: &mut Draft,
+) -> Result<(), AllocError>
+    requires tags { rule.now.tags ≡ united (all_tags ds.now nodes.now) }
+    requires none { draft.old ≡ record { puts = fin.empty; next = ds.now.next } }
+    ensures { OnOk result (drafted draft.new ds.now ≡ fused ds.now nodes.now kept) }
+{
+    refer_to_kept(ds, nodes, kept, draft)?;
+    delete_others(ds, nodes, kept, draft)?;
+    edit_all(ds, &[kept], rule, draft)
+}
+
+/// Puts the users of the nodes into the draft, which refer to the kept one then.
+fn refer_to_kept(
+    ds: &DataSet,
+    nodes: &[Key],
+    kept: Key,
+    draft: &mut Draft,
+) -> Result<(), AllocError>
+    ensures { OnOk result (drafted draft.new ds.now ≡ changed (drafted draft.old ds.now) (edit ds.now (fused_content nodes.now kept)) (users_among ds.now nodes.now)) }
+{
     let alloc = ds.alloc();
     let users = users_among(ds, nodes)?;
-    let others = other_keys(alloc, nodes, kept)?;
     let named = KeySet::from_slice(alloc, nodes)?;
     let names = FusedKeys {
         nodes: &named,
         kept,
     };
-    let mut draft = Draft::new(ds);
-    edit_all(ds, &users, &ReferToKept { alloc, names }, &mut draft)?;
-    delete_all(ds, &others, &mut draft)?;
-    edit_all(ds, &[kept], &HaveTags { tags }, &mut draft)?;
-    Ok(draft)
+    edit_all(ds, &users, &ReferToKept { alloc, names }, draft)
+}
+
+/// Puts the other nodes into the draft, as deleted.
+fn delete_others(
+    ds: &DataSet,
+    nodes: &[Key],
+    kept: Key,
+    draft: &mut Draft,
+) -> Result<(), AllocError>
+    ensures { OnOk result (drafted draft.new ds.now ≡ changed (drafted draft.old ds.now) (delete ds.now) (filter (λ k. not (is_key kept k)) nodes.now)) }
+{
+    let others = other_keys(ds.alloc(), nodes, kept)?;
+    delete_all(ds, &others, draft)
 }

@@ -31,19 +31,38 @@ fn push_doubled(found: &mut Vec<Finding>, key: Key, of: Option<Key>) -> Result<(
     Ok(())
 }
 
-/// The doubled nodes, by rank.
-fn doubled_nodes(ds: &DataSet, keys: &[Key]) -> Result<Vec<Finding>, AllocError>
-    requires { keys.now ≡ keys_by_rank ds.now }
-    ensures { IfOk result (λ found. found.items ≡ filter_map (doubled_finding ds.now) keys.now) }
+/// Appends the doubled nodes, by rank.
+fn push_doubled_nodes(
+    ds: &DataSet,
+    keys: &[Key],
+    found: &mut Vec<Finding>,
+) -> Result<(), AllocError>
+    requires keys { keys.now ≡ keys_by_rank ds.now }
+    requires none { found.old.items ≡ [] }
+    ensures { OnOk result (found.new.items ≡ filter_map (doubled_finding ds.now) keys.now) }
 {
-    let mut found = Vec::new(ds.alloc());
     let mut places = Places::with_capacity(ds.alloc(), keys.len())?;
+    note_nodes(ds, keys, &mut places, found)
+}
+
+/// Notes each node at its place, and appends those that are doubled. The places are lent, so that they are dropped once.
+fn note_nodes(
+    ds: &DataSet,
+    keys: &[Key],
+    places: &mut Places,
+    found: &mut Vec<Finding>,
+) -> Result<(), AllocError>
+    requires keys { keys.now ≡ keys_by_rank ds.now }
+    requires places { places.old.first.entries ≡ [] }
+    requires none { found.old.items ≡ [] }
+    ensures { OnOk result (found.new.items ≡ filter_map (doubled_finding ds.now) keys.now) }
+{
     let near = Cell::new(0);
     for key in keys {
         let of = places.look_at(ds, &near, *key)?;
-        push_doubled(&mut found, *key, of)?;
+        push_doubled(found, *key, of)?;
     }
-    Ok(found)
+    Ok(())
 }
 
 fn keys_of(alloc: Global, found: &[Finding]) -> Result<Vec<Key>, AllocError>
@@ -67,16 +86,21 @@ fn doubled_keys(ds: &DataSet, keys: &[Key], found: &[Finding]) -> Result<KeySet,
     Ok(set)
 }
 
-/// The repeated ways, by rank.
-fn repeated_ways(ds: &DataSet, keys: &[Key]) -> Result<Vec<Finding>, AllocError>
-    ensures { IfOk result (λ found. found.items ≡ map Repeated (filter (is_repeated ds.now) keys.now)) }
+/// Appends the repeated ways, by rank.
+fn push_repeated_ways(
+    ds: &DataSet,
+    keys: &[Key],
+    found: &mut Vec<Finding>,
+) -> Result<(), AllocError>
+    ensures { OnOk result (found.new.items ≡ found.old.items ++ map Repeated (filter (is_repeated ds.now) keys.now)) }
 {
     let near = Cell::new(0);
-    keys.iter()
-        .copied()
-        .filter(|key| has_repeat(refs_near(ds, &near, *key)))
-        .map(|key| Finding::Repeated(key))
-        .collect(ds.alloc())
+    for key in keys {
+        if has_repeat(refs_near(ds, &near, *key)) {
+            found.push(Finding::Repeated(*key))?;
+        }
+    }
+    Ok(())
 }
 
 fn is_either(doubled: &KeySet, a: Key, b: Key) -> bool
@@ -129,32 +153,35 @@ fn is_open_ring(ds: &DataSet, near: &Cell<usize>, doubled: &KeySet, key: Key) ->
     is_open(ds, doubled, refs_near(ds, near, key))
 }
 
-/// The keys of the open rings, by rank.
-fn ring_keys(ds: &DataSet, keys: &[Key], doubled: &KeySet) -> Result<Vec<Key>, AllocError>
+/// Appends the open rings, by rank.
+fn push_open_rings(
+    ds: &DataSet,
+    keys: &[Key],
+    doubled: &KeySet,
+    found: &mut Vec<Finding>,
+) -> Result<(), AllocError>
     requires doubled { HasDoubled ds.now doubled.now }
-    ensures { IfOk result (λ rings. rings.items ≡ filter (is_open_ring ds.now) keys.now) }
+    ensures { OnOk result (found.new.items ≡ found.old.items ++ map OpenRing (filter (is_open_ring ds.now) keys.now)) }
 {
-    let mut rings = Vec::new(ds.alloc());
     let near = Cell::new(0);
     for key in keys {
         if is_open_ring(ds, &near, doubled, *key) {
-            rings.push(*key)?;
+            found.push(Finding::OpenRing(*key))?;
         }
     }
-    Ok(rings)
+    Ok(())
 }
 
-/// The open rings, by rank.
-fn open_rings(ds: &DataSet, keys: &[Key], doubled: &KeySet) -> Result<Vec<Finding>, AllocError>
-    requires doubled { HasDoubled ds.now doubled.now }
-    ensures { IfOk result (λ found. found.items ≡ map OpenRing (filter (is_open_ring ds.now) keys.now)) }
+/// Appends all findings, where these are the keys of the table by rank.
+fn push_findings(ds: &DataSet, keys: &[Key], found: &mut Vec<Finding>) -> Result<(), AllocError>
+    requires keys { keys.now ≡ keys_by_rank ds.now }
+    requires none { found.old.items ≡ [] }
+    ensures { OnOk result (found.new.items ≡ findings ds.now) }
 {
-    let rings = ring_keys(ds, keys, doubled)?;
-    rings
-        .iter()
-        .copied()
-        .map(|key| Finding::OpenRing(key))
-        .collect(ds.alloc())
+    push_doubled_nodes(ds, keys, found)?;
+    let doubled = doubled_keys(ds, keys, found.as_slice())?;
+    push_repeated_ways(ds, keys, found)?;
+    push_open_rings(ds, keys, &doubled, found)
 }
 
 /// All findings: the doubled nodes, then the repeated ways, then the open rings, each by rank. Where the keys of the table
@@ -170,9 +197,7 @@ pub fn list_findings(ds: &DataSet) -> Result<Findings, AllocError>
     ensures { IfOk result (λ found. found ≡ findings ds.now) }
 {
     let keys = ds.ordered()?;
-    let mut found = doubled_nodes(ds, keys.as_slice())?;
-    let doubled = doubled_keys(ds, keys.as_slice(), &found)?;
-    found.extend_from_slice(&repeated_ways(ds, keys.as_slice())?)?;
-    found.extend_from_slice(&open_rings(ds, keys.as_slice(), &doubled)?)?;
+    let mut found = Vec::new(ds.alloc());
+    push_findings(ds, keys.as_slice(), &mut found)?;
     Ok(Findings::from_vec(found))
 }
