@@ -163,20 +163,27 @@ fn chosen(
 ///
 /// # Errors
 /// No memory was left.
-pub fn resolved(alloc: Global, choice: &Choice, entry: &SharedEntry) -> Result<Entry, AllocError>
+pub fn resolved(
+    alloc: Global,
+    choice: &Choice,
+    entry: &SharedEntry,
+) -> Result<SharedEntry, AllocError>
     ensures { IfOk result (λ after. after ≡ resolved choice.now entry.now) }
 {
     match entry.parts() {
-        EntryParts::Incomplete => entry.to_entry(),
-        EntryParts::Known { conflict: None, .. } => entry.to_entry(),
+        EntryParts::Incomplete => entry.copy(),
+        EntryParts::Known { conflict: None, .. } => entry.copy(),
         EntryParts::Known {
             base,
             mine,
             conflict: Some(conflict),
-        } => Ok(Entry::Known {
-            base: conflict.theirs.copy()?,
-            mine: chosen(alloc, choice, base, mine, conflict)?,
-            conflict: None,
-        }),
+        } => {
+            let after = Entry::Known {
+                base: conflict.theirs.copy()?,
+                mine: chosen(alloc, choice, base, mine, conflict)?,
+                conflict: None,
+            };
+            SharedEntry::new(alloc, after)
+        }
     }
 }

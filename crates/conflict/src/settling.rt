@@ -20,15 +20,6 @@ use tool_api::{
     KeySet, Plan, Refusal, first_refusal, makes_unfit, push_refs_by, room_test, use_test,
 };
 
-fn mine(entry: &Entry) -> Option<&Content>
-    ensures { option_copied result ≡ mine_of entry.now }
-{
-    match entry {
-        Entry::Incomplete => None,
-        Entry::Known { mine, .. } => mine.as_ref(),
-    }
-}
-
 /// Of an object that goes: InUse with the least user besides itself.
 fn unused_test(
     ds: &DataSet,
@@ -70,13 +61,13 @@ fn references_gone_test(ds: &DataSet, key: Key, refs: &[Key]) -> Option<Refusal>
 }
 
 /// Unfit where mine is not what the server has, and doesn't fit.
-fn settled_fit_test(key: Key, entry: &Entry) -> Option<Refusal>
+fn settled_fit_test(key: Key, entry: &SharedEntry) -> Option<Refusal>
     ensures { result ≡ settled_fit_test key (Some entry.now) }
 {
-    match entry {
-        Entry::Incomplete => None,
-        Entry::Known { base, mine, .. } => {
-            if makes_unfit(base.content(), mine.as_ref()) {
+    match entry.parts() {
+        EntryParts::Incomplete => None,
+        EntryParts::Known { base, mine, .. } => {
+            if makes_unfit(base.content(), mine) {
                 Some(Refusal::Unfit(key))
             } else {
                 None
@@ -89,13 +80,13 @@ fn settled_fit_test(key: Key, entry: &Entry) -> Option<Refusal>
 fn settled_tests(
     ds: &DataSet,
     key: Key,
-    entry: &Entry,
+    entry: &SharedEntry,
     refs: &[Key],
 ) -> Result<Option<Refusal>, AllocError>
     requires refs { refs.now ≡ refs_by (mine_of entry.now) }
     ensures { IfOk result (λ r. r ≡ settled_tests ds.now key entry.now) }
 {
-    if let Some(refusal) = unused_test(ds, key, mine(entry))? {
+    if let Some(refusal) = unused_test(ds, key, entry.mine())? {
         return Ok(Some(refusal));
     }
     if let Some(refusal) = references_gone_test(ds, key, refs) {
@@ -129,12 +120,17 @@ fn enter_all(ds: &DataSet, draft: &mut Draft, keys: &[Key]) -> Result<(), AllocE
 }
 
 /// The draft in which the object has this entry, and in which all is there to which that refers.
-fn settled_draft(ds: &DataSet, key: Key, entry: Entry, refs: &[Key]) -> Result<Draft, AllocError>
+fn settled_draft(
+    ds: &DataSet,
+    key: Key,
+    entry: SharedEntry,
+    refs: &[Key],
+) -> Result<Draft, AllocError>
     requires refs { refs.now ≡ refs_by (mine_of entry) }
     ensures { IfOk result (λ draft. drafted draft ds.now ≡ settled_table ds.now key (Some entry)) }
 {
     let mut draft = Draft::new(ds);
-    draft.put(key, Some(entry))?;
+    draft.put_shared(key, Some(entry))?;
     enter_all(ds, &mut draft, refs)?;
     Ok(draft)
 }
@@ -144,12 +140,17 @@ fn settled_draft(ds: &DataSet, key: Key, entry: Entry, refs: &[Key]) -> Result<D
 ///
 /// # Errors
 /// No memory was left.
-pub fn settle_plan(ds: &DataSet, key: Key, entry: Entry, limit: u64) -> Result<Plan, AllocError>
+pub fn settle_plan(
+    ds: &DataSet,
+    key: Key,
+    entry: SharedEntry,
+    limit: u64,
+) -> Result<Plan, AllocError>
     requires sound { settled_tests ds.now key entry ≡ None → IsSound (settled_table ds.now key (Some entry)) }
     ensures { IfOk result (Plans ds.now (settle ds.now limit key (Some entry))) }
 {
     let mut refs = Vec::new(ds.alloc());
-    push_refs_by(mine(&entry), &mut refs)?;
+    push_refs_by(entry.mine(), &mut refs)?;
     settled_plan(ds, key, entry, &refs, limit)
 }
 
@@ -157,7 +158,7 @@ pub fn settle_plan(ds: &DataSet, key: Key, entry: Entry, limit: u64) -> Result<P
 fn settled_plan(
     ds: &DataSet,
     key: Key,
-    entry: Entry,
+    entry: SharedEntry,
     refs: &[Key],
     limit: u64,
 ) -> Result<Plan, AllocError>
