@@ -1,6 +1,7 @@
 //! What becomes of an object in conflict by a choice.
-ghost use Rattle.std.specs.Prelude.{◌≡◌, IfOk};
+ghost use Rattle.std.specs.Prelude.{◌≡◌, None, IfOk};
 ghost use Rattle.std.specs.Option.{option_copied};
+ghost use Rattle.osm_table.specs.declared.entry.Entry.TheVariants.{Known};
 ghost use Rattle.merge_cases.specs.Keys.{is_listed};
 ghost use Rattle.merge_cases.specs.Resolve.{of_side, mixed, settled, side_of_key, settled_tag, in_parts, mix_of, parts_of, chosen, resolved};
 
@@ -158,6 +159,27 @@ fn chosen(
     }
 }
 
+/// An entry that isn't in conflict.
+fn agreed(alloc: Global, base: &Base, mine: Option<Content>) -> Result<SharedEntry, AllocError>
+    ensures { IfOk result (λ new. new ≡ Known base.now mine None) }
+{
+    // Dropped by a call: on a way out, the code of all that a content owns would be written out.
+    match base.copy() {
+        Ok(base) => SharedEntry::new(
+            alloc,
+            Entry::Known {
+                base,
+                mine,
+                conflict: None,
+            },
+        ),
+        Err(error) => {
+            drop(mine);
+            Err(error)
+        }
+    }
+}
+
 /// The entry without its conflict: theirs is the base, and mine is as chosen. One that has none stays. It walks the tags
 /// of both sides where the content comes in parts, and looks each of their keys up among the listed ones.
 ///
@@ -178,12 +200,8 @@ pub fn resolved(
             mine,
             conflict: Some(conflict),
         } => {
-            let after = Entry::Known {
-                base: conflict.theirs.copy()?,
-                mine: chosen(alloc, choice, base, mine, conflict)?,
-                conflict: None,
-            };
-            SharedEntry::new(alloc, after)
+            let mine = chosen(alloc, choice, base, mine, conflict)?;
+            agreed(alloc, &conflict.theirs, mine)
         }
     }
 }
