@@ -14,7 +14,7 @@ returns-in_err-ref_into c =
 pub returns-in-None : goal.returns-in-None
 returns-in-None c =
     let read : folded ref_into [] (split (is 44) c.args.text.now) ≡ Ok c.ref_into.new.refs =
-        fold_last ref_into (is 44) _ c.loop-refs.rest.now _ c.loop-refs.invariant _ c.in_ok-ref_into.ensures.taken (none_behind _ _ _ c.in_ok-ref_into.ensures.rest c.in-None.is) in
+    fold_last ref_into (is 44) _ c.loop-refs.rest.now _ c.loop-refs.invariant _ c.in_ok-ref_into.ensures.taken (none_behind _ _ _ c.in_ok-ref_into.ensures.rest c.in-None.is) in
     cc
 
 pub loop-refs-smaller : goal.loop-refs-smaller
@@ -23,5 +23,5 @@ loop-refs-smaller c = behind_shorter (is 44) _ _ (some_behind _ _ _ c.in_ok-ref_
 pub loop-refs-preserved : goal.loop-refs-preserved
 loop-refs-preserved c =
     let read : folded ref_into c.ref_into.new.refs (split (is 44) c.in-Some.next.now) ≡ folded ref_into [] (split (is 44) c.args.text.now) =
-        fold_more ref_into (is 44) _ c.loop-refs.rest.now _ c.loop-refs.invariant _ _ c.in_ok-ref_into.ensures.taken (some_behind _ _ _ c.in_ok-ref_into.ensures.rest _ c.in-Some.is) in
+    fold_more ref_into (is 44) _ c.loop-refs.rest.now _ c.loop-refs.invariant _ _ c.in_ok-ref_into.ensures.taken (some_behind _ _ _ c.in_ok-ref_into.ensures.rest _ c.in-Some.is) in
     cc

@@ -24,7 +24,7 @@ returns-in_default-after c =
 pub returns-in_err-role : goal.returns-in_err-role
 returns-in_err-role c =
     let left = role_left c.args.item.now _ _ c.in-Some.kind c.in-Some-id_front.id c.in-Some-after.role.now (first_behind c.args.item.now c.in-len1-up.len_at_least) (sym c.kind_of.ensures ∙ c.in-Some.is) (sym c.in-Some-id_front.ensures.value)
-        (some_behind _ _ _ c.in-Some-id_front.ensures.rest _ c.in-Some-after.is) in
+    (some_behind _ _ _ c.in-Some-id_front.ensures.rest _ c.in-Some-after.is) in
     passed (λ member. member) c.from_residual.result c.in_err-role.field-0.0 _ c.from_residual.ensures.1 (rw left (fails_first _ _ _ c.in_err-role.ensures))
 
 pub returns : goal.returns
