@@ -5,6 +5,7 @@ ghost use Rattle.std.specs.FinMap as fin;
 ghost use Rattle.std.specs.Ordering.{int_eq};
 ghost use Rattle.osm_base.specs.Rank.{is_key};
 ghost use Rattle.dataset.specs.Draft.{drafted};
+ghost use Rattle.tool_api.specs.Basic.{with_refs};
 ghost use Rattle.tool_api.specs.Changes.{changed, edit, delete};
 ghost use Rattle.tool_api.specs.Combine.{all_tags, united};
 ghost use Rattle.tool_api.specs.Fuse.{fused, fused_content, without_runs, users_among};
@@ -65,18 +66,45 @@ impl<'a> EditContent for ReferToKept<'a> {
     ghost edited = { λ rule. fused_content rule.names.nodes.now rule.names.kept };
 
     fn edit(&self, content: Content) -> Result<Content, AllocError> {
-        match renamed(self.alloc, &content, &self.names)? {
-            Content::Way { tags, refs } => Ok(Content::Way {
-                tags,
-                refs: Refs::from_vec(without_runs(
-                    self.alloc,
-                    self.names.kept.id,
-                    refs.as_slice(),
-                )?)?,
-            }),
-            other => Ok(other),
+        // Here and below what isn't handed on is dropped by a call: on a way out, all that it owns would be written out.
+        match renamed(self.alloc, &content, &self.names) {
+            Ok(moved) => {
+                drop(content);
+                single_runs(self.alloc, self.names.kept.id, moved)
+            }
+            Err(fault) => {
+                drop(content);
+                Err(fault)
+            }
         }
     }
+}
+
+/// The content, where a way refers once to the node for each run of it.
+fn single_runs(alloc: Global, id: i64, content: Content) -> Result<Content, AllocError>
+    ensures { IfOk result (λ left. left ≡ with_refs (without_runs id) content) }
+{
+    match content {
+        Content::Way { tags, refs } => match refs_without_runs(alloc, id, &refs) {
+            Ok(left) => {
+                drop(refs);
+                Ok(Content::Way { tags, refs: left })
+            }
+            Err(fault) => {
+                drop(tags);
+                drop(refs);
+                Err(fault)
+            }
+        },
+        other => Ok(other),
+    }
+}
+
+fn refs_without_runs(alloc: Global, id: i64, refs: &Refs) -> Result<Refs, AllocError>
+    ensures { IfOk result (λ left. left ≡ without_runs id refs.now) }
+{
+    let left = without_runs(alloc, id, refs.as_slice())?;
+    Ok(Refs::from_vec(left)?)
 }
 
 /// What becomes of the kept node: it has all tags.
@@ -91,11 +119,16 @@ impl EditContent for HaveTags {
     ghost edited = { λ rule. with_tags (λ _. rule.tags) };
 
     fn edit(&self, content: Content) -> Result<Content, AllocError> {
-        let tags = self.tags.copy()?;
-        match content {
-            Content::Node { at, .. } => Ok(Content::Node { tags, at }),
-            Content::Way { refs, .. } => Ok(Content::Way { tags, refs }),
-            Content::Relation { members, .. } => Ok(Content::Relation { tags, members }),
+        match self.tags.copy() {
+            Ok(tags) => match content {
+                Content::Node { at, .. } => Ok(Content::Node { tags, at }),
+                Content::Way { refs, .. } => Ok(Content::Way { tags, refs }),
+                Content::Relation { members, .. } => Ok(Content::Relation { tags, members }),
+            },
+            Err(fault) => {
+                drop(content);
+                Err(fault)
+            }
         }
     }
 }
