@@ -13,7 +13,7 @@ from launcher.crates import all_below
 # proofs and begin the time that is told; nothing else hangs on them.
 SECONDS, SECONDS_A_LINE = 25.0, 0.12
 # Bytes of memory: a proof's own, what a thousand lines of its crate add, a thousand lines below it, and a further job.
-MEMORY, MEMORY_OF_LINES, MEMORY_BELOW, MEMORY_OF_JOB = 1.2e9, 0.45e9, 0.05e9, 0.3e9
+MEMORY, MEMORY_OF_LINES, MEMORY_BELOW, MEMORY_OF_JOB = 1.0e9, 0.4e9, 0.03e9, 0.3e9
 # How much faster a proof is with more jobs; more than four seldom help.
 RATES = {1: 1.0, 2: 1.4, 3: 1.65, 4: 1.85}
 MOST_JOBS = max(RATES)
@@ -108,11 +108,11 @@ class Schedule:
         longest = max(ends + [self.chain[it] for it in waiting])
         spare = max(0.0, longest - self.chain[name])
         work = sum(self.seconds[it] for it in waiting) + sum(it.left for it in running)
-        idle = self.processors - len(running)
+        idle = self.processors - sum(it.start.jobs for it in running)
         jobs = min(MOST_JOBS, max(1, idle - others)) if idle > 0 else 0
         is_led = any(it.start.jobs > 1 and it.start.spare < CLOSE for it in running)
         hangs = self.processors > 2 and longest > HANGS * work / self.processors
-        if hangs and spare < CLOSE and idle >= 0 and not is_led:
+        if hangs and spare < CLOSE and len(running) <= self.processors and not is_led:
             return max(FAVOURED, jobs), spare
         return jobs, spare
 

@@ -71,7 +71,7 @@ class Needs(unittest.TestCase):
         self.assertEqual([], self.lacks(1e9, 4e9, 3e9))
 
     def test_too_little(self):
-        wanted = 'too little memory: the proof of large may take 3.0 GB, and 1.0 GB are free. Close other programs first'
+        wanted = 'too little memory: the proof of large may take 2.6 GB, and 1.0 GB are free. Close other programs first'
         self.assertEqual([wanted], self.lacks(1e9, 4e9))
         self.assertIn('too little disk', self.lacks(4e9, 1e9)[0])
         self.assertEqual(2, len(self.lacks(1e9, 1e9)))

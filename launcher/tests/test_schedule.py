@@ -67,11 +67,17 @@ class Jobs(unittest.TestCase):
     def test_the_longest_chain_is_favoured_where_the_end_hangs_on_it(self):
         schedule = Schedule(crates(low=(100,), a=(100,), b=(100,), c=(100,), d=(100,), top=(9000, 'low')), 4, PLENTY)
         waiting, running = list(schedule.crates), []
-        for _ in range(4):
+        for _ in range(3):
             start = schedule.next(waiting, set(), running)
             waiting.remove(start.name)
             running.append(Running(start, schedule.seconds[start.name]))
-        self.assertEqual([('low', FAVOURED)] + [(it, 1) for it in 'abc'], [(it.start.name, it.start.jobs) for it in running])
+        self.assertEqual([('low', FAVOURED)] + [(it, 1) for it in 'ab'], [(it.start.name, it.start.jobs) for it in running])
+        self.assertIsNone(schedule.next(waiting, set(), running))
+
+    def test_jobs_that_run_count_as_processors(self):
+        schedule = Schedule(crates(**{'c{}'.format(at): (1000 + at,) for at in range(40)}), 4, PLENTY)
+        waiting, running = list(schedule.crates)[2:], [Running(Start(it, 2, 0, 1e9, 500.0), 90.0) for it in ('c0', 'c1')]
+        self.assertIsNone(schedule.next(waiting, set(), running))
 
     def test_nobody_is_favoured_where_work_is_plenty(self):
         schedule = Schedule(crates(**{'c{}'.format(at): (1000 + at,) for at in range(40)}), 4, PLENTY)
