@@ -15,7 +15,8 @@ use Rattle.edit_steps.specs.Given.{Given}
 use Rattle.edit_steps.specs.Groups.{is_given_up}
 use Rattle.edit_steps.specs.Load.{found_in}
 use Rattle.edit_session.specs.Meet.{Seat, found_by, meet_step_text, meet_text, meet_turn, own, own_turn, still}
-use Rattle.edit_steps.specs.Turn.{look_answer, reply_alone, step_text, still_turn, turn, turn_text, Turn}
+use Rattle.edit_steps.specs.Looks.{look_answer}
+use Rattle.edit_steps.specs.Turn.{reply_alone, step_text, still_turn, turn, turn_text, Turn}
 use Rattle.edit_session.proofs.Seated.{waits_outside}
 use Rattle.edit_session.proofs.Seats.{own_still}
 

@@ -69,7 +69,7 @@ use Rattle.edit_history.specs.declared.counts.Group.TheVariants as group
 use Rattle.many_editors.specs.Meeting.{at_work}
 use Rattle.many_editors.specs.States.{object_told}
 use Rattle.edit_steps.specs.declared.limits.Limits.{Limits}
-use Rattle.edit_steps.specs.declared.response.Behind.TheVariants as behind
+use Rattle.edit_steps.specs.declared.looks.Behind.TheVariants as behind
 use Rattle.edit_steps.specs.Given.{Given, all_given}
 use Rattle.edit_steps.specs.Limits.{limits_of}
 use Rattle.edit_steps.specs.Load.{job_found}

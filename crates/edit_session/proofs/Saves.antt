@@ -23,7 +23,7 @@ use Rattle.edit_steps.specs.declared.files.Fetched.{Fetched}
 use Rattle.edit_steps.specs.declared.files.Fetched.TheVariants.{Missing, TooLong, Whole}
 use Rattle.edit_steps.specs.declared.limits.Limits.{Limits}
 use Rattle.edit_steps.specs.declared.loading.Found.TheVariants as found
-use Rattle.edit_steps.specs.declared.response.Behind.TheVariants as behind
+use Rattle.edit_steps.specs.declared.looks.Behind.TheVariants as behind
 use Rattle.edit_steps.specs.Groups.{is_given_up}
 use Rattle.edit_steps.specs.Load.{found_in}
 use Rattle.edit_steps.specs.Given.{Given}
@@ -33,7 +33,8 @@ use Rattle.edit_session.specs.Session.{met, run, steps_in, steps_read}
 use Rattle.edit_steps.specs.States.{states_before}
 use Rattle.edit_session.specs.Meet.{first_seat, own_machine}
 use Rattle.edit_steps.specs.Settled.{of_saved}
-use Rattle.edit_steps.specs.Turn.{Turn, done_turn, looked, resume_turn, settled_turn, skipped_turn, step_turn, still_turn, turn, turn_text}
+use Rattle.edit_steps.specs.Looks.{looked}
+use Rattle.edit_steps.specs.Turn.{Turn, done_turn, resume_turn, settled_turn, skipped_turn, step_turn, still_turn, turn, turn_text}
 use Rattle.many_editors.proofs.MeetingTexts as meetings
 use Rattle.edit_session.proofs.SeatTexts.{seats_texts}
 use Rattle.edit_session.proofs.Texts.{AreTextTables, first_texts, run_texts}

@@ -5,7 +5,8 @@
 //! so no step misses its tool. A box can't be handed out by the function that makes it, so the shelf and the sink come in
 //! from above, of whatever kind.
 //!
-//! To add a tool of a new verb: its two lines here, the verb in `specs/Verbs`, and what is answered for its four boxes.
+//! To add a tool of a new verb: its two lines here, at the place that the verb has in `all_verbs` of `tool_api`, and what is
+//! answered for its four boxes.
 ghost use Rattle.std.specs.Prelude.{◌≡◌, ◌++◌, IfOk, OnErr, map, string_bytes};
 ghost use Rattle.tool_api.specs.declared.verb.Verb.{Verb};
 ghost use Rattle.edit_history.specs.Trail.{KeepNothing};

@@ -17,7 +17,7 @@ use Rattle.edit_history.specs.declared.counts.Group.TheVariants as group
 use Rattle.edit_history.specs.Machine.{State, first_state}
 use Rattle.edit_steps.specs.declared.limits.Limits.{Limits}
 use Rattle.edit_steps.specs.declared.loading.Found.TheVariants.{Nothing, Bad}
-use Rattle.edit_steps.specs.declared.response.Behind.TheVariants as behind
+use Rattle.edit_steps.specs.declared.looks.Behind.TheVariants as behind
 use Rattle.edit_steps.specs.Load.{found_in}
 use Rattle.edit_steps.specs.Planned.{on_plan, planned}
 use Rattle.edit_steps.specs.States.{states_before}

@@ -7,6 +7,7 @@ pub mod Given
 pub mod Groups
 pub mod Limits
 pub mod Load
+pub mod Looks
 pub mod Needs
 pub mod Planned
 pub mod Printed

@@ -13,8 +13,8 @@ use Rattle.edit_script.specs.declared.reply.StepReply.TheVariants.{Done, Refused
 use Rattle.edit_script.specs.declared.reply.StepRefusal.{StepRefusal}
 use Rattle.edit_script.specs.declared.reply.StepRefusal.TheVariants.{OpenConflicts, IncompleteRef, CyclicNew}
 use Rattle.edit_steps.specs.Counted.{count_line}
-use Rattle.edit_steps.specs.declared.response.Behind.{Behind}
-use Rattle.edit_steps.specs.declared.response.Behind.TheVariants as behind
+use Rattle.edit_steps.specs.declared.looks.Behind.{Behind}
+use Rattle.edit_steps.specs.declared.looks.Behind.TheVariants as behind
 use Rattle.edit_steps.specs.declared.response.Response.{Response}
 
 -- why nothing is sent, as the refusal of a step; want of memory is no table's refusal

@@ -4,21 +4,14 @@
 -- stays. In a running group the table is then again the one at `begin`, and what follows up to `end` is skipped.
 use Rattle.std.specs.Prelude.{ℕ, if◌then◌else◌, List, [], ◌++◌, Result, Ok, Err}
 use Rattle.osm_table.specs.Table.{TableValue}
-use Rattle.chunking.specs.Chunks.{chunks}
-use Rattle.conflict.specs.Shown.{conflicts_text}
 use Rattle.dataset.specs.Patch.{PatchValue, after_of}
 use Rattle.sample_city.specs.City.{city}
-use Rattle.saved_session.specs.Saved.{saved}
-use Rattle.map_search.specs.Meets as queries
-use Rattle.map_checks.specs.Findings.{findings}
 use Rattle.tool_api.specs.declared.job.Job as jobs
 use Rattle.tool_api.specs.declared.job.Job.TheVariants.{Merge}
 use Rattle.edit_script.specs.declared.step.Act.{Act}
 use Rattle.edit_script.specs.declared.step.Act.TheVariants.{Job, Generate, History, Look, File}
 use Rattle.edit_script.specs.declared.step.HistoryStep.{HistoryStep}
 use Rattle.edit_script.specs.declared.step.HistoryStep.TheVariants.{Begin, End, Undo, Redo}
-use Rattle.edit_script.specs.declared.step.Look as looks
-use Rattle.edit_script.specs.declared.step.Look.TheVariants.{Print, Count, Conflicts, Save, Find, Check, Rehearse, Upload}
 use Rattle.edit_script.specs.declared.step.Purpose.{Purpose}
 use Rattle.edit_script.specs.declared.step.Purpose.TheVariants.{Confirm, Resume}
 use Rattle.edit_script.specs.declared.step.Step.{Step}
@@ -38,17 +31,12 @@ use Rattle.edit_history.specs.Steps.{job_move, steps_move}
 use Rattle.edit_steps.specs.declared.limits.Limits.{Limits}
 use Rattle.edit_steps.specs.declared.loading.Found.{Found}
 use Rattle.edit_steps.specs.declared.loading.Found.TheVariants as found
-use Rattle.edit_steps.specs.declared.response.Behind.{Behind}
-use Rattle.edit_steps.specs.declared.response.Behind.TheVariants as behind
+use Rattle.edit_steps.specs.declared.looks.Behind.TheVariants as behind
 use Rattle.edit_steps.specs.declared.response.Response.{Response}
-use Rattle.edit_steps.specs.Counted.{count_text}
 use Rattle.edit_steps.specs.Given.{Given}
 use Rattle.edit_steps.specs.Groups.{is_given_up}
 use Rattle.edit_steps.specs.Load.{found_in}
-use Rattle.edit_steps.specs.Planned.{upload_answer, rehearse_answer, rehearsed_text}
-use Rattle.edit_steps.specs.Printed.{table_text}
-use Rattle.edit_steps.specs.Searched.{findings_text, found_text}
-use Rattle.edit_steps.specs.Sent.{sent_text}
+use Rattle.edit_steps.specs.Looks.{look_answer, behind_text}
 use Rattle.edit_steps.specs.Settled.{confirmed, resumed}
 
 -- What a step answers, and the state after it.
@@ -66,10 +54,6 @@ done_turn s = record { answer = reply_alone (Done []); state = s }
 -- the state stays
 abbrev pub still_turn : Response → State → Turn
 still_turn answer s = record { answer = answer; state = s }
-
--- done, with a text behind the reply
-abbrev pub looked : Behind → Response
-looked text = record { reply = Done []; behind = text }
 
 -- why a step on the table is refused, as the refusal of a step of a script
 abbrev pub edit_refused : EditRefusal → StepRefusal
@@ -136,17 +120,6 @@ history_turn End s = done_turn (ended s)
 history_turn (Undo n) s = moved_turn (steps_move Back n s)
 history_turn (Redo n) s = moved_turn (steps_move On n s)
 
--- What a look at a table answers. It changes nothing.
-abbrev pub look_answer : looks.Look → TableValue → Response
-look_answer Print t = looked behind.Table
-look_answer Count t = looked behind.Counts
-look_answer Conflicts t = looked behind.Conflicts
-look_answer Save t = looked behind.Saved
-look_answer (Find query) t = looked (behind.Found (queries.found t query))
-look_answer Check t = looked (behind.Findings (findings t))
-look_answer Rehearse t = rehearse_answer t
-look_answer (Upload size) t = upload_answer size t
-
 -- an act, where no group was given up
 abbrev pub act_turn : Limits → Found → Act → State → Turn
 act_turn limits found (Job job) s = job_turn limits.objects job s
@@ -169,19 +142,6 @@ turn limits found act s = if is_given_up s.group then skipped_turn act s else ac
 -- The turn of a step that is given this.
 abbrev pub step_turn : Limits → Given → Step → State → Turn
 step_turn limits given step s = turn limits (found_in limits given s.group step.act) step.act s
-
--- the text behind a reply
-abbrev pub behind_text : Behind → TableValue → List ℕ
-behind_text behind.Nothing t = []
-behind_text behind.Table t = table_text t
-behind_text behind.Counts t = count_text t
-behind_text behind.Conflicts t = conflicts_text t
-behind_text behind.Saved t = saved t
-behind_text (behind.Changes changes size) t = chunks changes size
-behind_text (behind.Rehearsed count) t = rehearsed_text count
-behind_text (behind.Found keys) t = found_text keys
-behind_text (behind.Findings findings) t = findings_text findings
-behind_text (behind.Sent count refused) t = sent_text count refused
 
 -- the reply line, and the text behind it
 abbrev pub response_text : ℕ → Response → TableValue → List ℕ

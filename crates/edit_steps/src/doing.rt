@@ -3,22 +3,19 @@
 //! It looks at the table and moves nothing. Who has the table takes the step that it says, and answers what comes of it.
 ghost use Rattle.std.specs.Prelude.{◌≡◌, false, IfOk};
 ghost use Rattle.edit_script.specs.Order.{IsMeant};
-ghost use Rattle.edit_script.specs.declared.step.Act.TheVariants as acts;
 ghost use Rattle.edit_steps.specs.Doing.{edit_step, refused_by, settled_by, skipped_by, Comes};
 ghost use Rattle.edit_steps.specs.Groups.{is_given_up};
 ghost use Rattle.edit_steps.specs.Load.{MayFind};
-ghost use Rattle.edit_steps.specs.Planned.{IsSized};
-ghost use Rattle.edit_steps.specs.Turn.{turn, act_turn, look_answer, missing};
+ghost use Rattle.edit_steps.specs.Turn.{turn, act_turn, missing};
 
 use crate::limits::Limits;
 use crate::loading::Found;
-use crate::response::{Behind, Response};
-use crate::searching::{answer_check, answer_find};
+use crate::looks::look_at;
+use crate::response::Response;
 use crate::settling::{confirmed, resumed};
-use crate::uploading::{answer_rehearsal, answer_upload};
 use dataset::{DataSet, Patch};
 use edit_history::{EditStep, Group};
-use edit_script::{Act, HistoryStep, Look, Purpose, StepRefusal, StepReply};
+use edit_script::{Act, HistoryStep, Purpose, StepRefusal, StepReply};
 use osm_table::Shared;
 use sample_city::sample_city;
 use std::alloc::{AllocError, Global};
@@ -177,26 +174,5 @@ fn settle<'a>(answer: Result<Patch, StepRefusal>) -> Doing<'a>
     match answer {
         Ok(patch) => Doing::Settles(patch),
         Err(why) => Doing::Stays(Response::alone(StepReply::Refused(why))),
-    }
-}
-
-/// What a look at the table answers. It costs what it looks at.
-///
-/// # Errors
-/// No memory was left.
-pub fn look_at(alloc: Global, ds: &DataSet, look: &Look) -> Result<Response, AllocError>
-    requires { IsMeant (acts.Look look.now) }
-    ensures answer { IfOk result (λ answer. answer ≡ look_answer look.now ds.now) }
-    ensures sized { IfOk result (λ answer. IsSized answer.behind) }
-{
-    match look {
-        Look::Print => Ok(Response::look(alloc, Behind::Table)),
-        Look::Count => Ok(Response::look(alloc, Behind::Counts)),
-        Look::Conflicts => Ok(Response::look(alloc, Behind::Conflicts)),
-        Look::Save => Ok(Response::look(alloc, Behind::Saved)),
-        Look::Find(query) => answer_find(ds, query),
-        Look::Check => answer_check(ds),
-        Look::Rehearse => answer_rehearsal(ds),
-        Look::Upload { size } => answer_upload(ds, *size),
     }
 }

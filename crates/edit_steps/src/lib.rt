@@ -10,9 +10,9 @@
 //!
 //! Each function that moves the history has one `requires` and one `ensures` on it (`Fits`, `Moved`);
 //! each that writes promises the whole text after Ok and a front of it after Err. To add a look, which an editor may take who
-//! waits for an answer, give `look_answer` a line and `look_at` an arm; to add something for which a file is read, give
-//! `file_found` and `purpose_turn` a line, and `find_file` and `interpret_act` an arm. A text
-//! of its own behind a reply is a variant of `Behind`, and a file of another kind one of `Found`.
+//! waits for an answer, give it its lines in `specs/Looks.antt` and its arms in `looks.rt`; to add something for which a file
+//! is read, give `file_found` and `purpose_turn` a line, and `find_file` and `interpret_act` an arm. A file of another kind is
+//! a variant of `Found`.
 #![tactic(auto)]
 
 mod boxes;
@@ -21,6 +21,7 @@ mod doing;
 mod files;
 mod limits;
 mod loading;
+mod looks;
 mod needs;
 mod printing;
 mod response;
@@ -34,12 +35,13 @@ mod turns;
 mod uploading;
 
 pub use boxes::{Dealt, deal};
-pub use doing::{Doing, interpret, is_given_up, look_at};
+pub use doing::{Doing, interpret, is_given_up};
 pub use files::{Bytes, Fetched, fetch};
 pub use limits::Limits;
 pub use loading::{Found, find};
+pub use looks::{Behind, look_at};
 pub use needs::missing_verb;
-pub use response::{Behind, Response};
+pub use response::Response;
 pub use run::{run_steps, send_response};
 pub use stop::Stop;
 pub use turns::edit_refused;

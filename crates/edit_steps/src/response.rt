@@ -1,39 +1,14 @@
 //! What a step answers.
 ghost use Rattle.std.specs.Prelude.{◌≡◌, []};
 ghost use Rattle.edit_script.specs.declared.reply.StepReply.TheVariants.{Done};
-ghost use Rattle.edit_steps.specs.declared.response.Behind.TheVariants as behinds;
+ghost use Rattle.edit_steps.specs.declared.looks.Behind.TheVariants as behinds;
 ghost use Rattle.edit_steps.specs.Turn.{reply_alone};
 
+use crate::looks::Behind;
 use edit_script::StepReply;
-use map_checks::Findings;
 use osm_base::Keys;
 use std::alloc::Global;
-use upload_order::{Changes, WorldRefusal};
-
-/// What stands behind the reply line of a step.
-#[derive(Drop)]
-pub enum Behind {
-    /// No text.
-    Nothing,
-    /// The objects of the table.
-    Table,
-    /// How many objects the table has.
-    Counts,
-    /// The objects in conflict.
-    Conflicts,
-    /// The whole table, as a session that is taken up later.
-    Saved,
-    /// The changes of an upload, in chunks of so many.
-    Changes { changes: Changes, size: u32 },
-    /// How many changes a rehearsal accepted.
-    Rehearsed(u64),
-    /// The keys that were found.
-    Found(Keys),
-    /// What is broken.
-    Findings(Findings),
-    /// How many changes a server accepted, and why it refused the next one, if it did.
-    Sent(u64, Option<WorldRefusal>),
-}
+use upload_order::WorldRefusal;
 
 /// The reply of a step, and what stands behind it.
 #[derive(Drop)]

@@ -10,15 +10,13 @@ ghost use Rattle.edit_history.specs.Moved.{Fits};
 ghost use Rattle.edit_steps.specs.Send.{Plays, RunsNext};
 ghost use Rattle.edit_steps.specs.States.{StepsRan};
 ghost use Rattle.edit_steps.specs.Stop.{StopCause, WriteCause};
-ghost use Rattle.edit_steps.specs.Turn.{turn, behind_text, response_text};
+ghost use Rattle.edit_steps.specs.Turn.{turn, response_text};
 
 use crate::limits::Limits;
 use crate::loading::{Found, find};
-use crate::response::{Behind, Response};
-use crate::sending::{
-    send_changes, send_conflicts, send_count, send_findings, send_found, send_rehearsed,
-    send_reply, send_saved, send_sent, send_table,
-};
+use crate::looks::send_behind;
+use crate::response::Response;
+use crate::sending::send_reply;
 use crate::stop::Stop;
 use crate::turns::take_turn;
 use dataset::DataSet;
@@ -68,7 +66,9 @@ fn run_next<S: Shelf, K: Sink>(
 {
     history.ds().sound();
     let found = find(alloc, limits, shelf, history.group(), &step.act)?;
-    run_step(alloc, limits, out, history, step, &found)
+    let ran = run_step(alloc, limits, out, history, step, &found);
+    drop(found);
+    ran
 }
 
 // Runs one step: what it does, its reply, and the text behind the reply.
@@ -86,7 +86,9 @@ fn run_step<K: Sink>(
     ensures cause { WriteCause (K.faults out.old) (K.faults out.new) result }
 {
     let response = take_turn(alloc, limits, history, &step.act, found)?;
-    send_response(alloc, out, step.line, &response, history.ds())
+    let sent = send_response(alloc, out, step.line, &response, history.ds());
+    drop(response);
+    sent
 }
 
 /// Sends the reply line, and the text behind it.
@@ -108,30 +110,4 @@ pub fn send_response<K: Sink>(
 {
     send_reply(alloc, out, line, &response.reply)?;
     send_behind(alloc, out, &response.behind, ds)
-}
-
-// The text behind a reply.
-fn send_behind<K: Sink>(
-    alloc: Global,
-    out: &mut K,
-    behind: &Behind,
-    ds: &DataSet,
-) -> Result<(), Stop>
-    requires { IsSized behind.now }
-    ensures ok { OnOk result (Appends (K.taken out.old) (K.taken out.new) (behind_text behind.now ds.now)) }
-    ensures err { OnErr result (AppendsFront (K.taken out.old) (K.taken out.new) (behind_text behind.now ds.now)) }
-    ensures cause { WriteCause (K.faults out.old) (K.faults out.new) result }
-{
-    match behind {
-        Behind::Nothing => Ok(()),
-        Behind::Table => send_table(alloc, out, ds),
-        Behind::Counts => send_count(alloc, out, ds),
-        Behind::Conflicts => send_conflicts(alloc, out, ds),
-        Behind::Saved => send_saved(alloc, out, ds),
-        Behind::Changes { changes, size } => send_changes(out, changes, *size),
-        Behind::Rehearsed(count) => send_rehearsed(alloc, out, *count),
-        Behind::Found(keys) => send_found(alloc, out, ds, keys.as_slice()),
-        Behind::Findings(findings) => send_findings(alloc, out, findings),
-        Behind::Sent(count, refused) => send_sent(alloc, out, *count, *refused),
-    }
 }

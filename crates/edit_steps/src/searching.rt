@@ -7,10 +7,11 @@ ghost use Rattle.map_search.specs.Query.{depth};
 ghost use Rattle.map_checks.specs.Findings.{findings};
 ghost use Rattle.map_checks.specs.declared.finding.Finding.TheVariants.{Doubled};
 ghost use Rattle.edit_steps.specs.Planned.{IsSized};
-ghost use Rattle.edit_steps.specs.declared.response.Behind.TheVariants as behind;
+ghost use Rattle.edit_steps.specs.declared.looks.Behind.TheVariants as behind;
 ghost use Rattle.edit_steps.specs.Searched.{finding_line, findings_lines, key_line};
 
-use crate::response::{Behind, Response};
+use crate::looks::Behind;
+use crate::response::Response;
 use dataset::DataSet;
 use map_checks::{Finding, Findings, list_findings};
 use map_search::{Query, find};

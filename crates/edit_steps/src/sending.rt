@@ -256,7 +256,16 @@ pub fn send_sent<K: Sink>(
     put(out, &text)
 }
 
-fn send_count_line<K: Sink>(alloc: Global, out: &mut K, name: &[u8], count: u64) -> Result<(), Stop>
+/// Sends a line with a name and a number.
+///
+/// # Errors
+/// The sink failed, or no memory was left. A front of the line may have been written.
+pub fn send_count_line<K: Sink>(
+    alloc: Global,
+    out: &mut K,
+    name: &[u8],
+    count: u64,
+) -> Result<(), Stop>
     ensures ok { OnOk result (Appends (K.taken out.old) (K.taken out.new) (count_line name.now count)) }
     ensures err { OnErr result (AppendsFront (K.taken out.old) (K.taken out.new) (count_line name.now count)) }
     ensures cause { WriteCause (K.faults out.old) (K.faults out.new) result }

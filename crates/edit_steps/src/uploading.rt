@@ -3,10 +3,11 @@ ghost use Rattle.std.specs.Prelude.{◌≡◌, ◌≢◌, ◌≤◌, Ok, IfOk, [
 ghost use Rattle.edit_script.specs.declared.reply.StepReply.TheVariants.{Done};
 ghost use Rattle.upload_order.specs.Refused.{upload};
 ghost use Rattle.upload_order.specs.declared.refusal.PlanRefusal.TheVariants as plan;
-ghost use Rattle.edit_steps.specs.declared.response.Behind.TheVariants as behind;
+ghost use Rattle.edit_steps.specs.declared.looks.Behind.TheVariants as behind;
 ghost use Rattle.edit_steps.specs.Planned.{plan_refused, planned, upload_answer, rehearse_answer, IsSized};
 
-use crate::response::{Behind, Response};
+use crate::looks::Behind;
+use crate::response::Response;
 use dataset::DataSet;
 use edit_script::{StepRefusal, StepReply};
 use server_world::{Rehearsal, rehearse};

@@ -26,13 +26,13 @@ returns-clause-runs g c = record {
   table = subst IsSound c.ds.ensures c.sound.ensures;
   found = c.in_ok-found.found;
   finds = finds_in _ c.args.limits _ c.args.step.now.act c.in_ok-found.found (rw c.group.ensures at c.in_ok-found.ensures.found);
-  plays = c.run_step.ensures.plays;
+  plays = c.run_step-ran.ensures.plays;
 }
 
 pub returns-clause-cause : goal.returns-clause-cause
 returns-clause-cause g c =
     let read = c.in_ok-found.ensures.cause in
-    let written = c.run_step.ensures.cause in
+    let written = c.run_step-ran.ensures.cause in
     record {
       read_later = read.later;
       write_later = written.later;
