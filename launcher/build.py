@@ -13,7 +13,7 @@ from launcher.store import NAME, remove
 
 PROGRAM = 'editor'
 # Bytes of disk: of a kept library for each line of Rattle, and of temporary files beside them.
-DISK_OF_LINE, DISK_OF_WORK = 135e3, 0.5e9
+DISK_OF_LINE, DISK_OF_WORK = 80e3, 0.5e9
 # With fewer bytes of free disk than these a proof that ended badly most likely had no room.
 FULL = 0.1e9
 # Of the free memory, what proofs side by side may take, and the most bytes that they are planned for: more of them side by

@@ -73,8 +73,8 @@ class Needs(unittest.TestCase):
     def test_too_little(self):
         wanted = 'too little memory: the proof of large may take 2.6 GB, and 1.0 GB are free. Close other programs first'
         self.assertEqual([wanted], self.lacks(1e9, 4e9))
-        self.assertIn('too little disk', self.lacks(4e9, 1e9)[0])
-        self.assertEqual(2, len(self.lacks(1e9, 1e9)))
+        self.assertIn('too little disk', self.lacks(4e9, 6e8)[0])
+        self.assertEqual(2, len(self.lacks(1e9, 6e8)))
 
     def test_what_is_proved_needs_nothing(self):
         made = some_build(small=100, large=4000)
