@@ -16,9 +16,9 @@ PROGRAM = 'editor'
 DISK_OF_LINE, DISK_OF_WORK = 80e3, 0.5e9
 # With fewer bytes of free disk than these a proof that ended badly most likely had no room.
 FULL = 0.1e9
-# Of the free memory, what proofs side by side may take, and the most bytes that they are planned for: more of them side by
-# side would end a tenth sooner, and take half as much again.
-PART_OF_MEMORY, MOST_MEMORY = 0.85, 8e9
+# Of the free memory, what proofs side by side may take, and the most bytes that they are planned for. They take a fifth less,
+# since they don't all need most at once; a GB more would end a twentieth sooner.
+PART_OF_MEMORY, MOST_MEMORY = 0.85, 7e9
 # Reckoned seconds that count as if they had been held against the clock, so that one small proof doesn't turn the time that
 # is told; and seconds after which something is said though nothing ended.
 PRIOR, SILENCE = 300.0, 120.0

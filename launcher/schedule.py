@@ -1,17 +1,18 @@
 """Which proof begins next, with how many jobs, and how long all of them will take.
 
-Proofs are ordered by the longest chain of proofs that waits for them, and a proof's time is reckoned from its crate's
-lines of Rattle. Seconds that were stored would go stale with each crate that is renamed, split or grown, and gain nothing:
-over this repository's crates the order by lines ends within a minute of the order by measured seconds. The reckoned time
-is held against the clock as proofs end, so what is left is told in this machine's minutes.
+Proofs are ordered by the longest chain of proofs that waits for them, and a proof's time is reckoned from the lines of
+Rattle of its crate and of those below it. Seconds that were stored would go stale with each crate that is renamed, split
+or grown, and gain nothing: over this repository's crates the order by lines ends within a minute of the order by measured
+seconds. The reckoned time is held against the clock as proofs end, so what is left is told in this machine's minutes.
 """
 from dataclasses import dataclass
 
 from launcher.crates import all_below
 
-# Seconds of one job: what a proof takes to read the libraries below it, and what a line of Rattle adds. They order the
-# proofs and begin the time that is told; nothing else hangs on them.
-SECONDS, SECONDS_A_LINE = 25.0, 0.12
+# Seconds of one job: what any proof takes, what a line of its crate adds, and a line of what it stands on, since libraries
+# are read and their lemmas searched. They order the proofs and begin the time that is told; nothing else hangs on them.
+# Without the last the crates at the top were told to take half of what they take.
+SECONDS, SECONDS_A_LINE, SECONDS_A_LINE_BELOW = 8.0, 0.115, 0.006
 # Bytes of memory: a proof's own, what a thousand lines of its crate add, a thousand lines below it, and a further job.
 MEMORY, MEMORY_OF_LINES, MEMORY_BELOW, MEMORY_OF_JOB = 1.0e9, 0.4e9, 0.03e9, 0.3e9
 # How much faster a proof is with more jobs; more than four seldom help.
@@ -49,9 +50,10 @@ class Schedule:
 
     def __init__(self, crates, processors, memory):
         self.crates, self.processors, self.memory = crates, processors, memory
-        self.seconds = {name: SECONDS + SECONDS_A_LINE * it.lines for name, it in crates.items()}
         below = all_below(crates)
         self.lines_below = {name: sum(crates[it].lines for it in below[name]) for name in crates}
+        self.seconds = {name: SECONDS + SECONDS_A_LINE * it.lines + SECONDS_A_LINE_BELOW * self.lines_below[name]
+                        for name, it in crates.items()}
         self.above = {name: sum(name in below[it] for it in crates) for name in crates}
         self.chain = self.chains()
         # Nearly equal chains: first what most crates wait for.

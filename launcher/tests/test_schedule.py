@@ -165,6 +165,11 @@ class Alone(unittest.TestCase):
 
 
 class Time(unittest.TestCase):
+    def test_what_stands_on_more_lines_is_reckoned_to_take_longer(self):
+        schedule = Schedule(crates(a=(5000,), b=(100,), c=(100, 'a')), 4, PLENTY)
+        self.assertLess(schedule.seconds['b'], schedule.seconds['c'])
+        self.assertLess(schedule.seconds['c'], schedule.seconds['a'])
+
     def test_nothing_left(self):
         schedule = Schedule(tower(3), 4, PLENTY)
         self.assertEqual(0.0, schedule.seconds_left([], set(schedule.crates), []))
