@@ -17,7 +17,7 @@ DISK_OF_LINE, DISK_OF_WORK = 80e3, 0.5e9
 # With fewer bytes of free disk than these a proof that ended badly most likely had no room.
 FULL = 0.1e9
 # Of the free memory, what proofs side by side may take, and the most bytes that they are planned for. They take a fifth less,
-# since they don't all need most at once; a GB more would end a twentieth sooner.
+# since they don't all need most at once. By the seconds of a whole build played through, a GB more ends a minute or two sooner.
 PART_OF_MEMORY, MOST_MEMORY = 0.85, 7e9
 # Reckoned seconds that count as if they had been held against the clock, so that one small proof doesn't turn the time that
 # is told; and seconds after which something is said though nothing ended.

@@ -11,7 +11,7 @@ from launcher.crates import all_below
 
 # Seconds of one job: what any proof takes, what a line of its crate adds, and a line of what it stands on, since libraries
 # are read and their lemmas searched. They order the proofs and begin the time that is told; nothing else hangs on them.
-# Without the last the crates at the top were told to take half of what they take.
+# Without the last the crates at the top would be reckoned at half of what they take.
 SECONDS, SECONDS_A_LINE, SECONDS_A_LINE_BELOW = 8.0, 0.115, 0.006
 # Bytes of memory: a proof's own, what a thousand lines of its crate add, a thousand lines below it, and a further job.
 MEMORY, MEMORY_OF_LINES, MEMORY_BELOW, MEMORY_OF_JOB = 1.0e9, 0.4e9, 0.03e9, 0.3e9
