@@ -90,7 +90,7 @@ def run(home, words):
     call = command(script, os.getcwd())
     if machine.free_memory() + machine.free_swap() < MEMORY:
         say('this may take {}, and {} are free'.format(gigabytes(MEMORY), gigabytes(machine.free_memory())))
-    say('running {} unproved, by rt try: about three minutes, and nothing is proved by it. Nothing is kept'.format(script))
+    say('running {} unproved, by rt try: one to three minutes, and nothing is proved by it. Nothing is kept'.format(script))
     sys.stdout.flush()
     # rt gets standard error through a pipe, since its last lines are for who writes Rattle, and are put in plain words here.
     how = {'stdin': subprocess.DEVNULL, 'stderr': subprocess.PIPE}

@@ -14,7 +14,7 @@ proves the program's crates and builds the program. On this machine that takes {
 tell, up to {memory} of memory, and {disk} of disk until it is done. It may be interrupted, and goes on later from what is
 proved. Then it starts at once, until the sources change.
 
-  --look SCRIPT    runs the script unproved, in about three minutes and 3 GB of memory, by the toolkit's `rt try`: at most 60
+  --look SCRIPT    runs the script unproved, in one to three minutes and 3 GB of memory, by the toolkit's `rt try`: at most 60
                    seconds and 1 MiB of output, and nothing is kept
   --prove          proves and builds the program, and runs nothing; also where a released program stands beside ./editor,
                    and says whether its bytes are the same. Beside it:
@@ -32,7 +32,7 @@ The log is {log}.
 Read on: README.md, then docs/TOUR.md and docs/COMMANDS.md.
 '''
 BRIEF = '''usage: ./editor [--max-objects N] [--max-file N] SCRIPT
-       ./editor --look SCRIPT      runs it unproved, in about three minutes
+       ./editor --look SCRIPT      runs it unproved, in one to three minutes
        ./editor --help             says more
 '''
 FLAGS = {'--anyway': 'anyway', '--keep': 'keeps', '--measure': 'measures'}

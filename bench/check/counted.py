@@ -87,7 +87,7 @@ SENTENCES = [(re.compile(pattern.replace('N', N)), names.split(', ')) for patter
     ('N more are tried at a release', 'others'),
     ('gate has room for N', 'most edits'),
     ('longest chain(?: is|,) N', 'chain'),
-    ('N crates(?= in layers|, the lowest| of this repository)', 'crates'),
+    ('N crates(?= in layers|, the lowest| of this repository| and [0-9]+ wrong)', 'crates'),
     ('N runs of N whole sessions', 'runs, sessions'),
     (r'\(N runs\)', 'runs that fail'),
     (r'\(N cases\)', 'cut files'),
