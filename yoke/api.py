@@ -3,7 +3,7 @@
 Each call ends in one of three ways, and a caller can rely on which:
 
 - it answers: the server did what was asked;
-- `ServerRefused`: the server answered with a 4xx, so it did nothing of it;
+- `ServerRefused`: the server answered with a 4xx that says so, so it did nothing of it;
 - `NoAnswer`: anything else. A call that only looks was tried again before. Of one that writes nobody knows what became.
 
 A 429 was refused, and says how long to wait: the call waits, and asks again. Nothing else that writes is ever sent twice
@@ -120,16 +120,18 @@ class Server:
     def changeset(self, number):
         """How many changes a changeset has, and whether it is open."""
         element = self._read(osc.root_of, self.look('/changeset/' + number), 'osm').find('changeset')
-        if element is None:
-            raise NoAnswer('{} says nothing of the changeset {}'.format(self.address, number))
-        return int(element.get('changes_count') or 0), element.get('open') == 'true'
+        count, is_open = ('', '') if element is None else (element.get('changes_count') or '', element.get('open'))
+        if not count.isdigit() or is_open not in ('true', 'false'):
+            raise NoAnswer('{} doesn\'t say how many changes the changeset {} has, and whether it is open'.format(self.address, number))
+        return int(count), is_open == 'true'
 
     def close_changeset(self, number):
-        """Closes a changeset; one that is closed already is fine, so it is asked again where no answer comes."""
+        """Closes a changeset; one that is closed already is fine, so it is asked again where no answer comes. ServerRefused where it is
+        another account's."""
         try:
             self._patiently('PUT', '/changeset/{}/close'.format(number))
         except ServerRefused as refused:
-            if refused.status != 409:
+            if refused.status != 409 or words.is_of_another_account(refused.text):
                 raise
 
     def upload(self, number, document):
@@ -237,12 +239,14 @@ class Server:
             raise NoAnswer('no answer from {}: {}'.format(self.address, reason(error))) from None
 
     def _refused(self, error, method):
-        """What an answer with another status than 200 is. A 509 asks who looked at too much to wait, as a 429 does."""
+        """What an answer with another status than 200 is. A 509 asks who looked at too much to wait, as a 429 does. A redirection
+        tells nothing of what became of a call that writes: a gateway may have made it of an answer that came too late."""
         try:
             text = error.read().decode('utf-8', 'replace')
         except (OSError, http.client.HTTPException):
             text = ''
-        if error.code in NOT_DONE or error.code == 429 or 300 <= error.code < 400 or error.code == 509 and method == 'GET':
+        looks = method == 'GET' and (300 <= error.code < 400 or error.code == 509)
+        if error.code in NOT_DONE or error.code == 429 or looks:
             text = text or error.headers.get('Error') or ''
             return ServerRefused(words.answer(error.code, text), error.code, text, seconds(error.headers.get('Retry-After')))
         return NoAnswer('the server answers {}{}'.format(error.code, ': ' + words.cut(text) if text else ''))

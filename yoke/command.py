@@ -56,16 +56,23 @@ def main(words=None):
         os.dup2(os.open(os.devnull, os.O_WRONLY), sys.stdout.fileno())     # so that nothing is flushed into it at the end
         return 3
     except OSError as error:
-        complain(error)
+        complain('{}; {}'.format(error, further(arguments.verb)))
         return 3
     except KeyboardInterrupt:
-        complain('broken off; the same command again goes on from what is kept')
+        complain('broken off; {}'.format(further(arguments.verb)))
         return 130
     except Exception as fault:
         if os.environ.get('YOKE_TRACE'):
             raise
         complain('a fault of yoke itself, which you may report with what $YOKE_TRACE=1 shows: {}: {}'.format(type(fault).__name__, fault))
         return 70
+
+
+def further(verb):
+    """How one goes on where a verb was broken off: another than these two may have kept what it did, and would do it once more."""
+    if verb in ('send', 'refresh'):
+        return 'the same command again goes on from what is kept'
+    return 'yoke status shows what is kept: look before the same command again'
 
 
 def complain(text):

@@ -8,6 +8,7 @@
 | `N.answer` | what the server answered to it; `N.answers` is the same for `confirm` |
 | `changeset` | the changeset that is open |
 | `server` | the address of the server that this day belongs to |
+| `forgotten` | the last of the sessions after the first that were removed: nothing is taken back beyond it |
 | `lock` | held by the `yoke` that works here |
 
 Each file appears whole or not at all: it is written under another name, brought to the disk, and then renamed, and the
@@ -23,7 +24,9 @@ from dataclasses import dataclass
 from yoke.trouble import Busy, Refused, Trouble
 
 NAME = re.compile('([0-9]+)-([a-z-]+)\\.(saved|undone)')
+BEGUN = re.compile('([0-9]+[.-][a-z.-]+|changeset|server|forgotten|josm-[0-9]+\\.start)\\.new')     # what a stopped yoke left half written
 LAST = 3        # sessions that are kept of those that nothing goes back to any more
+FORGOTTEN = 'forgotten'
 BACK = 20       # sessions to which `undo` can go back, counted from the last
 
 
@@ -69,10 +72,12 @@ class Day:
         return state
 
     def take_back(self):
-        """Takes the last session back; answers with it. Refused where nothing lies before, or where it was sent."""
+        """Takes the last session back; answers with it. Refused where nothing lies before, or no longer, or where it was sent."""
         states = self.states()
         if len(states) < 2:
             raise Refused('there is nothing to take back: this session is the first')
+        if len(states) == 2 and self.read(FORGOTTEN):
+            raise Refused('the session before this one is no longer kept: the last {} are, and those since a chunk was sent'.format(BACK))
         if states[-1].verb == 'send':
             raise Refused('the last session was kept after the server took a chunk; that can\'t be taken back here, only by new edits')
         if self.pending():
@@ -87,6 +92,8 @@ class Day:
         states = self.states()
         sent = max((at for at, state in enumerate(states) if state.verb == 'send'), default=0)
         first = max(min(sent, len(states) - LAST), len(states) - BACK)
+        if states[1:first]:
+            self.write(FORGOTTEN, '{:06}\n'.format(states[first - 1].number))
         for state in states[1:first] + self.states('undone')[:-LAST]:
             state.path.unlink()
 
@@ -137,16 +144,17 @@ class Day:
     def locked(self, make=False):
         """Holds the folder for this process alone; Busy where another one does. `make` makes the folder where it isn't there."""
         if make:
-            self.folder.mkdir(parents=True, exist_ok=True)
+            make_folder(self.folder)
         if not self.folder.is_dir():
             raise Trouble('there is no folder {}: yoke start EXTRACT makes it'.format(self.folder))
         with open(self.path('lock'), 'a') as lock:
             try:
                 fcntl.flock(lock, fcntl.LOCK_EX | fcntl.LOCK_NB)
-            except OSError:
+            except BlockingIOError:
                 raise Busy('another yoke works in {}'.format(self.folder)) from None
-            for path in self.folder.glob('*.new'):      # begun by one that was stopped; nothing rests on them
-                path.unlink()
+            for path in self.folder.glob('*.new'):      # nothing rests on them
+                if BEGUN.fullmatch(path.name):
+                    path.unlink()
             yield self
 
 
@@ -160,6 +168,14 @@ def write_whole(path, text):
         os.fsync(file.fileno())
     os.replace(new, path)
     sync_folder(path.parent)
+
+
+def make_folder(folder):
+    """Makes a folder, with those above it, where they aren't there; then their names are on the disk."""
+    missing = [one for one in (folder, *folder.parents) if not one.exists()]
+    folder.mkdir(parents=True, exist_ok=True)
+    for one in missing:
+        sync_folder(one.parent)
 
 
 def sync_folder(folder):

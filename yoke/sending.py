@@ -13,10 +13,11 @@ before the next call goes out, and each answer is on the disk before anything re
 
 From row to row, in this order, of which each line is one write or one call:
 
-    1 -> 2   write server, the first time; PUT changeset/create; write changeset
+    1 -> 2   PUT changeset/create; write server, the first time; write changeset
     2 -> 3   write N.osc; POST changeset/C/upload
     3 -> 4   the answer is a diffResult of all changes: write N.answer
-    3 -> 2   the answer is a 4xx: the document wasn't taken, and C doesn't have it: remove N.osc
+    3 -> 2   the answer is a 4xx: the document wasn't taken, C doesn't have it, and where that may be the answer to a second time,
+             C counts no more changes than were confirmed: remove N.osc
     3 -> 1   no answer, or a 409 for the changeset: C is looked into and closed as above; remove N.osc; remove changeset
     4 -> 2   write N.answers; write (N+1)-send.saved, by which N.osc is no longer beside the last session
     2 -> 1   C is full, or nothing is left to send: PUT changeset/C/close; remove changeset
@@ -25,7 +26,8 @@ Row 3 rests on two things that API 0.6 has: a document is taken whole or not at 
 that is closed. The close is the fence: a document still at work at the server either ends before it, and then the second
 look sees it, or finds the changeset closed. So the same changes never go out again while the first time may still count.
 The look is at `changeset/C/download`; where that doesn't come, at the version that one of the changes would have made. How
-many changes a closed changeset counts says the same once more, and where the two don't agree nothing goes out.
+many changes a changeset counts says the same once more, and where the two don't agree nothing goes out; nor does anything go
+into one that counts more than was confirmed.
 
 A new object has no version that would guard it, so row 3 is where another sender would make it twice; a change that names
 a version can't be taken twice at all.
@@ -125,6 +127,10 @@ class Sending:
                 self._confirm()
         if self.changeset:
             self.changeset.count, is_open = self._looked_at()
+            confirmed = len(self._earlier())
+            if self.changeset.count > confirmed:
+                raise Trouble("{}; where they are none of this day's, remove {}".format(
+                    self._others(self.changeset.count, confirmed), self.day.path("changeset")))
             if not is_open:
                 self._drop()
             elif self.changeset.tags != self.tags or self.changeset.count >= self.limits.changes:
@@ -160,15 +166,19 @@ class Sending:
         return self.session.ask(['upload {}'.format(self._room())]).first_chunk()
 
     def _open(self):
-        note_server(self.day, self.server)
         number = self.server.open_changeset(self.tags)
+        note_server(self.day, self.server)
         self.day.write('changeset', json.dumps({'number': number, 'tags': self.tags}) + '\n')
         self.changeset = Open(number, self.tags)
 
     def _close(self):
         """Closes the changeset, if one is open, and forgets it."""
         if self.changeset:
-            self.server.close_changeset(self.changeset.number)
+            try:
+                self.server.close_changeset(self.changeset.number)
+            except ServerRefused as refused:
+                if not words.is_of_another_account(refused.text):
+                    raise
             self._drop()
 
     def _drop(self):
@@ -203,10 +213,12 @@ class Sending:
         if refused.status in CLASHES:
             if self._found():       # a proxy had sent it twice, and this is the answer to the second time
                 return Outcome.TAKEN
+            self._hold_to_count()
             self._remove('osc')
             keys = users(refused.text)
             raise Clash(str(refused) + ('; where it doesn\'t know them: yoke refresh ' + ' '.join(keys) if keys else ''), keys) from None
         if refused.status == 413 and (self.changeset.count or len(chunk) > 1):
+            self._hold_to_count()
             self.note('{}'.format(refused))
             self.size = self.size if self.changeset.count else len(chunk) // 2
             self._remove('osc')
@@ -222,7 +234,7 @@ class Sending:
         """A 409 for the changeset itself: it is closed, or somebody works in it. A second new one in a row is another fault."""
         self.unusable = 0 if self.changeset.count else self.unusable + 1
         self.note('{}'.format(refused))
-        if 'own that changeset' in refused.text:    # it was opened by another account
+        if words.is_of_another_account(refused.text):
             self._remove('osc')
             self._drop()
         elif self._settle():
@@ -242,8 +254,7 @@ class Sending:
         if found:
             return True
         if counted:
-            raise NoAnswer('the changeset {} counts the changes of {}, and doesn\'t show them yet'.format(
-                self.changeset.number, self.day.path(self.day.pending())))
+            raise self._unseen()
         self._remove('osc')
         self._drop()
         return False
@@ -272,11 +283,28 @@ class Sending:
                 raise NoAnswer('the changeset {} is still at work at the server'.format(number))
             self.note('the changeset {} is still at work; asked again in {} s'.format(number, waits[0]))
             api.pause(waits.pop(0))
+        return self._counts(count)
+
+    def _counts(self, count):
+        """Whether so many changes in the changeset are with those of the document that is out. Trouble where they are others."""
         confirmed, out = len(self._earlier()), len(self._sent())
         if count not in (confirmed, confirmed + out):
-            raise Trouble('the changeset {} has {} changes, and {} were confirmed: look what they are before anything is sent again'.format(
-                number, count, confirmed))
+            raise self._others(count, confirmed)
         return count == confirmed + out
+
+    def _hold_to_count(self):
+        """NoAnswer where the changeset counts the changes of the document that is out, though it was refused and isn't found."""
+        count, _ = self.server.changeset(self.changeset.number)
+        if self._counts(count):
+            raise self._unseen()
+
+    def _unseen(self):
+        return NoAnswer('the changeset {} counts the changes of {}, and doesn\'t show them yet'.format(
+            self.changeset.number, self.day.path(self.day.pending())))
+
+    def _others(self, count, confirmed):
+        return Trouble('the changeset {} has {} changes, and {} were confirmed: look what they are before anything is sent again'.format(
+            self.changeset.number, count, confirmed))
 
     def _sent(self):
         """The changes of the document that is out."""

@@ -110,6 +110,11 @@ def is_version_mismatch(text):
     return text.startswith('Version mismatch')
 
 
+def is_of_another_account(text):
+    """Whether the text of a 409 says that the changeset was opened by another account."""
+    return 'own that changeset' in text
+
+
 def answer(code, text):
     """A refusal of a server, with its own text."""
     cause, way = ANSWERS.get(code, ('it refuses', 'its text says why'))

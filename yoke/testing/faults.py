@@ -12,6 +12,7 @@ KINDS = {
     '500-after': 'all is done, and then 500',
     '504-before': '504, and nothing is done',
     '504-after': 'all is done, and then 504',
+    '302-after': 'all is done, and then a redirection, as a gateway makes of its own 504',
     'late-1': 'the connection is closed, and all is done before the next request',
     'late-2': 'the same, before the second request after it',
     'late-3': 'the same, before the third request after it',

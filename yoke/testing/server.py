@@ -346,7 +346,7 @@ class StrictServer:
             return fault, self._faulty(fault)
         answer = self._act(route, request)
         self._call('after', route.operation, number)
-        return fault, self._faulty(fault) if fault in ('500-after', '504-after') else answer
+        return fault, self._faulty(fault) if fault in ('500-after', '504-after', '302-after') else answer
 
     def _act(self, route: Route, request: Request) -> Answer:
         """Does an operation, and gives its answer."""
@@ -378,7 +378,7 @@ class StrictServer:
         """The answer of a fault that has one."""
         if fault in ('429-before', '509-before'):
             return refused(too_fast(self.limits) if fault == '429-before' else too_much(self.limits))
-        if fault.startswith('50'):
+        if fault.startswith(('50', '302')):
             phrase = HTTPStatus(int(fault[:3])).phrase
             return Answer(int(fault[:3]),
                           '<html><head><title>{0} {1}</title></head><body><h1>{1}</h1></body></html>\n'.format(fault[:3], phrase).encode(),

@@ -503,17 +503,17 @@ class WithFaults(ServerTest):
                          ['500-before upload', '504-before upload', '429-before upload', '509-before upload', 'close-before upload'])
 
     def test_those_after_a_commit(self):
-        for count, (fault, status) in enumerate([('500-after', 500), ('504-after', 504)], 1):
+        for count, (fault, status) in enumerate([('500-after', 500), ('504-after', 504), ('302-after', 302)], 1):
             self.server.faults.once(fault)
             self.assertEqual((self.upload(self.node).status, self.taken()), (status, count))
         self.server.faults.once('drop-after')
         with self.assertRaises(http.client.RemoteDisconnected):
             self.upload(self.node)
-        self.assertEqual(self.taken(), 3)
+        self.assertEqual(self.taken(), 4)
         self.server.faults.once('half-after')
         with self.assertRaises(http.client.IncompleteRead):
             self.upload(self.node)
-        self.assertEqual(self.taken(), 4)
+        self.assertEqual(self.taken(), 5)
 
     def test_what_is_done_late(self):
         self.server.faults.once('late-2')

@@ -102,12 +102,11 @@ class Calls(ApiTest):
 
     def test_no_redirect_is_followed(self):
         for status in (301, 302, 303, 307, 308):
-            server = self.serve((status, {'Location': '/elsewhere'}, b''))
-            with self.assertRaises(ServerRefused):
-                server.upload('7', '')
-            with self.assertRaises(IndexError):
-                self.script.answers.pop()
-            self.assertEqual(1, len(self.script.requests))
+            for call, error in [(lambda server: server.download('7'), ServerRefused), (lambda server: server.upload('7', ''), NoAnswer)]:
+                server = self.serve((status, {'Location': '/elsewhere'}, b''))
+                with self.assertRaises(error):
+                    call(server)
+                self.assertEqual(([], 1), (self.script.answers, len(self.script.requests)))
 
     def test_429_waits_as_long_as_it_says(self):
         server = self.serve((429, {'Retry-After': '7'}, b''), (429, {}, b''), (200, {}, b'4711'))
@@ -137,9 +136,9 @@ class Calls(ApiTest):
     def test_a_close_may_come_twice(self):
         server = self.serve((504, {}, b''), (409, {}, b'The changeset 7 was closed at ..'))
         server.close_changeset('7')
-        server = self.serve((404, {}, b''))
-        with self.assertRaises(ServerRefused):
-            server.close_changeset('7')
+        for answer in [(404, {}, b''), (409, {}, b'The user doesn\'t own that changeset')]:
+            with self.assertRaises(ServerRefused):
+                self.serve(answer).close_changeset('7')
 
     def test_who_uses_an_object(self):
         way, relation = b'<osm><way id="5" version="2"><nd ref="1"/></way></osm>', b'<osm><relation id="9" version="1"/></osm>'
@@ -167,8 +166,10 @@ class Calls(ApiTest):
         for text in (b'<html>', b'<osm/>', b''):
             with self.assertRaises(Trouble):
                 self.serve((200, {}, text)).limits()
-            with self.assertRaises(NoAnswer):
+        for text in (b'<html>', b'<osm/>', b'', b'<osm><changeset open="true"/></osm>', b'<osm><changeset changes_count="3"/></osm>'):
+            with self.assertRaises(NoAnswer, msg=text):
                 self.serve((200, {}, text)).changeset('7')
+        self.assertEqual((3, False), self.serve((200, {}, b'<osm><changeset changes_count="3" open="false"/></osm>')).changeset('7'))
         with self.assertRaises(NoAnswer):
             self.serve((200, {}, b'<osm><node id="1"')).things(['n1'], self.fail)
 

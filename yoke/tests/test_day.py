@@ -117,6 +117,19 @@ class Sessions(DayTest):
         self.assertEqual([1, 61, 62, 63, 64], [state.number for state in self.day.states()])
         self.assertEqual('send', self.day.states()[1].verb)
 
+    def test_nothing_goes_back_beyond_what_is_kept(self):
+        for verbs in (['start'] + ['do'] * 30, ['start', 'import', 'send'] + ['do'] * BACK):
+            with self.subTest(len(verbs)):
+                self.setUp()
+                for verb in verbs:
+                    self.day.keep(verb, '')
+                for _ in range(BACK - 1):
+                    self.day.take_back()
+                with self.assertRaisesRegex(Refused, 'no longer kept'):
+                    self.day.take_back()
+                self.day.keep('do', '')
+                self.day.take_back()
+
     def test_what_was_undone_is_kept_a_while(self):
         self.day.keep('start', '')
         for _ in range(10):
@@ -139,14 +152,22 @@ class Locks(DayTest):
             pass
 
     def test_what_a_stopped_one_left_half_written_goes(self):
-        (self.folder / '000001-start.saved.new').write_text('half')
+        for name in ('000001-start.saved', '000002.osc', '000002.answers', 'changeset', 'server', 'forgotten', 'josm-1.start'):
+            (self.folder / (name + '.new')).write_text('half')
+        (self.folder / 'bench.opl.new').write_text('the user\'s')
         with self.day.locked():
-            self.assertEqual(['lock'], os.listdir(self.folder))
+            self.assertEqual(['bench.opl.new', 'lock'], sorted(os.listdir(self.folder)))
+
+    def test_a_lock_that_the_disk_does_not_have(self):
+        with mock.patch('fcntl.flock', side_effect=OSError(37, 'No locks available')):
+            with self.assertRaisesRegex(OSError, 'No locks'), self.day.locked():
+                pass
 
     def test_no_folder(self):
         with self.assertRaisesRegex(Trouble, 'yoke start'), Day(self.folder / 'none').locked():
             pass
-        with Day(self.folder / 'new' / 'one').locked(make=True):
+        with mock.patch('yoke.day.sync_folder') as synced, Day(self.folder / 'new' / 'one').locked(make=True):
+            self.assertEqual([mock.call(self.folder / 'new'), mock.call(self.folder)], synced.call_args_list)
             self.assertTrue((self.folder / 'new' / 'one').is_dir())
 
 

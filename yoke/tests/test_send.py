@@ -129,6 +129,12 @@ class Whole(SendTest):
         self.assertEqual(0, self.yoke('refresh', '--api', other.api), self.err)
         self.goes_on()
 
+    def test_a_server_that_opens_no_changeset_does_not_bind_the_day(self):
+        other = self.serve()
+        with mock.patch.dict(os.environ, YOKE_TOKEN='another'):
+            self.assertEqual(ServerRefused.code, self.yoke('send', '-m', 'x', '--api', other.api))
+        self.goes_on()
+
     def test_a_text_that_the_api_does_not_take(self):
         self.do('tag n1 Tnote=a%1%b')
         self.assertEqual(Refused.code, self.send('--chunk', '10000'))
@@ -192,6 +198,28 @@ class Changesets(SendTest):
         self.assertEqual(5, len(self.server.history))
         self.assertIsNone(self.day.read('changeset'))
 
+    def test_one_of_another_account_with_a_document_out(self):
+        self.server.faults.once('drop-after', 'upload')
+        self.server.faults.by_chance('500-before', 1.0, 0, 'download')
+        self.assertEqual(NoAnswer.code, self.send())
+        self.server.users['another'] = User(7, 'another')
+        with mock.patch.dict(os.environ, YOKE_TOKEN='another'):
+            self.assertEqual(ServerRefused.code, self.send())
+        self.assertIn('own that changeset', self.err)
+        self.assertEqual('000002.osc', self.day.pending())
+        self.goes_on()
+
+    def test_one_with_changes_that_nobody_confirmed(self):
+        """A copy of the day sent in it: nothing goes out before somebody looked."""
+        self.server.edit('modify', 'n8', tags={'amenity': 'bench', 'backrest': 'no'})
+        self.assertEqual(Clash.code, self.send())
+        number = json.loads(self.day.read('changeset'))['number']
+        self.server.database.upload(int(number), MAPPER, '<osmChange><create><node id="-1" lat="3" lon="3" changeset="{}"/></create></osmChange>'.format(number).encode())
+        count = self.server.requests.count('upload')
+        self.assertEqual(Trouble.code, self.send())
+        self.assertIn('day/changeset', self.err)
+        self.assertEqual(count, self.server.requests.count('upload'))
+
     def test_another_comment_opens_another_one(self):
         self.server.edit('modify', 'n8', tags={'amenity': 'bench', 'backrest': 'no'})
         self.assertEqual(Clash.code, self.send())
@@ -219,6 +247,20 @@ class Refusals(SendTest):
         self.assertEqual({'highway': 'residential', 'name': 'Main Street', 'surface': 'asphalt'}, self.theirs()['w5'].tags)
         self.assertEqual([], self.server.created_twice())
         self.is_at_rest()
+
+    def test_a_proxy_that_sends_a_document_twice_before_a_download_that_lags_behind(self):
+        """The second time is refused by a 409; the changeset counts the first, which makes a new object."""
+        act = self.server.database.upload
+
+        def twice(*given):
+            act(*given)
+            return act(*given)
+        self.chunk = '1000'
+        with mock.patch.object(self.server.database, 'upload', twice), mock.patch.object(self.server.database, 'download', lambda number: b'<osmChange/>'):
+            self.assertEqual(NoAnswer.code, self.send())
+        self.assertIn('doesn\'t show them yet', self.err)
+        self.assertEqual('000002.osc', self.day.pending())
+        self.goes_on()
 
     def test_410(self):
         self.server.before('upload', 3, lambda: self.server.edit('delete', 'r9'))
@@ -447,6 +489,12 @@ class Silence(SendTest):
         self.assertIn('doesn\'t show them yet', self.err)
         self.assertEqual((1, '000002.osc'), (self.server.requests.count('upload'), self.day.pending()))
         self.goes_on()
+
+    def test_a_redirection_in_the_place_of_an_answer(self):
+        self.server.faults.once('302-after', 'upload')
+        self.assertEqual(0, self.send(), self.err)
+        self.is_all_there()
+        self.is_at_rest()
 
     def test_a_changeset_that_the_server_has_forgotten(self):
         self.server.before('upload', 2, lambda: self.server.database.changesets.clear())

@@ -274,6 +274,10 @@ class Command(FolderTest):
             with mock.patch('yoke.verbs.status.run', side_effect=error):
                 self.assertEqual(code, self.yoke('status'))
             self.assertEqual(1, self.err.count('\n'))
+            self.assertIn('yoke status shows', self.err)        # another verb may have kept what it did
+        with mock.patch('yoke.verbs.send.run', side_effect=KeyboardInterrupt()):
+            self.assertEqual(130, self.yoke('send'))
+        self.assertIn('the same command again goes on', self.err)
 
     def test_as_a_program(self):
         environment = dict(os.environ, PYTHONPATH=str(TOP), YOKE_EDITOR=str(TOP / 'bench' / 'model' / 'model'))
