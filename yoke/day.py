@@ -124,7 +124,7 @@ class Day:
 
     def write(self, name, text):
         """Writes a file of this folder, whole or not at all; when this returns it is on the disk."""
-        write_whole(self.path(name), text)
+        write_by(self.path(name + '.new'), self.path(name), text)
 
     def remove(self, name):
         """Removes a file of this folder, if it is there; when this returns it is gone from the disk."""
@@ -159,9 +159,21 @@ class Day:
 
 
 def write_whole(path, text):
-    """Writes a file whole or not at all: what stood there before stands there until the new text is on the disk."""
+    """Writes a file whole or not at all: what stood there before stands there until the new text is on the disk. No other file is
+    touched, one called `.new` neither."""
     path = pathlib.Path(path)
-    new = path.with_name(path.name + '.new')
+    new = path.with_name('{}.{}.new'.format(path.name, os.getpid()))
+    with open(new, 'x'):
+        pass
+    try:
+        write_by(new, path, text)
+    finally:
+        with contextlib.suppress(FileNotFoundError):
+            new.unlink()
+
+
+def write_by(new, path, text):
+    """Writes a file whole or not at all, by another name in the same folder, which may stand there if it doesn't succeed."""
     with open(new, 'w', encoding='utf-8', newline='\n') as file:
         file.write(text)
         file.flush()

@@ -47,6 +47,12 @@ class Files(DayTest):
             with self.assertRaises(OSError):
                 write_whole(self.folder / 'a', 'new\n')
         self.assertEqual('old\n', (self.folder / 'a').read_text())
+        self.assertEqual(['a'], os.listdir(self.folder))
+
+    def test_no_other_file_is_touched(self):
+        (self.folder / 'a.new').write_text('another\n')
+        write_whole(self.folder / 'a', 'text\n')
+        self.assertEqual('another\n', (self.folder / 'a.new').read_text())
 
     def test_a_file_that_is_removed_or_renamed_is_so_on_the_disk(self):
         self.day.write('a', 'x')
