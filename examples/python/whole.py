@@ -23,11 +23,15 @@ def write_bytes_whole(path, data):
     path = pathlib.Path(os.path.realpath(path))
     if path.exists() and not path.is_file():
         raise ValueError('{} is no file'.format(path))
-    new = path.with_name(path.name + '.new')
-    with open(new, 'wb') as file:
-        file.write(data)
-        file.flush()
-        os.fsync(file.fileno())
+    new = path.with_name('{}.{}.new'.format(path.name, os.getpid()))
+    with open(new, 'xb') as file:
+        try:
+            file.write(data)
+            file.flush()
+            os.fsync(file.fileno())
+        except BaseException:
+            os.unlink(new)
+            raise
     os.replace(new, path)
     sync_folder(path.parent)
 
