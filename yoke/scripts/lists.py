@@ -66,10 +66,11 @@ def _flat(node: opl.Object, thing: opl.Object, shrink: float) -> Tuple[float, fl
     return float(thing.lon - node.lon) * shrink, float(thing.lat - node.lat)
 
 
-def add_members_line(table: Table, pairs: Sequence[Tuple[str, str]], relation: str, at: Optional[int] = None, again: bool = False) -> str:
+def add_members_line(table: Table, pairs: Sequence[Tuple[str, str]], relation: str, at: Optional[int] = None, again: bool = False,
+                     once_more: str = 'yoke add-member --again') -> str:
     """The `members` line that makes objects, by key and role, members of a relation: the last ones, or from the `at`-th on, where 1 is the first.
 
-    `again` tells that they may be members with the same role already.
+    `again` tells that they may be members with the same role already, and `once_more` what else the user may write to that end.
     """
     if relation[0] != 'r':
         raise Usage('a relation is wanted: yoke add-member w7 r9 outer')
@@ -82,8 +83,8 @@ def add_members_line(table: Table, pairs: Sequence[Tuple[str, str]], relation: s
         if not table.refers(key):
             raise Refused('there is no {} in the session'.format(key))
         if pair in members and not again:
-            raise Refused('{} is a member of {} already{}: yoke add-member --again makes it one once more'.format(
-                key, relation, ' as ' + role if role else ''))
+            raise Refused('{} is a member of {} already{}: {} makes it one once more'.format(
+                key, relation, ' as ' + role if role else '', once_more))
         members.insert(place, pair)
         place += 1
     try:

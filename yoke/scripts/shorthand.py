@@ -293,7 +293,8 @@ class _Writer:
 
     def _add_member(self, rest: List[str]):
         relation = rest[1]
-        line = lists.add_members_line(self._known(relation), grammar.check_members_word('M' + rest[0]), relation, *map(int, rest[2:]))
+        line = lists.add_members_line(self._known(relation), grammar.check_members_word('M' + rest[0]), relation, *map(int, rest[2:]),
+                                      once_more='members {} M.. with the whole list'.format(relation))
         self._add_list(line, relation)
 
     def _mend_turns(self, rest: List[str]):

@@ -1,6 +1,7 @@
 """The verbs of other formats and of scripts, as a user runs them, over the folder of a day."""
 import gzip
 import json
+import os
 import pathlib
 import unittest
 
@@ -141,6 +142,35 @@ class Verbs(FolderTest):
         self.done('import', 'addresses.csv', '--anywhere', '--to', 'new.opl')
         self.assertTrue(pathlib.Path('new.opl').read_text().startswith('n-1 THNR=12,STR=Hohe%20%Straße,'))
 
+    def test_an_output_never_takes_the_place_of_what_is_read(self):
+        self.write('addresses.csv', ADDRESSES)
+        self.write('town.rules', RULES)
+        self.write('out.opl.new', ADDRESSES)
+        os.symlink('addresses.csv', 'link.csv')
+        os.link('town.rules', 'same.rules')
+        os.mkdir('sub')
+        before = {path: path.read_bytes() for path in pathlib.Path().glob('*.*')}
+        for words, said in [
+                (['addresses.csv', '--to', 'addresses.csv'], 'addresses.csv is read by the same command'), (['addresses.csv', '--report', './sub/../addresses.csv'], 'is read'),
+                (['addresses.csv', '--to', 'link.csv'], 'link.csv is read'), (['link.csv', '--report', 'addresses.csv'], 'addresses.csv is read'),
+                (['addresses.csv', '--tags', 'town.rules', '--report', 'town.rules'], 'town.rules is read'),
+                (['addresses.csv', '--tags', 'town.rules', '--to', 'same.rules'], 'same.rules is read'),
+                (['out.opl.new', '--to', 'out.opl'], 'out.opl isn\'t written: out.opl.new is read by the same command'),
+                (['addresses.csv', '--to', 'a', '--report', 'a'], 'a isn\'t written: a is another output of the same command'),
+                (['addresses.csv', '--to', 'sub/a', '--report', 'sub/../sub/a'], 'another output'), (['addresses.csv', '--report', 'a.new', '--to', 'a'], 'a.new is another output'),
+                (['addresses.csv', '--to', 'day/000001-start.saved'], 'it is a file of the day itself'), (['addresses.csv', '--report', 'day/server'], 'a file of the day itself')]:
+            self.assertIn(said, self.yoke('import', *words, '--anywhere', code=1), words)
+            self.assertEqual(({path: path.read_bytes() for path in pathlib.Path().glob('*.*')}, self.states(), os.listdir('sub')), (before, 1, []), words)
+        self.done('import', 'addresses.csv', '--anywhere', '--to', 'new.opl', '--report', 'new.txt')
+        self.done('import', 'addresses.csv', '--anywhere', '--to', 'new.opl', '--report', 'new.txt')
+
+    def test_geojson_never_takes_the_place_of_a_file_of_the_day(self):
+        os.symlink('day/000001-start.saved', 'link')
+        for name in ('day/000001-start.saved', 'day/000009-do.saved', 'day/../day/server', 'link'):
+            self.assertIn('it is a file of the day itself', self.yoke('geojson', '--force', name, code=1))
+        self.assertEqual(self.table().mine('n1').version, 2)
+        self.done('geojson', 'day/edits.geojson')
+
     def test_import_over_nodes_that_are_there(self):
         self.write('a.geojson', json.dumps({'type': 'Feature', 'properties': {'highway': 'path'}, 'geometry': {'type': 'LineString', 'coordinates': [[9.5001, 47.1401], [9.5002, 47.1402]]}}))
         self.done('import', 'a.geojson', '--join')
@@ -214,7 +244,7 @@ class Verbs(FolderTest):
         self.assertIn('nodes w10 Nn11,n1,n2,n4,n3\n', self.done('insert', 'n11', 'w10', '--after', '0'))
         self.assertIn('members r30 Mn2@stop,w20@,w10@,w77@\n', self.done('add-member', 'w20', 'r30', '--at', '2'))
         self.assertEqual(self.table().mine('r30').members[1], ('w20', ''))
-        self.assertIn('already', self.yoke('add-member', 'w20', 'r30', code=1))
+        self.assertIn('w20 is a member of r30 already: yoke add-member --again makes it one once more', self.yoke('add-member', 'w20', 'r30', code=1))
         self.assertIn('a node and a way are wanted', self.yoke('insert', 'w10', 'n4', code=2))
 
 

@@ -219,7 +219,7 @@ class Script(FolderTest):
                 ('insert n7 w77', 'w77 is only referred to: download it'), ('insert n2 w5', 'n2 is a node of w5 already: once more it is put in at a place that is named'),
                 ('insert n7 w5 n4', 'n4 is no node of w5, and no number from 0 to 3'), ('insert n7 w5 4', '4 is no node of w5, and no number from 0 to 3'),
                 ('insert n2 w5 n2', 'n2 would stand twice side by side in w5'), ('add-member w99@ r9', 'there is no w99 in the session'),
-                ('add-member w6@ r99', "r99 isn't in the session"), ('add-member w5@ r9', 'w5 is a member of r9 already: yoke add-member --again makes it one once more'),
+                ('add-member w6@ r99', "r99 isn't in the session"), ('add-member w5@ r9', 'w5 is a member of r9 already: members r9 M.. with the whole list makes it one once more'),
                 ('add-member w6@ r9 4', 'r9 has 2 members, so a place is from 1 to 3'), ('mend-turns r99', 'there is no r99 in the session'),
                 ('mend-turns r11', "r11 type=restriction: it has no to: how to mend it isn't known")]:
             self.assertEqual(self.refused('tag n1 Ta=b', line, 'tag n3 Ta=b'), ['a.script:2: refused: {}: {}'.format(line, why)])

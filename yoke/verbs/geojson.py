@@ -1,7 +1,7 @@
 """`yoke geojson`: edits and conflicts to look at on a map."""
 from yoke import table
 from yoke.day import Day
-from yoke.files import write_own
+from yoke.files import check_outputs, write_own
 from yoke.formats import geojson_out
 
 SUMMARY = 'write edits and conflicts as GeoJSON, to look at on any map'
@@ -15,7 +15,9 @@ def add_arguments(parser):
 
 
 def run(arguments):
-    found = table.read(Day(arguments.day).last().text())
+    day = Day(arguments.day)
+    check_outputs([arguments.file] if arguments.file != '-' else [], [], day.folder)
+    found = table.read(day.last().text())
     write_own(arguments.file, geojson_out.document(found), b'"generator": "yoke"', arguments.force)
     if arguments.file != '-':
         edited = sum(known.edit is not None for known in found.things.values())

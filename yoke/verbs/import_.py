@@ -5,7 +5,7 @@ import re
 import tempfile
 
 from yoke import day, opl, table
-from yoke.files import data_of
+from yoke.files import check_outputs, data_of
 from yoke.formats import drawing, features, mapping
 from yoke.session import Session
 from yoke.trouble import Refused, Trouble, Usage
@@ -13,8 +13,9 @@ from yoke.trouble import Refused, Trouble, Usage
 SUMMARY = 'make new objects of the features of a GeoJSON or CSV file'
 DETAILS = """A feature comes whole or not at all; corners at one place are one node. Each feature that is left out is named with the cause.
 What the session has already, at the same places and with the same tags, is left out, so the same file again does nothing.
-Without --within the bounds are those of the session's nodes, and a tenth more on each side. docs/COMPANION-FORMATS.md has
-the form of the file of --tags. Before you import into OpenStreetMap: https://wiki.openstreetmap.org/wiki/Import/Guidelines"""
+Without --within the bounds are those of the session's nodes, and on each side a tenth more, 0.01 degree at least; where it
+has no node there are none. docs/COMPANION-FORMATS.md has the form of the file of --tags. Before you import into
+OpenStreetMap: https://wiki.openstreetmap.org/wiki/Import/Guidelines"""
 LEAST = 10 ** 5     # by how much the session's own box is widened at least, in units of 10^-7 degree
 
 
@@ -38,6 +39,7 @@ def run(arguments):
     if arguments.within and arguments.anywhere:
         raise Usage('--within or --anywhere, not both')
     session = Session.of(arguments)
+    check_outputs(filter(None, [arguments.report, arguments.to]), filter(None, [arguments.file, arguments.tags]), session.day.folder)
     with session.day.locked():
         picture = draw(arguments, table.read(session.day.last().text()))
         report(picture, arguments.report)
