@@ -1,4 +1,5 @@
 """`yoke refresh`: what is asked for, and what becomes of it."""
+import os
 import unittest
 from unittest import mock
 
@@ -35,7 +36,15 @@ class Refresh(ServerTest):
         self.assertIn('1 newer ones merged', self.out)
         mine = self.session.known()['w5'].mine
         self.assertEqual(({'highway': 'residential', 'name': 'Main Street', 'surface': 'asphalt'}, ('n1', 'n2', 'n3')), (mine.tags, mine.nodes))
-        self.assertEqual(('refresh', None), (self.day.last().verb, self.day.read('fresh.opl')))
+        self.assertEqual('refresh', self.day.last().verb)
+
+    def test_no_file_of_another_name_is_touched_in_the_folder(self):
+        self.begin('tag w5 Tsurface=asphalt')
+        self.server.edit('modify', 'w5', tags={'highway': 'residential', 'name': 'Main Street'})
+        self.write('day/fresh.opl', 'an extract of somebody\'s own')
+        self.assertEqual(0, self.ask('refresh'), self.out + self.err)
+        self.assertEqual('an extract of somebody\'s own', self.day.read('fresh.opl'))
+        self.assertEqual(['000001-start.saved', '000002-do.saved', '000003-refresh.saved', 'fresh.opl', 'lock', 'server'], sorted(os.listdir('day')))
 
     def test_conflicts_are_shown_and_asked_for_again(self):
         self.begin('tag n8 Tbackrest=yes')

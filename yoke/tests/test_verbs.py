@@ -25,6 +25,23 @@ class Start(FolderTest):
         self.assertIn('a day has begun', self.err)
         self.done('start', '--day', 'other', 'more.opl')
 
+    def test_a_folder_of_its_own(self):
+        self.write('town.opl', TOWN)
+        self.write('notes.new', 'mine')
+        self.assertEqual(Refused.code, self.yoke('start', 'town.opl', '--day', '.'))
+        self.assertIn(". isn't empty, notes.new is in it: a day wants a folder of its own, --day FOLDER", self.err)
+        self.assertEqual(['notes.new', 'town.opl'], sorted(os.listdir()))
+        os.mkdir('day')
+        for name in ('000001.osc', 'server', '000004-do.undone'):       # what is left of another day
+            self.write('day/' + name, '')
+            self.assertEqual(Refused.code, self.yoke('start', 'town.opl'))
+            self.assertIn('{} is in it'.format(name), self.err)
+            os.remove('day/' + name)
+        self.write('day/lock', '')
+        self.write('day/000001-start.saved.new', 'session')
+        self.done('start', 'town.opl')
+        self.assertEqual(['000001-start.saved', 'lock'], sorted(os.listdir('day')))
+
     def test_a_name_with_a_blank(self):
         self.write('my town,=.opl', TOWN)
         self.done('start', 'my town,=.opl', '--day', 'my day,')

@@ -16,6 +16,7 @@ comes as deleted. Ends with 4 where something is in conflict after that."""
 
 NEEDED = '( changed or conflict or child ( changed or conflict ) ) and not new and not incomplete'
 GONE = 'changed and deleted'
+BROUGHT = 'refresh.new'     # a file of the day with what came, while it is merged; the next yoke removes it where this one was stopped
 NEVER = 20      # objects that the server never had, before it is taken for another server than that of the extract
 MOST_GONE = 50  # objects deleted here of which it is asked who uses them: a call or two for each
 
@@ -104,9 +105,9 @@ def merge(session, server, things):
     newer = [thing for thing in things if is_news(before.get(thing.key), thing)]
     if newer:
         note_server(session.day, server)
-        session.day.write('fresh.opl', ''.join(opl.line(thing) + '\n' for thing in newer))
-        session.edit('refresh', ['download ' + opl.escape(str(session.day.path('fresh.opl').resolve()))])
-        session.day.remove('fresh.opl')
+        session.day.write(BROUGHT, ''.join(opl.line(thing) + '\n' for thing in newer))
+        session.edit('refresh', ['download ' + opl.escape(str(session.day.path(BROUGHT).resolve()))])
+        session.day.remove(BROUGHT)
     return [thing.key for thing in newer]
 
 

@@ -11,7 +11,9 @@ from yoke.day import Day
 from yoke.trouble import Refused, Trouble
 
 SUMMARY = 'begin a day from extracts: OPL, or what osmium reads (PBF, XML, compressed)'
-DETAILS = """Several extracts are downloaded one after the other: the older first, where they are of two days."""
+DETAILS = """Several extracts are downloaded one after the other: the older first, where they are of two days. The day has a folder of its
+own, --day, which is made where it isn't there."""
+LEFT = ('lock', '000001-start.saved.new')       # what a start that came to nothing leaves
 
 
 def add_arguments(parser):
@@ -20,12 +22,12 @@ def add_arguments(parser):
 
 def run(arguments):
     day, program = Day(arguments.day), Program.of(arguments)
+    check_folder(day)
     with tempfile.TemporaryDirectory(prefix='yoke-') as folder:
         files = [as_opl(extract, os.path.join(folder, '{}.opl'.format(number))) for number, extract in enumerate(arguments.extracts)]
         lines = ['download ' + opl.escape(os.path.abspath(file)) for file in files]
         with day.locked(make=True):
-            if day.states():
-                raise Refused('a day has begun in {}: yoke status shows it; another one wants another --day'.format(day.folder))
+            check_folder(day)
             answer = program.run(lines + ['count', 'save'])
             for reply in answer.refused():
                 raise Refused('{}: {}'.format(arguments.extracts[reply.line - 1], words.refusal(reply.rest)))
@@ -34,6 +36,15 @@ def run(arguments):
     print('{nodes} nodes, {ways} ways, {relations} relations'.format(**counts))
     print('kept as {}'.format(state.path))
     return 0
+
+
+def check_folder(day):
+    """Refused where a day has begun in the folder, or where the folder has anything else in it: a day removes files that it takes for its own."""
+    if day.states():
+        raise Refused('a day has begun in {}: yoke status shows it; another one wants another --day'.format(day.folder))
+    others = sorted(path.name for path in day.folder.iterdir() if path.name not in LEFT) if day.folder.is_dir() else []
+    if others:
+        raise Refused('{} isn\'t empty, {} is in it: a day wants a folder of its own, --day FOLDER, which is made'.format(day.folder, others[0]))
 
 
 def as_opl(extract, place):
