@@ -1,6 +1,6 @@
 """Keeps a session in a folder, so that a program that stops anywhere loses no edit and sends none twice.
 
-    from keeper import Keeper, NotTaken
+    from keeper import NOT_DONE, Keeper, NotTaken
 
     with Keeper('work') as keeper:
         if not keeper.last():
@@ -30,12 +30,15 @@ from whole import sync_folder, write_whole
 
 LAST_KEPT = 3  # sessions that stay beside the first one
 
+# the statuses with which API 0.6 took nothing of a document; after any other one, a 408 and a 3xx too, nobody knows
+NOT_DONE = frozenset([400, 401, 403, 404, 405, 406, 409, 410, 411, 412, 413, 414, 415, 422, 428, 429, 431, 451])
+
 Outcome = namedtuple('Outcome', 'refused replies')
 Outcome.__doc__ = """What came of a wish: None, or the reply by which all of it was refused; and the replies to its lines."""
 
 
 class NotTaken(Exception):
-    """The server said that it took nothing of the document, by a 4xx; `send` raises it with the answer's text."""
+    """The server said that it took nothing of the document, by a status of NOT_DONE; `send` raises it with the answer's text."""
 
 
 class Unknown(Exception):

@@ -19,7 +19,7 @@ import moved
 import osmchange
 import session
 import whole
-from keeper import Busy, Keeper, NotTaken, Unknown
+from keeper import NOT_DONE, Busy, Keeper, NotTaken, Unknown
 from session import Answer, Drawing, Nothing, Refused, Script, Stopped, degrees, parse_object, quote, read_objects, run, tags, unquote, upload_lines
 
 PROGRAM = sys.argv.pop() if len(sys.argv) > 1 else 'yokeorange'
@@ -744,6 +744,10 @@ class Keeping(unittest.TestCase):
         script.download(pathlib.Path('monday.opl').resolve())
         kept.start(script)
         return kept
+
+    def test_after_any_other_status_nobody_knows_what_was_taken(self):
+        self.assertLessEqual({400, 401, 403, 404, 409, 410, 412, 413, 429}, NOT_DONE)
+        self.assertEqual(NOT_DONE & {200, 301, 302, 303, 307, 308, 402, 407, 408, 417, 418, 421, 423, 424, 425, 426, 499, *range(500, 600)}, set())
 
     def test_one_program_at_a_time(self):
         with self.begun():
