@@ -2,7 +2,7 @@
 from yoke.day import Day
 
 SUMMARY = 'take the last verb back: the session kept before is the session again'
-DETAILS = 'What the server has taken can\'t be taken back so. The session that was taken back stays in the folder as N-VERB.undone.'
+DETAILS = 'What the server has taken can\'t be taken back so. The session that was taken back stays in the folder as N-VERB.undone; of\nthese the three with the highest numbers stay.'
 
 
 def add_arguments(parser):
