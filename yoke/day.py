@@ -10,6 +10,7 @@
 | `server` | the address of the server that this day belongs to |
 | `forgotten` | the last of the sessions after the first that were removed: nothing is taken back beyond it |
 | `lock` | held by the `yoke` that works here |
+| `refresh.new` | what a `refresh` merges, while it does |
 
 Each file appears whole or not at all: it is written under another name, brought to the disk, and then renamed, and the
 folder is brought to the disk after that. So what a later step rests on is there after a loss of power too.
@@ -24,7 +25,7 @@ from dataclasses import dataclass
 from yoke.trouble import Busy, Refused, Trouble
 
 NAME = re.compile('([0-9]+)-([a-z-]+)\\.(saved|undone)')
-BEGUN = re.compile('([0-9]+[.-][a-z.-]+|changeset|server|forgotten|josm-[0-9]+\\.start)\\.new')     # what a stopped yoke left half written
+OWN = re.compile('[0-9]+-[a-z-]+\\.(saved|undone)|[0-9]+\\.(osc|answers?|refused)|josm-.*\\.start|changeset|server|forgotten|lock|refresh')
 LAST = 3        # sessions that are kept of those that nothing goes back to any more
 FORGOTTEN = 'forgotten'
 BACK = 20       # sessions to which `undo` can go back, counted from the last
@@ -152,8 +153,8 @@ class Day:
                 fcntl.flock(lock, fcntl.LOCK_EX | fcntl.LOCK_NB)
             except BlockingIOError:
                 raise Busy('another yoke works in {}'.format(self.folder)) from None
-            for path in self.folder.glob('*.new'):      # nothing rests on them
-                if BEGUN.fullmatch(path.name):
+            for path in self.folder.glob('*.new'):      # begun by one that was stopped; nothing rests on them
+                if is_own(path.name):
                     path.unlink()
             yield self
 
@@ -180,6 +181,11 @@ def write_by(new, path, text):
         os.fsync(file.fileno())
     os.replace(new, path)
     sync_folder(path.parent)
+
+
+def is_own(name):
+    """Whether a file of a day may have this name, half written or whole."""
+    return bool(OWN.fullmatch(name[:-len('.new')] if name.endswith('.new') else name))
 
 
 def make_folder(folder):

@@ -1,11 +1,9 @@
 """Files that a user names: read whole, compressed or not, and written without taking another file's place unseen."""
 import bz2
 import gzip
-import itertools
 import lzma
 import os
 import pathlib
-import re
 import sys
 import zlib
 
@@ -13,7 +11,6 @@ from yoke import day
 from yoke.trouble import Refused, Trouble
 
 UNPACK = {'.gz': gzip.decompress, '.bz2': bz2.decompress, '.xz': lzma.decompress}
-OF_A_DAY = re.compile('[0-9]+-[a-z-]+\\.(saved|undone)|[0-9]+\\.(osc|answers?|refused)|josm-.*\\.start|changeset|server|lock|.*\\.new')
 
 
 def data_of(name: str) -> bytes:
@@ -31,19 +28,15 @@ def data_of(name: str) -> bytes:
 
 
 def check_outputs(names, read, folder):
-    """Refused where an output of a command is a file that the same command reads, another of its outputs, or a file of the day in a folder.
-
-    An output is begun under its own name with `.new` behind it, so that one is held against the others too.
-    """
+    """Refused where an output of a command is a file that the same command reads, another of its outputs, or a file of the day in a folder."""
     taken = [('/dev/stdin' if name == '-' else name, 'read by the same command') for name in read]
     for name in names:
-        begun = [name, name + '.new']
-        for place, (other, what) in itertools.product(begun, taken):
-            if is_same(place, other):
-                raise Refused('{} isn\'t written: {} is {}; name another file'.format(name, place, what))
+        for other, what in taken:
+            if is_same(name, other):
+                raise Refused('{} isn\'t written: it is {}; name another file'.format(name, what))
         if is_of_day(name, folder):
             raise Refused('{} isn\'t written: it is a file of the day itself; name another file'.format(name))
-        taken += [(place, 'another output of the same command') for place in begun]
+        taken.append((name, 'another output of the same command'))
 
 
 def is_same(one, other):
@@ -56,7 +49,7 @@ def is_same(one, other):
 def is_of_day(name, folder):
     """Whether a name, or what it is a link to, is one that files of a day have, and in the folder of the day."""
     places = [os.path.join(os.path.realpath(os.path.dirname(name)), os.path.basename(name)), os.path.realpath(name)]
-    return any(os.path.dirname(place) == os.path.realpath(folder) and OF_A_DAY.fullmatch(os.path.basename(place)) for place in places)
+    return any(os.path.dirname(place) == os.path.realpath(folder) and day.is_own(os.path.basename(place)) for place in places)
 
 
 def write_own(name: str, text: str, mark: bytes, force: bool):

@@ -158,7 +158,7 @@ class Locks(DayTest):
             pass
 
     def test_what_a_stopped_one_left_half_written_goes(self):
-        for name in ('000001-start.saved', '000002.osc', '000002.answers', 'changeset', 'server', 'forgotten', 'josm-1.start'):
+        for name in ('000001-start.saved', '000002.osc', '000002.answers', 'changeset', 'server', 'forgotten', 'josm-1-ab12.start', 'refresh'):
             (self.folder / (name + '.new')).write_text('half')
         (self.folder / 'bench.opl.new').write_text('the user\'s')
         with self.day.locked():

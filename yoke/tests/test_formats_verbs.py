@@ -151,13 +151,12 @@ class Verbs(FolderTest):
         os.mkdir('sub')
         before = {path: path.read_bytes() for path in pathlib.Path().glob('*.*')}
         for words, said in [
-                (['addresses.csv', '--to', 'addresses.csv'], 'addresses.csv is read by the same command'), (['addresses.csv', '--report', './sub/../addresses.csv'], 'is read'),
-                (['addresses.csv', '--to', 'link.csv'], 'link.csv is read'), (['link.csv', '--report', 'addresses.csv'], 'addresses.csv is read'),
-                (['addresses.csv', '--tags', 'town.rules', '--report', 'town.rules'], 'town.rules is read'),
-                (['addresses.csv', '--tags', 'town.rules', '--to', 'same.rules'], 'same.rules is read'),
-                (['out.opl.new', '--to', 'out.opl'], 'out.opl isn\'t written: out.opl.new is read by the same command'),
-                (['addresses.csv', '--to', 'a', '--report', 'a'], 'a isn\'t written: a is another output of the same command'),
-                (['addresses.csv', '--to', 'sub/a', '--report', 'sub/../sub/a'], 'another output'), (['addresses.csv', '--report', 'a.new', '--to', 'a'], 'a.new is another output'),
+                (['addresses.csv', '--to', 'addresses.csv'], 'addresses.csv isn\'t written: it is read by the same command'), (['addresses.csv', '--report', './sub/../addresses.csv'], 'is read'),
+                (['addresses.csv', '--to', 'link.csv'], 'link.csv isn\'t written: it is read'), (['link.csv', '--report', 'addresses.csv'], 'addresses.csv isn\'t written: it is read'),
+                (['addresses.csv', '--tags', 'town.rules', '--report', 'town.rules'], 'town.rules isn\'t written: it is read'),
+                (['addresses.csv', '--tags', 'town.rules', '--to', 'same.rules'], 'same.rules isn\'t written: it is read'),
+                (['addresses.csv', '--to', 'a', '--report', 'a'], 'a isn\'t written: it is another output of the same command'),
+                (['addresses.csv', '--to', 'sub/a', '--report', 'sub/../sub/a'], 'another output'),
                 (['addresses.csv', '--to', 'day/000001-start.saved'], 'it is a file of the day itself'), (['addresses.csv', '--report', 'day/server'], 'a file of the day itself')]:
             self.assertIn(said, self.yoke('import', *words, '--anywhere', code=1), words)
             self.assertEqual(({path: path.read_bytes() for path in pathlib.Path().glob('*.*')}, self.states(), os.listdir('sub')), (before, 1, []), words)

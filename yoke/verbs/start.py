@@ -39,7 +39,7 @@ def run(arguments):
 
 
 def check_folder(day):
-    """Refused where a day has begun in the folder, or where the folder has anything else in it: a day removes files that it takes for its own."""
+    """Refused where a day has begun in the folder, or where the folder has anything else in it: a document of another day would count as sent by this one."""
     if day.states():
         raise Refused('a day has begun in {}: yoke status shows it; another one wants another --day'.format(day.folder))
     others = sorted(path.name for path in day.folder.iterdir() if path.name not in LEFT) if day.folder.is_dir() else []
