@@ -53,19 +53,25 @@ def is_of_day(name, folder):
 
 
 def write_own(name: str, text: str, mark: bytes, force: bool):
-    """Writes a file whole or not at all; of `-` to standard output.
-
-    Refused where the file is there already and wasn't written so by yoke, which its `mark` near its begin tells, unless
-    `force`: it may hold work that is nowhere else.
-    """
+    """Writes a file whole or not at all, of `-` to standard output; Refused as by `check_own`."""
+    check_own(name, mark, force)
     if name == '-':
         sys.stdout.write(text)
-        return
+    else:
+        day.write_whole(name, text)
+
+
+def check_own(name: str, mark: bytes, force: bool):
+    """Refused where a file is there already and wasn't written so by yoke, which its `mark` near its begin tells, unless `force`.
+
+    It may hold work that is nowhere else. Trouble where it is a folder.
+    """
     path = pathlib.Path(name)
+    if name == '-':
+        return
     if path.is_dir():
         raise Trouble('{} is a folder'.format(name))
     if path.exists() and not force:
         with open(path, 'rb') as there:
             if mark not in there.read(400):
                 raise Refused('{} is there, and wasn\'t written by yoke: name another file, or --force'.format(name))
-    day.write_whole(path, text)

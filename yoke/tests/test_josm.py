@@ -205,6 +205,30 @@ class Both(ServerTest):
         self.assertEqual([(member.role, len(there['w{}'.format(member.number)].nodes)) for member in building.members], [('outer', 5), ('inner', 4)])
         self.assertEqual([], self.server.created_twice())
 
+    def test_a_drawing_over_a_session_before_others(self):
+        """Of several drawings that one counts which was written last, also where `undo` went back to an older session."""
+        self.begin(town=AREA)
+        for number in (2, 3, 4):
+            self.do('tag n4 Tref={}'.format(number))
+            self.done('to-josm', 'day{}.osm'.format(number))
+        for _ in range(3):
+            self.done('undo')
+        self.saved(self.opened())
+        self.assertEqual(self.done('josm', 'day.osm'), 'day.osm changes nothing here\n')
+        self.assertEqual(3, len(list(pathlib.Path('day').glob('josm-*.start'))))
+        self.do('tag n4 Tref=5')
+        self.done('to-josm', 'later.osm')
+        for name in ('day.osm', 'day4.osm', 'later.osm'):
+            self.done('josm', name, '--show')
+        for name in ('day2.osm', 'day3.osm'):
+            self.assertEqual(Refused.code, self.yoke('josm', name))
+
+    def test_a_drawing_that_isnt_written_has_no_session(self):
+        self.begin(town=AREA)
+        pathlib.Path('saved.osm').write_bytes(SAVED)
+        self.assertEqual(Refused.code, self.yoke('to-josm', 'saved.osm'))
+        self.assertEqual([], list(pathlib.Path('day').glob('josm-*.start')))
+
     def test_buildings_with_holes_that_were_imported(self):
         self.begin(town=AREA)
         square = lambda west, south, size: [[west, south], [west + size, south], [west + size, south + size], [west, south + size], [west, south]]

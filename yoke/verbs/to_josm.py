@@ -3,14 +3,15 @@ import hashlib
 
 from yoke import table
 from yoke.day import Day
-from yoke.files import write_own
+from yoke.files import check_own, write_own
 from yoke.formats import osm_xml
 from yoke.trouble import Refused
 
 SUMMARY = 'write the session as a file for JOSM, with what is edited marked as edited'
 DETAILS = """Open FILE in JOSM, edit, save it, and bring it back by `yoke josm FILE`. JOSM doesn't upload it: the session does, by
 `yoke send`. In the meantime the session may go on."""
-KEPT = 3        # sessions that were written for JOSM, kept so that its edits can be told apart from those here
+MARK = b"generator='yoke'"
+KEPT = 3        # sessions that were written for JOSM last, kept so that its edits can be told apart from those here
 
 
 def add_arguments(parser):
@@ -28,10 +29,21 @@ def run(arguments):
             lines = list(osm_xml.josm_lines(table.read(text), state))
         except ValueError as error:
             raise Refused('nothing is written: {}'.format(error)) from None
-        day.write('josm-{}.start'.format(state), text)
-        write_own(arguments.file, ''.join(line + '\n' for line in lines), b"generator='yoke'", arguments.force)
-        for path in sorted(day.folder.glob('josm-*.start'))[:-KEPT]:
-            path.unlink()
+        check_own(arguments.file, MARK, arguments.force)
+        start = 'josm-{}.start'.format(state)
+        day.write(start, text)
+        write_own(arguments.file, ''.join(line + '\n' for line in lines), MARK, arguments.force)
+        forget(day, start)
     if arguments.file != '-':
         print('wrote {}'.format(arguments.file))
     return 0
+
+
+def forget(day, start):
+    """Removes the starts of older drawings: all but this one, which was just written, and those that were written last before it.
+
+    After `undo` a session with a lower number may be the later one, so numbers say nothing of that.
+    """
+    others = sorted((path.stat().st_mtime_ns, path) for path in day.folder.glob('josm-*.start') if path.name != start)
+    for _, path in others[:1 - KEPT]:
+        path.unlink()
