@@ -3,7 +3,8 @@
 The tool began from a content of each object: from what the server had (the session's base), or from what the session was
 when it was written for the tool. Part by part, a part being one tag, the place, all nodes, or all members: what the tool
 left as it began is left as it is here, what it changed is changed here, and what both changed, and not alike, is a clash.
-With a clash, an object of another version, or one that isn't known, there are no steps at all.
+With a clash, an object of another version, or one that isn't known, there are no steps at all. What the document makes
+and the session has already isn't made again (`likes`).
 
 The steps are to run as one group, directly after the session was taken up: the ids of new objects are counted from the
 number that the session gives next.
@@ -13,6 +14,7 @@ from dataclasses import dataclass, field
 from typing import Dict, List, Optional, Set, Tuple
 
 from yoke import opl
+from yoke.formats.likes import likes
 from yoke.formats.osm_xml import Told
 from yoke.table import Table
 
@@ -23,8 +25,8 @@ CREATES = {'n': 'node', 'w': 'way', 'r': 'relation'}
 class Plan:
     """What becomes of a document: the steps, or the problems for which there are none.
 
-    `notes` is what the user ought to know beside; `made` has the session's keys by those of the document; `counts` how
-    many objects are new, deleted, and changed in which of their parts.
+    `notes` is what the user ought to know beside; `made` has the session's keys of what is made by those of the document;
+    `counts` how many objects are new, deleted, and changed in which of their parts.
     """
 
     lines: List[str] = field(default_factory=list)
@@ -34,13 +36,13 @@ class Plan:
     counts: Counter = field(default_factory=Counter)
 
 
-def plan(told, table: Table, start: Optional[Table] = None) -> Plan:
+def plan(told, table: Table, start: Optional[Table] = None, again: bool = False) -> Plan:
     """The steps that bring the edits of a document into a session.
 
     `told` are the objects of the document. `start` is the session as it was when the document was written from it; None
-    where the tool began from what the server has.
+    where the tool began from what the server has. `again` makes also new objects that the session has already.
     """
-    return _Planner(list(told), table, start).plan()
+    return _Planner(list(told), table, start, again).plan()
 
 
 @dataclass
@@ -48,8 +50,10 @@ class _Planner:
     told: List[Told]
     table: Table
     start: Optional[Table]
+    again: bool
     found: Plan = field(default_factory=Plan)
     names: Dict[str, str] = field(default_factory=dict)         # the session's keys by those of the document
+    there: Dict[str, str] = field(default_factory=dict)         # the same of what is new in the document, and not here
     fresh: Set[str] = field(default_factory=set)                # the session's keys of what the document makes
     created: List[str] = field(default_factory=list)            # lines
     places: List[str] = field(default_factory=list)
@@ -72,7 +76,7 @@ class _Planner:
                     self._delete(one, key)
                 else:
                     self._change(one, key)
-        self._create([one for one in edits if one.action == 'create' and not one.mark])
+        self._create([one for one in edits if one.action == 'create' and not one.mark and one.thing.key not in self.there])
         self._dropped()
         self._others()
         if not self.found.problems:
@@ -89,8 +93,8 @@ class _Planner:
     def _left_alone(self, one: Told, key: str) -> bool:
         """Whether the tool did nothing to an object, or what was done here too; its version is of no account then."""
         if one.action != 'delete':
-            began = self._began(key)
-            return began is not None and began.content == self._translated(one.thing).content
+            content = self._translated(one.thing).content
+            return any(side is not None and side.content == content for side in (self._began(key), self.table.mine(key)))
         return any(key in table.things and table.mine(key) is None for table in (self.table, self.start) if table)
 
     def _went_back(self, one: Told) -> bool:
@@ -109,12 +113,16 @@ class _Planner:
     # ---- new objects ----
 
     def _name(self, creates: List[Told]):
-        """Gives each new object the key that it gets: those of the session their own, and others the next ones."""
-        fresh = sorted((one.thing.key for one in creates if not one.mark and one.thing.key[1] == '-'), key=lambda key: 'nwr'.index(key[0]))
-        self.names.update({one.thing.key: one.mark for one in self.told if one.mark})
+        """Gives each new object its key: those of the session their own, those that it has already that of their like, others the next ones."""
+        self.there = {} if self.again else likes(self.told, self.table, self.start)
+        self.names.update({one.thing.key: one.mark for one in self.told if one.mark}, **self.there)
+        fresh = sorted((one.thing.key for one in creates if one.session_key is None and one.thing.key not in self.there), key=lambda key: 'nwr'.index(key[0]))
         for number, key in enumerate(fresh, self.table.next_new):
             self.names[key] = self.found.made[key] = '{}-{}'.format(key[0], number)
         self.fresh.update(self.found.made.values())
+        if self.there:
+            self.found.notes.append('the session has {} of its new objects already, as {}: not made again, unless by --again'.format(
+                len(self.there), min(self.there.values(), key=opl.rank)))
 
     def _create(self, creates: List[Told]):
         """A line for each new object, nodes first; a relation that refers to a later one gets its members when all are made."""
@@ -246,9 +254,10 @@ class _Planner:
 
     def _dropped(self):
         """New objects of the session that the document was written with, and that aren't in it any more, were deleted."""
-        marked = {one.mark for one in self.told}
+        marked = {one.mark for one in self.told if one.mark}
         if self.start is None:
-            missing = [key for key in self.table.new() if key not in marked] if marked - {''} else []
+            known = set(self.names.values())
+            missing = [key for key in self.table.new() if key not in known] if marked else []
             if missing:
                 self.found.notes.append('{} new objects of the session aren\'t in it, and stay, as {}'.format(len(missing), missing[0]))
             return

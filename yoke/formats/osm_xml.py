@@ -38,6 +38,11 @@ class Told:
     action: str
     mark: str = ''
 
+    @property
+    def session_key(self) -> Optional[str]:
+        """The key that the session has for the object; None of one under a negative id of the document, which it can't know."""
+        return self.mark or (None if self.thing.key[1] == '-' else self.thing.key)
+
 
 @dataclass(frozen=True)
 class Drawn:

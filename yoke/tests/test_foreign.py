@@ -104,12 +104,11 @@ class Josm(unittest.TestCase):
         self.assertEqual(found.mine('r30').members[-1], ('w-2', ''))
         self.assertIsNone(found.mine('n11'))
 
-    def test_the_same_drawing_again_changes_nothing_that_it_changed(self):
-        drawn = re.sub(b"  <(node|way) id='-.*?</\\1>\n", b'', DRAWN, flags=re.S)
-        drawn = drawn.replace(b"<nd ref='-101752' />", b'').replace(b"    <member type='way' ref='-101754' role='' />\n", b'')
-        text = sessions.goes_on(town(), josm(town(), drawn).lines).saved()
-        plan = josm(text, drawn)
-        self.assertEqual((plan.lines, plan.problems), ([], []))
+    def test_the_same_drawing_again_does_nothing(self):
+        text = sessions.goes_on(town(), josm(town(), DRAWN).lines).saved()
+        plan = josm(text, DRAWN)
+        self.assertEqual((plan.lines, plan.problems, plan.made), ([], [], {}))
+        self.assertEqual(plan.notes, ["the session has 2 of its new objects already, as n-1: not made again, unless by --again"])
 
     def test_new_ids_count_on_from_the_session(self):
         text = town('node x9.5 y47.14 T', 'node x9.5 y47.141 T', 'undo 1')
@@ -292,6 +291,9 @@ class ThereAndBack(unittest.TestCase):
             plan = foreign.plan(osm_xml.read_josm(data.encode()).told, table.read(text), table.read(text))
             self.assertEqual((plan.problems, set(plan.made)), ([], fresh))
             self.assertEqual(contents(after(text, plan)), renamed(contents(done), plan.made))
+            later = sessions.goes_on(text, plan.lines).saved()
+            plan = foreign.plan(osm_xml.read_josm(data.encode()).told, table.read(later), table.read(text))
+            self.assertEqual((plan.problems, plan.lines), ([], []))
 
 
 def renamed(things, names):

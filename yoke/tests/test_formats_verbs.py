@@ -79,6 +79,19 @@ class Verbs(FolderTest):
         self.assertIn('new 2, tags 1, deleted 3\n', self.done('osc', 'a.osc'))
         self.assertEqual(self.table().mine('n4').tags, {'amenity': 'bench', 'backrest': 'no'})
 
+    def test_the_same_file_again(self):
+        self.write('drawn.osm', DRAWN)
+        self.write('a.osc', OsmChange.OSC.replace(b'<way id="20" version="1"/>', b'').replace(b'<node id="11" version="1"/><node id="12" version="1" lat="1" lon="1"/>', b''))
+        for verb, name, number in (('josm', 'drawn.osm', 3), ('osc', 'a.osc', 5)):
+            self.done(verb, name)
+            self.assertEqual(self.done(verb, name), name + ' changes nothing here\n')
+            self.assertIn('yoke: {}: the session has 2 of its new objects already, as n-'.format(name), self.err)
+            self.assertEqual(self.done(verb, name, '--show'), '')
+            self.done('undo')
+        self.done('osc', 'a.osc')
+        self.assertIn('new 2\n', self.done('osc', 'a.osc', '--again'))
+        self.assertEqual((self.err, len(self.table().new())), ('', 4))
+
     # ---- GeoJSON and CSV ----
 
     def test_geojson(self):

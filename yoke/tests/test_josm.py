@@ -205,6 +205,34 @@ class Both(ServerTest):
         self.assertEqual([(member.role, len(there['w{}'.format(member.number)].nodes)) for member in building.members], [('outer', 5), ('inner', 4)])
         self.assertEqual([], self.server.created_twice())
 
+    def test_the_same_drawing_again_makes_nothing_again(self):
+        self.begin(town=AREA)
+        pathlib.Path('day.osm').write_bytes(SAVED)
+        self.done('josm', 'day.osm')
+        self.assertEqual(self.done('josm', 'day.osm'), 'day.osm changes nothing here\n')
+        self.assertEqual(self.err, "yoke: day.osm: the session has 12 of its new objects already, as n-1: not made again, unless by --again\n")
+        self.assertEqual(0, self.send(), self.err)
+        self.assertEqual(self.done('josm', 'day.osm'), 'day.osm changes nothing here\n')
+        self.assertIn('the session has 12 of its new objects already', self.err)
+
+    def test_going_on_in_the_same_layer(self):
+        self.begin('node x9.5009 y47.1409 Tamenity=bench', town=AREA)
+        layer = self.opened()
+        basket = layer.add('node', lat=Decimal('47.1411'), lon=Decimal('9.5009'), tags={'amenity': 'waste_basket'})
+        corner = layer.add('node', lat=Decimal('47.1410'), lon=Decimal('9.5011'))
+        layer.add('way', nodes=[3, corner, basket], tags={'highway': 'path'})
+        layer.change('way', 10, nodes=[1, layer.add('node', lat=Decimal('47.14015'), lon=Decimal('9.5003')), 2, 3])
+        self.saved(layer)
+        self.assertIn('new 4, nodes 1\n', self.done('josm', 'day.osm'))
+        for confirmed in (False, True):
+            layer.add('way', nodes=[corner, layer.add('node', lat=Decimal('47.1415'), lon=Decimal('9.5011') + confirmed)], tags={'highway': 'steps'})
+            self.saved(layer)
+            self.assertIn('new 2\n', self.done('josm', 'day.osm'))
+            self.assertEqual(0, self.send(), self.err)
+        self.assertEqual([], self.server.created_twice())
+        ways = [one for one in self.server.elements() if one.kind == 'way' and one.number >= 1000]
+        self.assertEqual(([3, 2, 2], 1), ([len(way.nodes) for way in ways], len(set(ways[0].nodes) & set(ways[1].nodes) & set(ways[2].nodes))))
+
     def test_a_drawing_over_a_session_before_others(self):
         """Of several drawings that one counts which was written last, also where `undo` went back to an older session."""
         self.begin(town=AREA)
@@ -327,8 +355,10 @@ class Both(ServerTest):
                 scribble(layer, dice)
             plan = foreign.plan(osm_xml.read_josm(layer.save()).told, table.read(text), table.read(text))
             self.assertEqual([], plan.problems)
-            done = contents(table.read(sessions.goes_on(text, plan.lines).saved()))
-            self.assertEqual({key: content for key, content in done.items() if content}, of_layer(layer, plan.made), turn)
+            later = table.read(sessions.goes_on(text, plan.lines).saved())
+            self.assertEqual({key: content for key, content in contents(later).items() if content}, of_layer(layer, plan.made), turn)
+            again = foreign.plan(osm_xml.read_josm(layer.save()).told, later, table.read(text))
+            self.assertEqual(([], []), (again.problems, again.lines), turn)
 
 
 def scribble(layer, dice):

@@ -2,22 +2,25 @@
 from yoke import table
 from yoke.files import data_of
 from yoke.formats import foreign, osm_xml
+from yoke.progress import note
 from yoke.session import Session
 from yoke.trouble import Refused, Trouble
 
 SUMMARY = 'take in what was edited in JOSM, from a file that it saved'
 DETAILS = """FILE is what JOSM saved: over a file of `yoke to-josm`, or over data of the server that the session was begun with too.
 Objects are compared part by part with what JOSM began from: what was left alone there is left alone here. Nothing is
-done where an object has another version, is in conflict, or was changed there and here, and not alike."""
+done where an object has another version, is in conflict, or was changed there and here, and not alike. What is new in
+FILE and here already, with the same tags and at the same places, isn't made again, so the same file again does nothing."""
 
 
 def add_arguments(parser):
     parser.add_argument('file', metavar='FILE', help='an .osm file, also .osm.gz, .osm.bz2 or .osm.xz')
-    add_show(parser)
+    add_options(parser)
 
 
-def add_show(parser):
+def add_options(parser):
     parser.add_argument('--show', action='store_true', help='print the steps, and do nothing')
+    parser.add_argument('--again', action='store_true', help='also new objects that the session has already')
 
 
 def run(arguments):
@@ -41,9 +44,9 @@ def begun(day, state, file):
 
 def bring_in(verb, session, arguments, told, start=None):
     """Does the steps of a document's edits, and says what they were; Refused where something is in the way of one."""
-    plan = foreign.plan(told, table.read(session.day.last().text()), start)
-    for note in plan.notes:
-        print('note: ' + note)
+    plan = foreign.plan(told, table.read(session.day.last().text()), start, arguments.again)
+    for text in plan.notes:
+        note('{}: {}'.format(arguments.file, text))
     for problem in plan.problems:
         print(problem)
     if plan.problems:

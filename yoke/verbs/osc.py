@@ -3,16 +3,17 @@ from yoke.files import data_of
 from yoke.formats import osm_xml
 from yoke.session import Session
 from yoke.trouble import Trouble
-from yoke.verbs.josm import add_show, bring_in
+from yoke.verbs.josm import add_options, bring_in
 
 SUMMARY = 'take in the changes of another tool, from an osmChange file'
 DETAILS = """FILE has changes that were not sent: each names the version that it was made from, and what it makes has a negative id.
-What a server did, as a diff of planet.osm has it, comes in by `download` (osmium merge-changes makes OPL of it)."""
+What is new in FILE and here already, with the same tags and at the same places, isn't made again, so the same file again
+does nothing. What a server did, as a diff of planet.osm has it, comes in by `download` (osmium merge-changes makes OPL of it)."""
 
 
 def add_arguments(parser):
     parser.add_argument('file', metavar='FILE', help='an .osc file, also .osc.gz')
-    add_show(parser)
+    add_options(parser)
 
 
 def run(arguments):
