@@ -255,6 +255,7 @@ class Both(ServerTest):
         self.begin(town=AREA)
         pathlib.Path('saved.osm').write_bytes(SAVED)
         self.assertEqual(Refused.code, self.yoke('to-josm', 'saved.osm'))
+        self.assertEqual(Refused.code, self.yoke('to-josm', '--force', 'day/000001-start.saved'))
         self.assertEqual([], list(pathlib.Path('day').glob('josm-*.start')))
 
     def test_buildings_with_holes_that_were_imported(self):

@@ -22,7 +22,8 @@ def add_arguments(parser):
 
 def run(arguments):
     day, program = Day(arguments.day), Program.of(arguments)
-    check_folder(day)
+    if not day.states():
+        check_folder(day)       # before a lock is put into it
     with tempfile.TemporaryDirectory(prefix='yoke-') as folder:
         files = [as_opl(extract, os.path.join(folder, '{}.opl'.format(number))) for number, extract in enumerate(arguments.extracts)]
         lines = ['download ' + opl.escape(os.path.abspath(file)) for file in files]

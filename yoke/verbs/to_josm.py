@@ -3,7 +3,7 @@ import hashlib
 
 from yoke import table
 from yoke.day import Day
-from yoke.files import check_own, write_own
+from yoke.files import check_outputs, check_own, write_own
 from yoke.formats import osm_xml
 from yoke.trouble import Refused
 
@@ -29,6 +29,7 @@ def run(arguments):
             lines = list(osm_xml.josm_lines(table.read(text), state))
         except ValueError as error:
             raise Refused('nothing is written: {}'.format(error)) from None
+        check_outputs([arguments.file] if arguments.file != '-' else [], [], day.folder)
         check_own(arguments.file, MARK, arguments.force)
         start = 'josm-{}.start'.format(state)
         day.write(start, text)
