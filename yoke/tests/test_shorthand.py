@@ -279,7 +279,9 @@ class Script(FolderTest):
 
     def test_expand_over_the_day(self):
         self.script('tag ( Tamenity=bench ) Tref=7', 'tag-csv surfaces.csv', '# a comment', 'insert n7 w5', 'tag ( Tno=* ) Tref=', 'node x1 y1 T as a')
-        self.assertEqual(self.done('expand', '--session', 'a.script'), 'tag n8 Tref=7\ntag w5 Tsurface=asphalt\ntag w6 Tsurface=fine%2c%%20%gravel\n# a comment\nnodes w5 Nn1,n2,n7,n3\n'
+        head, _, lines = self.done('expand', '--session', 'a.script').partition('\n')
+        self.assertRegex(head, '^# for session [0-9a-f]{16}, 000001-start of day$')
+        self.assertEqual(lines, 'tag n8 Tref=7\ntag w5 Tsurface=asphalt\ntag w6 Tsurface=fine%2c%%20%gravel\n# a comment\nnodes w5 Nn1,n2,n7,n3\n'
                          'begin\nnode x1 y1 T\nend\n')
         self.assertIn('yoke: a.script:5: no objects found\n', self.err)
         self.assertEqual(self.day.last().number, 1)

@@ -5,7 +5,7 @@ import sys
 
 from yoke import opl, words
 from yoke.program import BadLine
-from yoke.scripts import lint
+from yoke.scripts import bound, lint
 from yoke.session import Session
 from yoke.trouble import Refused, Trouble
 from yoke.verbs import expand
@@ -13,7 +13,10 @@ from yoke.verbs import expand
 SUMMARY = 'run a script over the session, and keep what it did if no step was refused'
 DETAILS = """The script has the lines of docs/COMMANDS.md. Files that it names are seen from the folder where yoke runs.
 What yoke does itself stands in no script: save, resume, confirm, serve. New objects may have names in it, and there are lines
-over what a query finds, a table of tags, one node more, one member more: yoke expand --help."""
+over what a query finds, a table of tags, one node more, one member more: yoke expand --help.
+
+A script that review, conflate, tag --to or expand --session wrote is for the session from which it was made, and refused over
+any other, unless by --any-session."""
 
 OURS = {
     'save': 'the session is kept by itself', 'resume': 'the session is taken up by itself',
@@ -25,6 +28,7 @@ def add_arguments(parser):
     parser.add_argument('script', metavar='SCRIPT', help='a file of lines; - is standard input')
     parser.add_argument('--keep', action='store_true', help='keep what was done although steps were refused')
     parser.add_argument('--strict', action='store_true', help='end at the first refused step; with --keep what was done before it is kept')
+    parser.add_argument(bound.INSIST, action='store_true', help='run a script although it was made from another session')
 
 
 def run(arguments):
@@ -33,6 +37,8 @@ def run(arguments):
     check(name, lines, session.day.folder)
     with session.day.locked():
         session.check_settled()
+        if not arguments.any_session:
+            bound.check(name, lines, session.day.last())
         expanded = expand.over_session(name, lines, session)
         for number, text in expanded.notes:
             print('{}:{}: {}'.format(name, number, text))

@@ -4,7 +4,7 @@ import re
 from yoke import files, opl, table
 from yoke.program import BadLine, Program
 from yoke.progress import note
-from yoke.scripts import grammar, names, shorthand
+from yoke.scripts import bound, grammar, names, shorthand
 from yoke.scripts import lint as findings
 from yoke.session import Session
 from yoke.trouble import Refused, Trouble, Usage
@@ -46,13 +46,16 @@ def run(arguments):
         session = Session.of(arguments)
         with session.day.locked():
             expanded = over_session(arguments.script, lines, session)
+            last = session.day.last()
+            head = bound.head(last, last.text())
     else:
+        head = []
         expanded = expand(arguments.script, lines, arguments.next or first_number(lines), lambda steps: Program.of(arguments).run(steps))
     for at, (_, why) in expanded.problems.items():
         raise Refused(': '.join(filter(None, ['{}:{}'.format(arguments.script, expanded.numbers[at]), expanded.rows.get(at), why])))
     for number, text in expanded.notes:
         note('{}:{}: {}'.format(arguments.script, number, text))
-    print(''.join(line + '\n' for line in expanded.lines), end='')
+    print(''.join(line + '\n' for line in head + expanded.lines), end='')
     return 0
 
 

@@ -4,6 +4,7 @@ from collections import Counter
 from yoke import opl
 from yoke.files import data_of
 from yoke.formats import tag_table
+from yoke.scripts import bound
 from yoke.scripts.names import Expanded
 from yoke.session import Session
 from yoke.trouble import Refused, Trouble, Usage
@@ -15,7 +16,9 @@ yoke tag surface=asphalt --keys w5,w7
 yoke tag --csv surfaces.csv                      a row for each object, a column for each tag
 
 A tag is KEY=VALUE; without a value it is taken away. QUERY is that of `find`; of what it finds only what is there counts.
-A column `key` of the CSV names the object, as w5 or way/5, or `@type` and `@id` do. An empty field says nothing."""
+A column `key` of the CSV names the object, as w5 or way/5, or `@type` and `@id` do. An empty field says nothing.
+
+With --to FILE nothing is tagged: FILE becomes a script for `yoke do`, which takes it over this session alone."""
 
 
 def add_arguments(parser):
@@ -27,6 +30,8 @@ def add_arguments(parser):
     parser.add_argument('--key', metavar='COLUMN', help='the column of the table that names the object')
     parser.add_argument('--tags', metavar='RULES', dest='rules', help='a file of rules by which columns become tags, as that of import')
     parser.add_argument('--keep', action='store_true', help='with --csv: keep what was done although rows were refused')
+    parser.add_argument('--to', metavar='FILE', help='tag nothing, and write a script that would; - is standard output')
+    parser.add_argument('--force', action='store_true', help='with --to: also over a file that yoke didn\'t write')
 
 
 def run(arguments):
@@ -40,11 +45,21 @@ def run(arguments):
     session = Session.of(arguments)
     with session.day.locked():
         keys = arguments.keys.split(',') if arguments.keys else found(session, arguments.find)
+        if arguments.to:
+            return write(session, arguments, ['tag {} {}'.format(','.join(keys), word)] if keys else [])
         if keys:
             session.edit('tag', ['tag {} {}'.format(','.join(keys), word)])
     print('{} object{} tagged'.format(len(keys), '' if len(keys) == 1 else 's'))
     if keys:
         print('kept as {}'.format(session.day.last().path))
+    return 0
+
+
+def write(session, arguments, lines):
+    """Writes the lines as a script for this session alone; the exit code."""
+    bound.write(arguments.to, lines, session.day.last(), arguments.force)
+    if arguments.to != '-':
+        print('wrote {}: yoke do {} tags'.format(arguments.to, arguments.to))
     return 0
 
 
@@ -87,6 +102,9 @@ def tag_rows(session, arguments):
     if bad and not arguments.keep or not good:
         raise Refused('nothing is kept: {}'.format('{} of {} rows can\'t be taken'.format(len(bad), len(rows)) if bad else 'no row has a tag'))
     steps = Expanded(['tag {} T{}'.format(row.key, opl.tags(row.tags)) for row in good], [row.line for row in good])
+    if arguments.to:
+        with session.day.locked():
+            return write(session, arguments, steps.lines)
     with session.day.locked():
         answer = do.perform(session, 'tag', arguments.csv, steps, arguments.keep)
     do.show(arguments.csv, answer, kept=True)
