@@ -32,6 +32,7 @@ WAITS = (1, 5, 25)          # seconds before a call that does no harm is tried a
 PATIENCE = 900              # seconds that a 429 may make one call wait in all
 NOT_DONE = {400, 401, 403, 404, 405, 406, 409, 410, 411, 412, 413, 414, 415, 422, 428, 431, 451}
 AT_ONCE = 400               # objects of one multi-fetch, so that its address stays short
+VERSIONS_AT_ONCE = 300      # the same of objects with a version each
 
 
 @dataclass(frozen=True)
@@ -151,6 +152,35 @@ class Server:
                 raise
             return None
         return found[0] if found else None
+
+    def changes(self, number):
+        """The changes that a changeset has, in the order in which the server lists them: pairs of a verb and an object."""
+        return self._read(osc.changes, self.download(number))
+
+    def versions(self, pairs):
+        """The objects of these pairs of a key and a version, and the pairs that the server doesn't show, as redacted ones."""
+        found, hidden = [], []
+        for kind in ('node', 'way', 'relation'):
+            some = [pair for pair in pairs if opl.KINDS[pair[0][0]] == kind]
+            for at in range(0, len(some), VERSIONS_AT_ONCE):
+                found += self._versions(kind, some[at:at + VERSIONS_AT_ONCE], hidden)
+        return found, hidden
+
+    def _versions(self, kind, pairs, hidden):
+        try:
+            words = ','.join('{}v{}'.format(key[1:], number) for key, number in pairs)
+            found = self._read(osc.things, self.look('/{0}s?{0}s={1}'.format(kind, words)))
+            there = {(thing.key, thing.version) for thing in found}
+            hidden += [pair for pair in pairs if pair not in there]     # a server leaves redacted versions out without a word
+            return found
+        except ServerRefused as refused:
+            if refused.status not in (403, 404):
+                raise
+        if len(pairs) == 1:
+            hidden += pairs
+            return []
+        half = len(pairs) // 2
+        return self._versions(kind, pairs[:half], hidden) + self._versions(kind, pairs[half:], hidden)
 
     def things(self, keys, missing):
         """The objects with these keys as they are now, the deleted ones too.

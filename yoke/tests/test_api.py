@@ -62,6 +62,15 @@ class ApiTest(unittest.TestCase):
 
 
 class Calls(ApiTest):
+    def test_versions_that_the_server_hides_are_named(self):
+        """A redacted version is left out of an answer without a word; where one never was the whole call is a 404."""
+        one = b'<osm><node id="1" version="2" lat="52" lon="13"/></osm>'
+        server = self.serve((200, {}, one), (404, {}, b''), (404, {}, b''), (200, {}, b'<osm/>'))
+        self.assertEqual([('n2', 1)], server.versions([('n1', 2), ('n2', 1)])[1])
+        self.assertEqual(([], [('w1', 1), ('w2', 1)]), server.versions([('w1', 1), ('w2', 1)]))
+        self.assertEqual(['/api/0.6/nodes?nodes=1v2,2v1', '/api/0.6/ways?ways=1v1,2v1', '/api/0.6/ways?ways=1v1', '/api/0.6/ways?ways=2v1'],
+                         [request[1] for request in self.script.requests])
+
     def test_what_goes_out(self):
         server = self.serve((200, {}, b'4711'), (200, {}, b'<diffResult/>'))
         self.assertEqual('4711', server.open_changeset({'comment': 'ä & "b"'}))
