@@ -1,12 +1,15 @@
 """What the strict server keeps, and the rules by which API 0.6 lets it be read and changed.
 
-The texts of refusals are those of the live server. Nothing here knows of HTTP: a refusal is a `Refusal` with its status.
+The texts of refusals are written after those of the live server. Nothing here knows of HTTP: a refusal is a `Refusal` with
+its status.
 """
 import dataclasses
+import math
 import re
 import time
+from collections import deque
 from decimal import Decimal
-from typing import Callable, Dict, Iterable, List, NamedTuple, Optional, Set, Tuple
+from typing import Callable, Deque, Dict, Iterable, List, NamedTuple, Optional, Set, Tuple
 from xml.etree import ElementTree
 
 from yoke.testing.elements import KINDS, UNITS, Element, Member, as_xml, degrees, rank, units
@@ -14,6 +17,7 @@ from yoke.testing.elements import KINDS, UNITS, Element, Member, as_xml, degrees
 NOT_CARRIED = re.compile('[\x00-\x08\x0b\x0c\x0e-\x1f\x7f\ufffe\uffff]')
 FIRST_TIME = '2005-05-01T00:00:00Z'      # of elements whose file doesn't say when they were made
 VERBS = ('create', 'modify', 'delete')
+HOUR = 3600             # seconds
 WHOLE_NUMBER = re.compile('-?[0-9]+')
 ATTRIBUTION = {'copyright': 'OpenStreetMap and contributors', 'attribution': 'http://www.openstreetmap.org/copyright',
                'license': 'http://opendatacommons.org/licenses/odbl/1-0/'}
@@ -37,9 +41,11 @@ class Limits:
     area: str = '0.25'                      # square degrees of a box of `map`
     map_nodes: int = 50_000                 # nodes within a box of `map`
     user_changes: Optional[int] = None      # changes of a user in all, before a 429
+    changes_per_hour: Optional[int] = None  # changes of a user within the last hour, before a 429
+    changeset_extent: Optional[str] = None  # degrees: width plus height of a changeset's bounding box
     map_bytes: Optional[int] = None         # bytes that `map` answers in all, before a 509
     says_what_is_gone: bool = True          # whether a 410 has a text; some have none
-    retry_after: int = 1                    # seconds, as the header Retry-After of a 429 and a 509 says
+    retry_after: Optional[int] = 1          # seconds in the header Retry-After of a 429 and a 509; None for no header
 
 
 class User(NamedTuple):
@@ -48,15 +54,37 @@ class User(NamedTuple):
     name: str
 
 
+class Box(NamedTuple):
+    """A bounding box, in units of 10^-7 degree."""
+    west: int
+    south: int
+    east: int
+    north: int
+
+    @property
+    def extent(self) -> int:
+        """Its width plus its height, which is what the live server limits."""
+        return self.east - self.west + self.north - self.south
+
+    def joined(self, other: Optional['Box']) -> 'Box':
+        """The smallest box around both."""
+        if other is None:
+            return self
+        return Box(min(self.west, other.west), min(self.south, other.south),
+                   max(self.east, other.east), max(self.north, other.north))
+
+
 @dataclasses.dataclass
 class Changeset:
-    """A changeset: whose it is, its tags, how many changes it has, and when it was opened and closed, in seconds since 1970."""
+    """A changeset: whose it is, its tags, how many changes it has, when it was opened and closed in seconds since 1970, and the
+    bounding box of its changes."""
     number: int
     user: User
     tags: Dict[str, str]
     created_at: float
     closed_at: Optional[float] = None
     changes: int = 0
+    box: Optional[Box] = None
 
 
 @dataclasses.dataclass(frozen=True)
@@ -91,15 +119,30 @@ def document(name: str, children: Iterable[ElementTree.Element], **words: str) -
     return b'<?xml version="1.0" encoding="UTF-8"?>\n' + ElementTree.tostring(root, encoding='utf-8') + b'\n'
 
 
-def too_fast(limits: Limits) -> Refusal:
-    """The refusal of an upload by somebody who uploads too much."""
-    return Refusal(429, 'Upload has been blocked due to rate limiting. Please try again later.', {'Retry-After': str(limits.retry_after)})
+def too_fast(seconds: Optional[int]) -> Refusal:
+    """The refusal of an upload by somebody who uploads too much. With None it doesn't say when to try again."""
+    return Refusal(429, 'Upload has been blocked due to rate limiting. Please try again later.', retry_after(seconds))
 
 
-def too_much(limits: Limits) -> Refusal:
+def too_much(seconds: Optional[int]) -> Refusal:
     """The refusal of a download by somebody who downloads too much."""
-    return Refusal(509, 'You have downloaded too much data. Please try again in {} seconds.'.format(limits.retry_after),
-                   {'Retry-After': str(limits.retry_after)})
+    when = 'later' if seconds is None else 'in {} seconds'.format(seconds)
+    return Refusal(509, 'You have downloaded too much data. Please try again {}.'.format(when), retry_after(seconds))
+
+
+def retry_after(seconds: Optional[int]) -> Dict[str, str]:
+    """The header that says when to try again, if anything says it."""
+    return {} if seconds is None else {'Retry-After': str(seconds)}
+
+
+def too_many(count: int, limits: Limits) -> Refusal:
+    """The refusal of a document with more changes than a changeset takes."""
+    return Refusal(413, 'The upload has {} changes, and a changeset takes {}'.format(count, limits.changeset_elements))
+
+
+def too_wide() -> Refusal:
+    """The refusal of a document by which the bounding box of its changeset would grow beyond the limit."""
+    return Refusal(413, 'Changeset bounding box size limit exceeded.')
 
 
 def parsed(text: bytes, model: str) -> ElementTree.Element:
@@ -117,6 +160,8 @@ class Database:
                  clock: Callable[[], float] = time.time):
         self.limits, self.clock = limits or Limits(), clock
         self.uploaded: Dict[User, int] = {}             # how many changes each user has uploaded
+        self.lately: Dict[User, Deque[Tuple[float, int]]] = {}      # the same of the last hour: when, and how many
+        self.redacted: Set[Tuple[str, int]] = set()     # keys and versions that nobody may read
         self.map_bytes = 0                              # how many bytes `map` has answered
         self.last: Dict[str, int] = {}                  # the highest id of each kind
         self.versions: Dict[str, List[Element]] = {}
@@ -206,10 +251,8 @@ class Database:
                  'comments_count': '0', 'changes_count': str(changeset.changes), 'uid': str(changeset.user.number), 'user': changeset.user.name}
         if changeset.closed_at is not None:
             words['closed_at'] = stamp(changeset.closed_at)
-        places = [change.element for change in self.history if change.element.changeset == number and change.element.lon is not None]
-        if places:
-            words.update(min_lon=degrees(min(place.lon for place in places)), min_lat=degrees(min(place.lat for place in places)),
-                         max_lon=degrees(max(place.lon for place in places)), max_lat=degrees(max(place.lat for place in places)))
+        if changeset.box:
+            words.update(zip(('min_lon', 'min_lat', 'max_lon', 'max_lat'), map(degrees, changeset.box)))
         xml = ElementTree.Element('changeset', words)
         for key, value in changeset.tags.items():
             ElementTree.SubElement(xml, 'tag', k=key, v=value)
@@ -218,10 +261,11 @@ class Database:
     def download(self, number: int) -> bytes:
         """The changes of a changeset as an osmChange document, by time and version, each in a block of its own.
 
-        Within a second the order isn't that of the uploads, as it isn't on the live server.
+        Within a second the order isn't that of the uploads, as it isn't on the live server. Redacted versions are left out.
         """
         self.changeset(number)
-        found = [element for key in sorted(self.versions, key=rank) for element in self.versions[key] if element.changeset == number]
+        found = [element for key in sorted(self.versions, key=rank) for element in self.versions[key]
+                 if element.changeset == number and (key, element.version) not in self.redacted]
         blocks = []
         for element in sorted(found, key=lambda element: (element.timestamp, element.version)):
             verb = 'create' if element.version == 1 else 'modify' if element.visible else 'delete'
@@ -243,20 +287,46 @@ class Database:
             results = [upload.take(block, change) for block in root for change in block]
             for block in root:
                 upload.check_verb(block)
+            self._check_extent(upload.box)
         except Refusal:
             upload.take_back()
             raise
+        changeset.box = upload.box
         self._count(changeset, upload.changes)
         return document('diffResult', results)
 
     def _check_size(self, changeset: Changeset, user: User, count: int) -> None:
         """Raises a Refusal where so many changes are too many for a changeset, for what is left of this one, or for the user."""
         if count > self.limits.changeset_elements:
-            raise Refusal(413, 'The upload has {} changes, and a changeset takes {}'.format(count, self.limits.changeset_elements))
+            raise too_many(count, self.limits)
         if changeset.changes + count > self.limits.changeset_elements:
             raise Refusal(409, closed_text(changeset, self.clock()))
         if self.limits.user_changes is not None and self.uploaded.get(user, 0) + count > self.limits.user_changes:
-            raise too_fast(self.limits)
+            raise too_fast(self.limits.retry_after)
+        if self.limits.changes_per_hour is not None:
+            self._check_hour(user, count, self.limits.changes_per_hour)
+
+    def _check_hour(self, user: User, count: int, most: int) -> None:
+        """429 where so many changes are too many for a user's last hour; its Retry-After, where the limits have one, says when there is
+        room for them, or for as many as ever there is."""
+        now, lately = self.clock(), self.lately.setdefault(user, deque())
+        while lately and lately[0][0] <= now - HOUR:
+            lately.popleft()
+        left = sum(changes for _, changes in lately)
+        if left + count <= most:
+            return
+        seconds = 1
+        for when, changes in lately:
+            if left + count <= most:
+                break
+            left, seconds = left - changes, max(1, math.ceil(when + HOUR - now))
+        raise too_fast(None if self.limits.retry_after is None else seconds)
+
+    def _check_extent(self, box: Optional[Box]) -> None:
+        """413 where the bounding box of a changeset is too large."""
+        most = self.limits.changeset_extent
+        if box is not None and most is not None and box.extent > units(most):
+            raise too_wide()
 
     def _count(self, changeset: Changeset, changes: List[Change]) -> None:
         """Counts what was taken; a changeset that is full is closed."""
@@ -265,6 +335,8 @@ class Database:
         if changeset.changes >= self.limits.changeset_elements:
             changeset.closed_at = self.clock()
         self.uploaded[changeset.user] = self.uploaded.get(changeset.user, 0) + len(changes)
+        if self.limits.changes_per_hour is not None:
+            self.lately.setdefault(changeset.user, deque()).append((self.clock(), len(changes)))
 
     def tags_of(self, xml: ElementTree.Element, model: str, number: int) -> Dict[str, str]:
         """The tags of an element of a document; 400 where the server doesn't take them."""
@@ -301,17 +373,25 @@ class Database:
         return element
 
     def read_version(self, key: str, version: int) -> Element:
-        """A version of an element, which may be the one by which it was deleted; 404 where there is none."""
+        """A version of an element, which may be the one by which it was deleted; 404 where there is none, 403 where it is redacted."""
         for element in self.versions.get(key, ()):
             if element.version == version:
+                if (key, version) in self.redacted:
+                    raise Refusal(403)
                 return element
         raise Refusal(404)
 
+    def redact(self, key: str, version: int) -> None:
+        """Hides a version, as a moderator does; 400 where it is the last one, which can't be hidden, and 404 where there is none."""
+        if self.read_version(key, version) is self.current(key):
+            raise Refusal(400, 'Cannot redact current version of element, only historical versions may be redacted.')
+        self.redacted.add((key, version))
+
     def read_history(self, key: str) -> List[Element]:
-        """All versions of an element; 404 where there never was one."""
+        """All versions of an element but the redacted ones; 404 where there never was one."""
         if key not in self.versions:
             raise Refusal(404)
-        return list(self.versions[key])
+        return [element for element in self.versions[key] if (key, element.version) not in self.redacted]
 
     def read_many(self, kind: str, words: Optional[str]) -> List[Element]:
         """The elements of a list of ids, some with `v` and a version, each once, rising; 404 where one of them never was."""
@@ -363,7 +443,7 @@ class Database:
     def _count_bytes(self, count: int) -> None:
         """Counts the bytes of an answer of `map`; 509 where they were too many."""
         if self.limits.map_bytes is not None and self.map_bytes + count > self.limits.map_bytes:
-            raise too_much(self.limits)
+            raise too_much(self.limits.retry_after)
         self.map_bytes += count
 
     def _box(self, words: Optional[str]) -> Tuple[int, int, int, int]:
@@ -405,6 +485,7 @@ class Upload:
         self.database, self.changeset, self.timestamp = database, changeset, timestamp
         self.names: Dict[str, int] = {}         # the ids that placeholders have got
         self.changes: List[Change] = []
+        self.box = changeset.box                # of the changeset, with these changes
 
     def take_back(self) -> None:
         """Takes all of it back; ids that were given stay given, as on the live server."""
@@ -565,12 +646,50 @@ class Upload:
             raise unmet('Relation {} requires the {} with id {}, which either does not exist, or is not visible.'.format(number,
                                                                                                                          first.kind, first.number))
 
+    def _boxes(self, before: Optional[Element], after: Element) -> Iterable[Box]:
+        """The boxes by which that of the changeset grows with a change, of what was there before and of what is there after."""
+        if after.kind == 'relation':
+            for member in moved_members(before, after):
+                if member.kind != 'relation':
+                    yield from self._boxes_of(self.database.current(member.kind[0] + str(member.number)))
+        else:
+            yield from self._boxes_of(before)
+            yield from self._boxes_of(after)
+
+    def _boxes_of(self, element: Optional[Element]) -> Iterable[Box]:
+        """The boxes of a node, or of the nodes of a way."""
+        if element is not None and element.lon is not None and element.lat is not None:
+            yield box_of(element.lon, element.lat)
+        for number in element.nodes if element is not None else ():
+            node = self.database.current('n{}'.format(number))
+            if node is not None and node.lon is not None and node.lat is not None:
+                yield box_of(node.lon, node.lat)
+
     def _put(self, verb: str, element: Element, old_id: int) -> None:
         """Takes a change, in the name of the changeset's user."""
         user = self.changeset.user
         element = dataclasses.replace(element, changeset=self.changeset.number, timestamp=self.timestamp, uid=user.number, user=user.name)
+        before = self.database.current(element.key)
+        for box in self._boxes(before, element):
+            self.box = box.joined(self.box)
         self.database.put(element)
         self.changes.append(Change(len(self.database.history) + len(self.changes) + 1, verb, element, old_id))
+
+
+def box_of(lon: int, lat: int) -> Box:
+    """The box of a place."""
+    return Box(lon, lat, lon, lat)
+
+
+def moved_members(before: Optional[Element], after: Element) -> List[Member]:
+    """The members whose places count for the box of a changeset: all where a tag or a member that is a relation changed, else those
+    that went or came."""
+    old, new = (before.members if before else ()), after.members
+    changed = [member for member in (*old, *new) if (member in old) != (member in new)]
+    tags_changed = before is None or before.tags != after.tags
+    if tags_changed or any(member.kind == 'relation' for member in changed):
+        return [*old, *new]
+    return changed
 
 
 def unmet(text: str) -> Refusal:

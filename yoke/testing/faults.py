@@ -16,8 +16,13 @@ KINDS = {
     'late-1': 'the connection is closed, and all is done before the next request',
     'late-2': 'the same, before the second request after it',
     'late-3': 'the same, before the third request after it',
-    '429-before': '429 with Retry-After, and nothing is done',
-    '509-before': '509 with Retry-After, and nothing is done',
+    '429-before': '429 with the Retry-After of the limits, and nothing is done',
+    '429-bare-before': '429 without Retry-After, and nothing is done',
+    '509-before': '509 with the Retry-After of the limits, and nothing is done',
+    '413-before': '413 for too many changes, and nothing is done',
+    '413-box-before': '413 for the bounding box of the changeset, and nothing is done',
+    '403-block-before': '403 since the account is blocked, and nothing is done',
+    '403-scope-before': '403 since the token may not edit the map, and nothing is done',
 }
 
 

@@ -10,16 +10,20 @@ prints its address and serves until it is ended. In a test:
         client(server.address, token=TOKEN)
         assert server.created_twice() == []
 
-It refuses what the live server refuses, with the same status and text. `TOKEN` is the token of the user who is tried;
-`server.edit` changes the data as somebody else. Each operation has a name, by which faults and hooks find it:
-`capabilities`, `create`, `changeset`, `close`, `upload`, `download`, `map`, `element`, `version`, `history`, `full`,
-`many` and `users`.
+It has the rules of API 0.6 that are written in `database.py` and here, and no others: it was made from what is known of the
+live server, and not compared with it. `TOKEN` is the token of the user who is tried; `server.edit` changes the data as
+somebody else. Each operation has a name, by which faults and hooks find it: `capabilities`, `permissions`, `details`,
+`create`, `changeset`, `close`, `upload`, `download`, `map`, `element`, `version`, `history`, `full`, `many` and `users`.
 
-Another process sets the same by `POST /control/faults`, `/control/edit` and `/control/limits`, each with a JSON object of
-the arguments, and reads `GET /control/history` and `GET /control/elements`. `/control/edit` may have `before_upload`, the
-number of the upload before which it is to happen.
+`server.scopes` says what a token may do, and `server.blocks` which account may do nothing. Answers are compressed for who
+asks for it, and `server.connections` counts how many connections were opened.
+
+Another process sets the same by `POST /control/faults`, `/control/edit`, `/control/limits`, `/control/account` and
+`/control/redact`, each with a JSON object of the arguments, and reads `GET /control/history` and `GET /control/elements`.
+`/control/edit` may have `before_upload`, the number of the upload before which it is to happen.
 """
 import argparse
+import gzip
 import http.server
 import json
 import os
@@ -33,7 +37,8 @@ from http import HTTPStatus
 from typing import Any, Callable, Dict, Iterable, List, NamedTuple, Optional, Tuple
 from xml.etree import ElementTree
 
-from yoke.testing.database import Change, Database, Limits, Refusal, User, document, too_fast, too_much
+from yoke.testing.database import (
+    Change, Database, Limits, Refusal, User, document, stamp, too_fast, too_many, too_much, too_wide)
 from yoke.testing.elements import KIND_OF_LETTER, Element, Member, as_xml, opl, read_file, units
 from yoke.testing.faults import Faults
 
@@ -41,6 +46,18 @@ TOKEN = 'token-of-the-mapper'
 MAPPER = User(1001, 'mapper')
 SOMEBODY = User(1002, 'somebody')
 USERS = {TOKEN: MAPPER, 'token-of-somebody': SOMEBODY}
+SCOPES = ('read_prefs', 'write_prefs', 'write_api')      # what a token may do, unless the server says otherwise
+BLOCKS = {      # the texts by which an account is told that it may do nothing, by their causes
+    'block': 'Your access to the API has been blocked. Please log-in to the web interface to find out more.',
+    'message': 'You have an urgent message on the OpenStreetMap web site. You need to read the message before you will be able to '
+               'save your edits.',
+    'terms': 'Your access to the API is temporarily suspended. Please log-in to the web interface to view the Contributor Terms. '
+             'You do not need to agree, but you must view them.',
+}
+NO_SCOPE = {    # the texts by which a token is told that it may not do something, by the scope that it lacks
+    'write_api': 'You have not granted the modify map permission',
+    'read_prefs': 'You have not permitted the application access to this facility',
+}
 MOST_BYTES = 64 * 1024 * 1024       # of a request
 KIND = '(node|way|relation)'
 
@@ -54,11 +71,13 @@ class Answer(NamedTuple):
 
 
 class Request(NamedTuple):
-    """A request: what stands in its path at the places of the route, its query, its body, and whose it is, if anybody's."""
+    """A request: what stands in its path at the places of the route, its query, its body, whose it is, if anybody's, and what its
+    token may do."""
     parts: Tuple[str, ...]
     query: Dict[str, str]
     body: bytes
     user: Optional[User]
+    scopes: Tuple[str, ...] = ()
 
 
 class Hook(NamedTuple):
@@ -96,6 +115,20 @@ def refused(why: Refusal) -> Answer:
 
 def capabilities(database: Database, request: Request) -> Answer:
     return xml(database.capabilities())
+
+
+def permissions(database: Database, request: Request) -> Answer:
+    found = ElementTree.Element('permissions')
+    for scope in request.scopes:
+        ElementTree.SubElement(found, 'permission', name='allow_' + scope)
+    return xml(document('osm', [found]))
+
+
+def details(database: Database, request: Request) -> Answer:
+    user = request.user
+    found = ElementTree.Element('user', id=str(user.number), display_name=user.name, account_created=stamp(0))
+    ElementTree.SubElement(found, 'changesets', count=str(sum(one.user == user for one in database.changesets.values())))
+    return xml(document('osm', [found]))
 
 
 def create(database: Database, request: Request) -> Answer:
@@ -153,21 +186,23 @@ def key_of(request: Request) -> str:
 
 
 class Route(NamedTuple):
-    """A method and a path with the operation that it names; some need a user."""
+    """A method and a path with the operation that it names; some need a user whose token has a scope."""
     method: str
     path: str
     operation: str
     act: Callable[[Database, Request], Answer]
-    needs_user: bool = False
+    scope: str = ''
 
 
 ROUTES = [
     Route('GET', '/api/capabilities', 'capabilities', capabilities),
     Route('GET', '/api/0.6/capabilities', 'capabilities', capabilities),
-    Route('PUT', '/api/0.6/changeset/create', 'create', create, True),
+    Route('GET', '/api/0.6/permissions', 'permissions', permissions),
+    Route('GET', '/api/0.6/user/details', 'details', details, 'read_prefs'),
+    Route('PUT', '/api/0.6/changeset/create', 'create', create, 'write_api'),
     Route('GET', '/api/0.6/changeset/([0-9]+)', 'changeset', changeset),
-    Route('PUT', '/api/0.6/changeset/([0-9]+)/close', 'close', close, True),
-    Route('POST', '/api/0.6/changeset/([0-9]+)/upload', 'upload', upload, True),
+    Route('PUT', '/api/0.6/changeset/([0-9]+)/close', 'close', close, 'write_api'),
+    Route('POST', '/api/0.6/changeset/([0-9]+)/upload', 'upload', upload, 'write_api'),
     Route('GET', '/api/0.6/changeset/([0-9]+)/download', 'download', download),
     Route('GET', '/api/0.6/map', 'map', map_of_box),
     Route('GET', '/api/0.6/' + KIND + 's', 'many', many),
@@ -204,6 +239,9 @@ class StrictServer:
                  users: Optional[Dict[str, User]] = None, first_id: int = 1):
         self.database = Database(elements, limits, first_id)
         self.users = dict(USERS if users is None else users)
+        self.scopes: Dict[str, Tuple[str, ...]] = {}    # what tokens may do; SCOPES where a token isn't in it
+        self.blocks: Dict[str, str] = {}        # names of users who may do nothing, each with a cause, which is a key of BLOCKS
+        self.connections = 0                    # how many were opened
         self.faults = Faults()
         self.requests: List[str] = []           # the operations asked for, in their order
         self.answers: Counter = Counter()       # how many answers of each status were made, faults apart, such as `upload 409`
@@ -320,17 +358,28 @@ class StrictServer:
             if path.startswith('/control/'):
                 return '', self._control(method, path[len('/control/'):], body)
             route, parts = route_of(method, path)
-            return self._operate(route, Request(parts, dict(urllib.parse.parse_qsl(query, keep_blank_values=True)), body, self._user(route, headers)))
+            words = dict(urllib.parse.parse_qsl(query, keep_blank_values=True))
+            user, scopes = self._user(route, headers)
+            return self._operate(route, Request(parts, words, body, user, scopes))
         except Refusal as why:
             return '', refused(why)
 
-    def _user(self, route: Route, headers) -> Optional[User]:
-        """Whose request it is; 401 where the operation needs a user and there is none."""
+    def _user(self, route: Route, headers) -> Tuple[Optional[User], Tuple[str, ...]]:
+        """Whose request it is, and what the token may do; 401 where the operation needs a user and there is none, 403 where the account
+        is blocked or the token may not do it."""
         found = re.fullmatch('[Bb]earer +(.+)', headers.get('Authorization') or '')
-        user = self.users.get(found[1].strip()) if found else None
-        if user is None and route.needs_user:
-            raise Refusal(401, 'Couldn\'t authenticate you', {'WWW-Authenticate': 'Bearer realm="Web Password"'})
-        return user
+        token = found[1].strip() if found else ''
+        user = self.users.get(token)
+        if user is None:
+            if route.scope:
+                raise Refusal(401, 'Couldn\'t authenticate you', {'WWW-Authenticate': 'Bearer realm="Web Password"'})
+            return None, ()
+        scopes = self.scopes.get(token, SCOPES)
+        if user.name in self.blocks and (route.scope or route.operation == 'permissions'):
+            raise Refusal(403, BLOCKS[self.blocks[user.name]])
+        if route.scope and route.scope not in scopes:
+            raise Refusal(403, NO_SCOPE[route.scope])
+        return user, scopes
 
     def _operate(self, route: Route, request: Request) -> Tuple[str, Answer]:
         """Does an operation, but where a fault comes before, and gives that fault and the answer."""
@@ -376,8 +425,8 @@ class StrictServer:
 
     def _faulty(self, fault: str) -> Answer:
         """The answer of a fault that has one."""
-        if fault in ('429-before', '509-before'):
-            return refused(too_fast(self.limits) if fault == '429-before' else too_much(self.limits))
+        if fault in REFUSALS:
+            return refused(REFUSALS[fault](self.limits))
         if fault.startswith(('50', '302')):
             phrase = HTTPStatus(int(fault[:3])).phrase
             return Answer(int(fault[:3]),
@@ -396,7 +445,10 @@ class StrictServer:
         if (method, what) == ('DELETE', 'faults'):
             self.faults.clear()
             return Answer(200)
-        act = {'faults': self._set_fault, 'edit': self._set_edit, 'limits': self._set_limits}.get(what) if method == 'POST' else None
+        acts: Dict[str, Callable[..., Optional[str]]] = {
+            'faults': self._set_fault, 'edit': self._set_edit, 'limits': self._set_limits, 'account': self._set_account,
+            'redact': self.database.redact}
+        act = acts.get(what) if method == 'POST' else None
         if act is None:
             raise Refusal(404)
         try:
@@ -422,6 +474,34 @@ class StrictServer:
                 raise ValueError('no limit {!r}'.format(name))
             setattr(self.limits, name, value)
 
+    def _set_account(self, token: str = TOKEN, scopes: Optional[List[str]] = None, block: Optional[str] = None) -> None:
+        """Sets what a token may do, and the cause for which its account is blocked; an empty one lets it do all again."""
+        user = self.users[token]
+        if scopes is not None:
+            self.scopes[token] = tuple(scopes)
+        if block:
+            self.blocks[user.name] = known_block(block)
+        elif block is not None:
+            self.blocks.pop(user.name, None)
+
+
+REFUSALS: Dict[str, Callable[[Limits], Refusal]] = {    # of faults, which are met although no limit is reached
+    '429-before': lambda limits: too_fast(limits.retry_after),
+    '429-bare-before': lambda limits: too_fast(None),
+    '509-before': lambda limits: too_much(limits.retry_after),
+    '413-before': lambda limits: too_many(limits.changeset_elements + 1, limits),
+    '413-box-before': lambda limits: too_wide(),
+    '403-block-before': lambda limits: Refusal(403, BLOCKS['block']),
+    '403-scope-before': lambda limits: Refusal(403, NO_SCOPE['write_api']),
+}
+
+
+def known_block(cause: str) -> str:
+    """The cause of a block itself; ValueError where there is none of this name."""
+    if cause not in BLOCKS:
+        raise ValueError('no block {!r}: there are {}'.format(cause, ', '.join(BLOCKS)))
+    return cause
+
 
 def told(change: Change) -> Dict[str, Any]:
     """A change as another process is told of it."""
@@ -437,6 +517,11 @@ class Listener(http.server.ThreadingHTTPServer):
     def __init__(self, address: Tuple[str, int], owner: StrictServer):
         self.owner = owner
         super().__init__(address, Handler)
+
+    def process_request(self, request, client_address) -> None:
+        """Counts a connection, and starts its thread."""
+        self.owner.connections += 1
+        super().process_request(request, client_address)
 
     def handle_error(self, request, client_address) -> None:
         """Says nothing of a client that went away, which is what tests let it do."""
@@ -482,15 +567,18 @@ class Handler(http.server.BaseHTTPRequestHandler):
 
     def _send(self, answer: Answer, half: bool = False) -> None:
         phrase = 'Bandwidth Limit Exceeded' if answer.status == 509 else HTTPStatus(answer.status).phrase
+        body, headers = answer.body, answer.headers
+        if body and 'gzip' in (self.headers.get('Accept-Encoding') or ''):
+            body, headers = gzip.compress(body, 6), (('Content-Encoding', 'gzip'), *headers)
         self.send_response(answer.status, phrase)
         self.send_header('Content-Type', answer.type)
-        self.send_header('Content-Length', str(len(answer.body)))
-        for name, value in answer.headers:
+        self.send_header('Content-Length', str(len(body)))
+        for name, value in headers:
             self.send_header(name, value)
         if self.close_connection:
             self.send_header('Connection', 'close')
         self.end_headers()
-        self.wfile.write(answer.body[:len(answer.body) // 2] if half else answer.body)
+        self.wfile.write(body[:len(body) // 2] if half else body)
         self.wfile.flush()
         if half:
             self._hang_up()

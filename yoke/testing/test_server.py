@@ -2,6 +2,7 @@
 
     python3 -m unittest yoke.testing.test_server
 """
+import gzip
 import http.client
 import json
 import pathlib
@@ -402,6 +403,162 @@ class TooMuch(ServerTest):
                               api.find('area').get('maximum'), api.find('version').get('maximum')), ('3', '2', '10000', '0.25', '0.6'))
 
 
+class ByTime(ServerTest):
+    """Changes of a user within an hour, by a clock that the test sets."""
+    limits = {'changes_per_hour': 3}
+
+    def setUp(self):
+        super().setUp()
+        self.now = 1000.0
+        self.server.database.clock = lambda: self.now
+
+    def nodes(self, count):
+        return self.upload('<create>{}</create>'.format(''.join('<node id="-{}" C lat="1" lon="1"/>'.format(at + 1) for at in range(count))))
+
+    def test_there_is_room_again_after_an_hour(self):
+        self.assertEqual(self.nodes(2).status, 200)
+        self.now += 600
+        self.assertEqual(self.nodes(1).status, 200)
+        answer = self.nodes(1)
+        self.assert_refused(answer, 429, 'Upload has been blocked due to rate limiting. Please try again later.')
+        self.assertEqual(answer.headers['Retry-After'], '3000')
+        self.now += 3000
+        self.assertEqual([self.nodes(2).status, self.nodes(1).status], [200, 429])
+
+    def test_a_document_with_more_than_an_hour_takes(self):
+        self.assertEqual(self.nodes(4).headers['Retry-After'], '1')
+        self.assertEqual(self.nodes(1).status, 200)
+        self.assertEqual(self.nodes(4).headers['Retry-After'], '3600')
+
+    def test_one_that_does_not_say_how_long(self):
+        self.server.limits.retry_after = None
+        answer = self.nodes(4)
+        self.assertEqual((answer.status, answer.headers.get('Retry-After')), (429, None))
+
+
+class Boxes(ServerTest):
+    """The bounding box of a changeset: width plus height."""
+    limits = {'changeset_extent': '0.2'}
+    text = 'Changeset bounding box size limit exceeded.'
+
+    def box(self):
+        told = self.get('changeset/{}'.format(self.number)).root[0]
+        return tuple(told.get(name) for name in ('min_lon', 'min_lat', 'max_lon', 'max_lat'))
+
+    def test_of_nodes(self):
+        self.assert_refused(self.upload('<modify><node id="4" C version="1" lat="0.1" lon="13.9"/>'
+                                        '<node id="3" C version="3" lat="0.21" lon="13.7"/></modify>'), 413, self.text)
+        self.assertEqual(self.upload('<modify><node id="4" C version="1" lat="0.1" lon="13.9"/></modify>').status, 200)
+        self.assertEqual(self.box(), ('13.8000000', '0.1000000', '13.9000000', '0.1000000'))
+        self.assertEqual(self.server.edit('modify', 'n4', place=('13.9', '0.3')), 'n4')
+
+    def test_grows_from_one_upload_to_the_next(self):
+        self.assertEqual(self.upload('<modify><node id="4" C version="1" lat="0.1" lon="13.9"/></modify>').status, 200)
+        self.assert_refused(self.upload('<create><node id="-1" C lat="0.21" lon="13.8"/></create>', self.number), 413, self.text)
+        self.assertEqual(self.upload('<create><node id="-1" C lat="0.2" lon="13.8"/></create>', self.number).status, 200)
+        self.assertEqual(len(self.server.history), 2)
+
+    def test_of_ways(self):
+        self.assertEqual(self.upload('<modify><way id="1" C version="1"><nd ref="1"/><nd ref="2"/></way></modify>').status, 200)
+        self.assertEqual(self.box(), ('13.5000000', '-0.0000001', '13.6000000', '0.0000000'))
+        self.assert_refused(self.upload('<create><way id="-1" C><nd ref="1"/><nd ref="3"/></way></create>'), 413, self.text)
+        self.assertEqual(self.upload('<delete><way id="2" C version="1"/></delete>').status, 200)
+        self.assertEqual(self.box(), ('13.6000000', '0.0000000', '13.7000000', '0.1000000'))
+
+    def test_of_relations(self):
+        """A member that goes or comes counts alone; a changed tag counts all."""
+        same = '<member type="way" ref="1" role=""/><member type="node" ref="4" role="stop"/>'
+        self.assertEqual(self.upload('<modify><relation id="1" C version="1"><tag k="type" v="route"/>'
+                                     '{}<member type="node" ref="3"/></relation></modify>'.format(same)).status, 200)
+        self.assertEqual(self.box(), ('13.7000000', '0.1000000', '13.7000000', '0.1000000'))
+        self.assert_refused(self.upload('<modify><relation id="1" C version="2"><tag k="a" v="b"/>{}</relation></modify>'.format(same)),
+                            413, self.text)
+
+
+class Accounts(ServerTest):
+
+    def permissions(self, token=TOKEN):
+        root = self.ask('GET', '/api/0.6/permissions', token=token).root
+        return [found.get('name') for found in root.find('permissions')]
+
+    def test_who_it_is(self):
+        self.opened()
+        user = self.ask('GET', '/api/0.6/user/details').root.find('user')
+        self.assertEqual((user.get('id'), user.get('display_name'), user.find('changesets').get('count')), ('1001', 'mapper', '1'))
+        self.assert_refused(self.ask('GET', '/api/0.6/user/details', token=NO_TOKEN), 401, 'Couldn\'t authenticate you')
+
+    def test_what_a_token_may_do(self):
+        self.assertEqual(self.permissions(), ['allow_read_prefs', 'allow_write_prefs', 'allow_write_api'])
+        self.assertEqual([self.permissions(NO_TOKEN), self.permissions('of-nobody')], [[], []])
+        self.server.scopes[TOKEN] = ('read_prefs',)
+        self.assertEqual(self.permissions(), ['allow_read_prefs'])
+        self.assert_refused(self.ask('PUT', '/api/0.6/changeset/create', '<osm><changeset/></osm>'), 403,
+                            'You have not granted the modify map permission')
+        self.server.scopes[TOKEN] = ('write_api',)
+        self.assert_refused(self.ask('GET', '/api/0.6/user/details'), 403, 'You have not permitted the application access to this facility')
+
+    def test_a_blocked_account(self):
+        number = self.opened()
+        for cause, said in [('block', 'has been blocked'), ('message', 'urgent message'), ('terms', 'Contributor Terms')]:
+            self.server.blocks['mapper'] = cause
+            for answer in (self.upload('', number), self.ask('GET', '/api/0.6/user/details'), self.ask('GET', '/api/0.6/permissions')):
+                self.assertEqual(answer.status, 403)
+                self.assertIn(said, answer.text)
+            self.assertEqual(self.get('node/1').status, 200)
+        self.opened('token-of-somebody')
+        self.server.blocks.clear()
+        self.assertEqual(self.upload('', number).status, 200)
+
+
+class Redactions(ServerTest):
+
+    def setUp(self):
+        super().setUp()
+        self.assertEqual(self.upload('<modify><node id="4" C version="1" lat="1" lon="1"/></modify>').status, 200)
+        self.server.edit('modify', 'n4', tags={'a': 'b'})
+
+    def test_a_version_that_is_hidden(self):
+        self.assertEqual(self.get('node/4/2').status, 200)
+        self.server.database.redact('n4', 2)
+        self.assert_refused(self.get('node/4/2'), 403)
+        self.assertEqual([xml.get('version') for xml in self.get('node/4/history').root], ['1', '3'])
+        self.assertEqual(len(self.get('changeset/{}/download'.format(self.number)).root), 0)
+        self.assertEqual(self.get('changeset/{}'.format(self.number)).root[0].get('changes_count'), '1')
+
+    def test_the_last_version_cannot_be_hidden(self):
+        for key, version, status in [('n4', 3, 400), ('n4', 9, 404), ('n77', 1, 404)]:
+            with self.assertRaises(Refusal) as raised:
+                self.server.database.redact(key, version)
+            self.assertEqual(raised.exception.status, status)
+
+
+class Connections(ServerTest):
+
+    def request(self, path, **headers):
+        self.connection.request('GET', path, headers=headers)
+        answer = self.connection.getresponse()
+        return answer, answer.read()
+
+    def setUp(self):
+        super().setUp()
+        found = urllib.parse.urlsplit(self.server.address)
+        self.connection = http.client.HTTPConnection(found.hostname, found.port, timeout=20)
+        self.addCleanup(self.connection.close)
+
+    def test_answers_are_compressed_for_who_asks_for_it(self):
+        plain, text = self.request('/api/0.6/node/1')
+        packed, data = self.request('/api/0.6/node/1', **{'Accept-Encoding': 'gzip'})
+        self.assertEqual((plain.headers.get('Content-Encoding'), packed.headers.get('Content-Encoding')), (None, 'gzip'))
+        self.assertEqual(gzip.decompress(data), text)
+
+    def test_connections_are_counted(self):
+        for _ in range(3):
+            self.request('/api/0.6/node/1')
+        self.assertEqual(self.server.connections, 1)
+        self.get('node/1')
+        self.assertEqual(self.server.connections, 2)
+
+
 class Reading(ServerTest):
 
     def test_an_element(self):
@@ -554,6 +711,18 @@ class WithFaults(ServerTest):
         self.server.faults.clear()
         self.assertEqual(self.get('node/1').status, 200)
 
+    def test_refusals(self):
+        for kind, status, said, wait in [
+                ('429-before', 429, 'rate limiting', '7'), ('429-bare-before', 429, 'rate limiting', None), ('509-before', 509, 'too much data', '7'),
+                ('413-before', 413, 'changes, and a changeset takes', None), ('413-box-before', 413, 'bounding box size limit', None),
+                ('403-block-before', 403, 'has been blocked', None), ('403-scope-before', 403, 'modify map permission', None)]:
+            self.server.limits.retry_after = 7
+            self.server.faults.once(kind)
+            answer = self.upload('<create><node id="-1" C lat="1" lon="1"/></create>')
+            self.assertEqual((answer.status, answer.headers.get('Retry-After')), (status, wait))
+            self.assertIn(said, answer.text)
+            self.assertEqual(self.server.history, [])
+
     def test_one_that_is_not_known(self):
         with self.assertRaises(ValueError):
             self.server.faults.once('no-such-fault')
@@ -656,6 +825,20 @@ class Control(ServerTest):
         self.assertEqual(self.control('POST', 'limits', changeset_elements=1).status, 200)
         self.assertEqual(self.server.limits.changeset_elements, 1)
         self.assertEqual(self.control('POST', 'limits', nothing=1).status, 400)
+
+    def test_accounts(self):
+        self.assertEqual(self.control('POST', 'account', scopes=['read_prefs'], block='terms').status, 200)
+        self.assertIn('Contributor Terms', self.ask('GET', '/api/0.6/permissions').text)
+        self.assertEqual(self.control('POST', 'account', block='').status, 200)
+        self.assertIn('modify map', self.ask('PUT', '/api/0.6/changeset/create', '<osm><changeset/></osm>').text)
+        for words in ({'block': 'nothing'}, {'token': 'of-nobody'}):
+            self.assertEqual(self.control('POST', 'account', **words).status, 400)
+
+    def test_redactions(self):
+        self.server.edit('modify', 'n4', tags={'a': 'b'})
+        self.assertEqual(self.control('POST', 'redact', key='n4', version=1).status, 200)
+        self.assert_refused(self.get('node/4/1'), 403)
+        self.assertEqual(self.control('POST', 'redact', key='n4', version=2).status, 400)
 
     def test_elements(self):
         self.assertEqual(list(lines_of_opl(self.control('GET', 'elements').text.splitlines())), self.server.elements())
