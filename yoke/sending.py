@@ -84,6 +84,7 @@ class Sending:
     sent: int = 0
     used: List[str] = field(default_factory=list)
     unusable: int = 0       # changesets in a row that were refused before they had a change
+    held: int = 0           # edits that are held back (`yoke/parts.py`), and that count as left
 
     @property
     def day(self):
@@ -94,13 +95,25 @@ class Sending:
 
         Raises Clash, NoAnswer, ServerRefused or Refused; what was taken before that is kept.
         """
+        self.begin()
+        self.send_all()
+        self.close()
+
+    def begin(self):
+        """Asks the server for its limits, and goes on from where the last send ended, to row 1 or 2."""
         check_server(self.day, self.server)
         self.limits = self.server.limits()
         if not self.limits.writable:
             raise NoAnswer('{} takes no edits at present; send again later'.format(self.server.address))
         self._take_up()
+
+    def send_all(self, may_go=lambda chunk: True):
+        """Sends the last session, chunk by chunk, and leaves the changeset open. Answers whether nothing is left of it.
+
+        `may_go` is asked of each chunk before it goes out; where it says no, the chunk and all after it stay here.
+        """
         chunk, silences = self._next_chunk(), 0
-        while chunk:
+        while chunk and may_go(chunk):
             if self.changeset is None:
                 self._open()
             outcome = self._deliver(chunk)
@@ -113,7 +126,7 @@ class Sending:
                     raise NoAnswer('no answer came to {} documents in a row, and none was taken; send again later'.format(silences))
                 api.pause(WAITS[silences - 1])
             chunk = self._next_chunk()
-        self._close()
+        return not chunk
 
     # ---- where it stands ----
 
@@ -134,7 +147,7 @@ class Sending:
             if not is_open:
                 self._drop()
             elif self.changeset.tags != self.tags or self.changeset.count >= self.limits.changes:
-                self._close()
+                self.close()
 
     def _looked_at(self):
         """How many changes the changeset has, and whether it is open; one that the server doesn't know isn't."""
@@ -156,14 +169,14 @@ class Sending:
 
     # ---- rows 1 and 2 ----
 
-    def _room(self):
+    def room(self):
         """How many changes the next chunk may have; where the changeset is full the chunk goes into another one."""
         left = self.limits.changes - (self.changeset.count if self.changeset else 0)
         return min(self.size, left if left > 0 else self.limits.changes)
 
     def _next_chunk(self):
         """The changes of the next chunk; none where nothing is left."""
-        return self.session.ask(['upload {}'.format(self._room())]).first_chunk()
+        return self.session.ask(['upload {}'.format(self.room())]).first_chunk()
 
     def _open(self):
         number = self.server.open_changeset(self.tags)
@@ -171,7 +184,7 @@ class Sending:
         self.day.write('changeset', json.dumps({'number': number, 'tags': self.tags}) + '\n')
         self.changeset = Open(number, self.tags)
 
-    def _close(self):
+    def close(self):
         """Closes the changeset, if one is open, and forgets it."""
         if self.changeset:
             try:
@@ -222,7 +235,7 @@ class Sending:
             self.note('{}'.format(refused))
             self.size = self.size if self.changeset.count else len(chunk) // 2
             self._remove('osc')
-            self._close()
+            self.close()
             return Outcome.AGAIN
         if refused.status == 400:
             self.day.rename(self.day.beside(self.day.last(), 'osc'), self.day.beside(self.day.last(), 'refused'))
@@ -370,13 +383,13 @@ class Sending:
                 self.day.path(self.day.beside(self.day.last(), 'answer')), self.day.path(self.day.pending()), fault)) from None
         self._write('answers', ''.join(line + '\n' for line in lines))
         self.changeset.count += len(sent)
-        answer = self.session.confirm(self.day.beside(self.day.last(), 'answers'), self._room())
+        answer = self.session.confirm(self.day.beside(self.day.last(), 'answers'), self.room())
         self.sent, self.unusable = self.sent + len(sent), 0
         if self.changeset.number not in self.used:
             self.used.append(self.changeset.number)
-        self.note('changeset {}: {} changes taken, {} left'.format(self.changeset.number, len(sent), answer.upload_size()))
+        self.note('changeset {}: {} changes taken, {} left'.format(self.changeset.number, len(sent), answer.upload_size() + self.held))
         if self.changeset.count >= self.limits.changes:
-            self._close()
+            self.close()
         return answer.first_chunk()
 
 
