@@ -5,6 +5,7 @@ codes are those of `yoke/trouble.py`, with 0 for done, 130 where the user broke 
 """
 import argparse
 import os
+import re
 import sys
 
 from yoke import VERSION, verbs
@@ -15,6 +16,7 @@ CODES = """exit codes:
   0 done   1 refused, nothing was kept   2 wrong words   3 a file, a folder or the program   4 somebody was faster, or a
   conflict stands   5 no answer of the server: run it again   6 the server refuses   7 another yoke works in the folder
 docs/COMPANION.md tells of each verb, and what to do at each fault."""
+BOXES = ('--bbox', '--within')      # options with a box of degrees
 
 
 def parser():
@@ -42,9 +44,20 @@ def common(one):
     group.add_argument('--max-objects', metavar='N', type=int, help='as the option of editor: objects in the session')
 
 
+def with_boxes(words):
+    """The words, with a box that begins with a minus joined to its option: argparse would take it for an option of its own."""
+    joined = []
+    for word in words:
+        if joined and joined[-1] in BOXES and re.match('-[0-9.]', word):
+            joined[-1] += '=' + word
+        else:
+            joined.append(word)
+    return joined
+
+
 def main(words=None):
     """Runs a verb; answers with the exit code."""
-    arguments = parser().parse_args(words)
+    arguments = parser().parse_args(with_boxes(sys.argv[1:] if words is None else words))
     try:
         code = arguments.run(arguments)
         sys.stdout.flush()
@@ -70,7 +83,7 @@ def main(words=None):
 
 def further(verb):
     """How one goes on where a verb was broken off: another than these two may have kept what it did, and would do it once more."""
-    if verb in ('send', 'refresh'):
+    if verb in ('send', 'refresh', 'get'):
         return 'the same command again goes on from what is kept'
     return 'yoke status shows what is kept: look before the same command again'
 

@@ -1,11 +1,13 @@
 """Files that a user names: read whole, compressed or not, and written without taking another file's place unseen."""
 import bz2
+import contextlib
 import gzip
 import lzma
 import os
 import pathlib
 import sys
 import zlib
+from typing import Iterable
 
 from yoke import day
 from yoke.trouble import Refused, Trouble
@@ -75,3 +77,32 @@ def check_own(name: str, mark: bytes, force: bool):
         with open(path, 'rb') as there:
             if mark not in there.read(400):
                 raise Refused('{} is there, and wasn\'t written by yoke: name another file, or --force'.format(name))
+
+
+def write_new(name: str, lines: Iterable[str]) -> None:
+    """Writes lines, each with its line feed, to a file whole or not at all, and never over another
+    one: Refused if a file has the name by then."""
+    path = pathlib.Path(name)
+    new = path.with_name(f'{path.name}.{os.getpid()}.new')
+    try:
+        with open(new, 'x', encoding='utf-8', newline='\n') as file:
+            file.writelines(lines)
+            file.flush()
+            os.fsync(file.fileno())
+        give_name(new, path)
+    finally:
+        with contextlib.suppress(FileNotFoundError):
+            new.unlink()
+    day.sync_folder(path.parent)
+
+
+def give_name(new: pathlib.Path, path: pathlib.Path) -> None:
+    """Gives a whole file its name, unless another file has it: then Refused."""
+    try:
+        os.link(new, path)
+    except FileExistsError:
+        raise Refused(f'{path} is there by now, and isn\'t written over: name another file') from None
+    except OSError:                     # a file system without hard links
+        if os.path.lexists(path):
+            raise Refused(f'{path} is there by now, and isn\'t written over: name another file') from None
+        os.rename(new, path)
