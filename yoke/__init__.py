@@ -3,4 +3,4 @@
 `yoke/README.md` names the modules and what each promises; docs/COMPANION.md is the page for users.
 """
 
-VERSION = '0.1.0'
+VERSION = '0.2.0'

@@ -8,7 +8,7 @@ import os
 import re
 import sys
 
-from yoke import VERSION, verbs
+from yoke import VERSION, results, verbs
 from yoke.progress import note
 from yoke.trouble import Trouble
 
@@ -42,6 +42,7 @@ def common(one):
                        help='the folder of the day ($YOKE_DAY, else day)')
     group.add_argument('--program', metavar='PROGRAM', help='the program editor ($YOKE_EDITOR, else yokeorange on the path)')
     group.add_argument('--max-objects', metavar='N', type=int, help='as the option of editor: objects in the session')
+    group.add_argument('--json', action='store_true', help='print one JSON document: exit code, error, notes, lines and the result as data')
 
 
 def with_boxes(words):
@@ -58,27 +59,46 @@ def with_boxes(words):
 def main(words=None):
     """Runs a verb; answers with the exit code."""
     arguments = parser().parse_args(with_boxes(sys.argv[1:] if words is None else words))
+    if not arguments.json:
+        return attempt(arguments)[0]
+    with results.collected() as (found, printed):
+        code, fault = attempt(arguments)
+    try:
+        results.write(arguments.verb, code, found, printed.getvalue(), fault)
+        sys.stdout.flush()
+    except BrokenPipeError:
+        return deaf()
+    return code
+
+
+def attempt(arguments):
+    """Runs a verb, and says on the error stream why it ended early; answers with the exit code and what was raised, or None."""
     try:
         code = arguments.run(arguments)
         sys.stdout.flush()
-        return code
+        return code, None
     except Trouble as trouble:
         complain(trouble)
-        return trouble.code
-    except BrokenPipeError:
-        os.dup2(os.open(os.devnull, os.O_WRONLY), sys.stdout.fileno())     # so that nothing is flushed into it at the end
-        return 3
+        return trouble.code, trouble
+    except BrokenPipeError as error:
+        return deaf(), error
     except OSError as error:
         complain('{}; {}'.format(error, further(arguments.verb)))
-        return 3
-    except KeyboardInterrupt:
+        return 3, error
+    except KeyboardInterrupt as error:
         complain('broken off; {}'.format(further(arguments.verb)))
-        return 130
+        return 130, error
     except Exception as fault:
         if os.environ.get('YOKE_TRACE'):
             raise
         complain('a fault of yoke itself, which you may report with what $YOKE_TRACE=1 shows: {}: {}'.format(type(fault).__name__, fault))
-        return 70
+        return 70, fault
+
+
+def deaf():
+    """The exit code where nobody reads standard output any more: nothing is flushed into it at the end."""
+    os.dup2(os.open(os.devnull, os.O_WRONLY), sys.stdout.fileno())
+    return 3
 
 
 def further(verb):

@@ -9,7 +9,7 @@ import shutil
 import unittest
 from unittest import mock
 
-from yoke import opl, saved
+from yoke import api, opl, saved
 from yoke.sending import SILENCES
 from yoke.testing.database import Refusal
 from yoke.testing.server import MAPPER, User
@@ -70,7 +70,7 @@ class Whole(SendTest):
         self.assertEqual('5 changes sent in changeset 1\nnothing is left to send\n', self.out)
         self.assertEqual(3, self.server.requests.count('upload'))
         changeset = self.server.database.changesets[1]
-        self.assertEqual({'created_by': 'yokeorange yoke 0.1.0', 'comment': 'a test', 'source': 'survey', 'import': 'yes'}, changeset.tags)
+        self.assertEqual({'created_by': api.CREATED_BY, 'comment': 'a test', 'source': 'survey', 'import': 'yes'}, changeset.tags)
         self.assertEqual(3, self.err.count('changeset 1: '))
         self.assertEqual(0, self.send())
         self.assertEqual('0 changes sent\nnothing is left to send\n', self.out)

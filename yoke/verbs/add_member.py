@@ -1,5 +1,5 @@
 """`yoke add-member`: one member into a relation."""
-from yoke import table
+from yoke import results, table
 from yoke.scripts import lists
 from yoke.session import Session
 
@@ -20,6 +20,7 @@ def run(arguments):
         found = table.read(session.day.last().text())
         line = lists.add_members_line(found, [(arguments.key, arguments.role)], arguments.relation, arguments.at, arguments.again)
         session.edit('add-member', [line])
+        results.put(step=line, session=results.of_state(session.day.last()))
         print(line)
         print('kept as {}'.format(session.day.last().path))
     return 0

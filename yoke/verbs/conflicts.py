@@ -1,5 +1,5 @@
 """`yoke conflicts`: what is in conflict, with its three sides."""
-from yoke import saved, sides
+from yoke import results, saved, sides
 from yoke.day import Day
 from yoke.trouble import Clash
 
@@ -22,12 +22,15 @@ def run(arguments):
     for known in found:
         if not arguments.keys or known.key in arguments.keys:
             show(known)
+    results.add('conflicts')
     print('{} in conflict'.format(len(found)))
     return Clash.code if found else 0
 
 
 def show(known):
     """The three sides of an object in conflict, part by part, and the ways to resolve it."""
+    if results.wanted():
+        results.add('conflicts', results.of_known(known))
     theirs = known.theirs
     print('{}: {}'.format(sides.title(known.mine or known.base), WHY[known.conflict]))
     by = ' by {}'.format(sides.plain(theirs.user)) if theirs.user else ''

@@ -1,5 +1,5 @@
 """`yoke diff`: the edits of the session, each beside what it was made from."""
-from yoke import saved, sides
+from yoke import results, saved, sides
 from yoke.day import Day
 
 SUMMARY = 'show what is edited: each object, and what became of it'
@@ -17,10 +17,13 @@ def run(arguments):
         if known.edit is None or arguments.keys and known.key not in arguments.keys:
             continue
         count += 1
+        if results.wanted():
+            results.add('objects', results.of_known(known))
         conflict = '' if known.conflict == 'none' else ', in conflict'
         print('{} {}{}'.format(known.edit, sides.title(known.mine or known.base), conflict))
         if known.edit != 'deleted' and not arguments.short:
             for line in sides.change(known.there, known.mine):
                 print('    ' + line)
+    results.add('objects')
     print('{} edited'.format(count))
     return 0

@@ -3,7 +3,7 @@ import pathlib
 import re
 import sys
 
-from yoke import opl, words
+from yoke import opl, results, words
 from yoke.program import BadLine
 from yoke.scripts import bound, lint
 from yoke.session import Session
@@ -47,6 +47,7 @@ def run(arguments):
         kept = arguments.keep or not answer.refused()
         too = changed_too(began, session.known(), expanded.lines) if kept else []
     show(name, answer, kept)
+    results.put(changed_too=too)
     if too:
         print('changed with it: {}'.format(','.join(too)))
     return end(session, answer, arguments.keep, arguments.strict)
@@ -58,6 +59,7 @@ def end(session, answer, keep, strict=False):
     if refused and not keep:
         raise Refused('nothing is kept: {} of {} steps {} refused'.format(len(refused), len(answer.replies) - 1, 'was' if len(refused) == 1 else 'were')
                       if not strict else 'nothing is kept: it ended at line {}'.format(refused[0].line))
+    results.put(session=results.of_state(session.day.last()))
     print('kept as {}'.format(session.day.last().path))
     return 1 if refused else 0
 
@@ -128,6 +130,7 @@ def check(name, lines, folder):
 def show(name, answer, kept):
     """What the steps wrote, what was refused, in words, and what was made, if it is kept."""
     gone = given_up(answer)
+    results.add('steps', *(of_reply(reply, kept and reply.line not in gone) for reply in answer.replies if reply.verb != 'save'))
     for reply in answer.replies:
         if reply.word == 'refused':
             what = [reply.row, 'refused', words.cut(reply.step), reply.problem or words.refusal(reply.rest)]
@@ -137,6 +140,16 @@ def show(name, answer, kept):
         if reply.verb != 'save':
             for text in reply.text:
                 print(text)
+
+
+def of_reply(reply, kept):
+    """A step and its reply as data."""
+    return {
+        'line': reply.line, 'row': reply.row or None, 'step': reply.step, 'reply': reply.word,
+        'refusal': int(reply.number) if reply.word == 'refused' else None,
+        'why': reply.problem or words.refusal(reply.rest) if reply.word == 'refused' else None,
+        'made': reply.made() if kept else [], 'text': reply.text,
+    }
 
 
 def changed_too(before, after, lines):

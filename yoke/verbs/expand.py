@@ -1,7 +1,7 @@
 """`yoke expand`: a script as the program editor takes it."""
 import re
 
-from yoke import files, opl, table
+from yoke import files, opl, results, table
 from yoke.program import BadLine, Program
 from yoke.progress import note
 from yoke.scripts import bound, grammar, names, shorthand
@@ -55,6 +55,7 @@ def run(arguments):
         raise Refused(': '.join(filter(None, ['{}:{}'.format(arguments.script, expanded.numbers[at]), expanded.rows.get(at), why])))
     for number, text in expanded.notes:
         note('{}:{}: {}'.format(arguments.script, number, text))
+    results.put(script=head + expanded.lines)
     print(''.join(line + '\n' for line in head + expanded.lines), end='')
     return 0
 

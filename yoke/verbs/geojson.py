@@ -1,5 +1,5 @@
 """`yoke geojson`: edits and conflicts to look at on a map."""
-from yoke import table
+from yoke import results, table
 from yoke.day import Day
 from yoke.files import check_outputs, write_own
 from yoke.formats import geojson_out
@@ -19,6 +19,7 @@ def run(arguments):
     check_outputs([arguments.file] if arguments.file != '-' else [], [], day.folder)
     found = table.read(day.last().text())
     write_own(arguments.file, geojson_out.document(found), b'"generator": "yoke"', arguments.force)
+    results.put(file=arguments.file)
     if arguments.file != '-':
         edited = sum(known.edit is not None for known in found.things.values())
         print('wrote {}: {} edited, {} in conflict'.format(arguments.file, edited, sum(known.conflict != 'none' for known in found.things.values())))

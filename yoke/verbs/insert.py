@@ -1,5 +1,5 @@
 """`yoke insert`: one node into a way."""
-from yoke import table
+from yoke import results, table
 from yoke.scripts import lists
 from yoke.session import Session
 
@@ -17,6 +17,7 @@ def run(arguments):
     with session.day.locked():
         line = lists.insert_line(table.read(session.day.last().text()), arguments.node, arguments.way, arguments.after)
         session.edit('insert', [line])
+        results.put(step=line, session=results.of_state(session.day.last()))
         print(line)
         print('kept as {}'.format(session.day.last().path))
     return 0

@@ -1,5 +1,5 @@
 """`yoke josm`: what was done in JOSM, as edits of the session."""
-from yoke import table
+from yoke import results, table
 from yoke.files import data_of
 from yoke.formats import foreign, osm_xml
 from yoke.progress import note
@@ -47,6 +47,7 @@ def bring_in(verb, session, arguments, told, start=None):
     plan = foreign.plan(told, table.read(session.day.last().text()), start, arguments.again)
     for text in plan.notes:
         note('{}: {}'.format(arguments.file, text))
+    results.put(steps=plan.lines, problems=plan.problems, made=plan.made, counts=dict(plan.counts), session=None)
     for problem in plan.problems:
         print(problem)
     if plan.problems:
@@ -59,5 +60,6 @@ def bring_in(verb, session, arguments, told, start=None):
         return 0
     session.edit(verb, ['begin'] + plan.lines + ['end'])
     print(', '.join('{} {}'.format(name, plan.counts[name]) for name in ('new', 'tags', 'place', 'nodes', 'members', 'deleted') if plan.counts[name]))
+    results.put(session=results.of_state(session.day.last()))
     print('kept as {}'.format(session.day.last().path))
     return 0

@@ -1,4 +1,5 @@
 """`yoke lint`: every bad line of a script, with its cause."""
+from yoke import results
 from yoke.files import data_of
 from yoke.scripts import grammar, lint, names
 from yoke.trouble import Trouble
@@ -16,6 +17,7 @@ def run(arguments):
     count = 0
     for name in arguments.scripts:
         found = findings(data_of(name))
+        results.add('bad_lines', *({'script': name, **vars(one)} for one in found))
         print(lint.report(name, found), end='')
         count += len(found)
     print('{} bad line{}'.format(count or 'no', '' if count == 1 else 's'))

@@ -2,7 +2,7 @@
 from dataclasses import dataclass
 from typing import List
 
-from yoke import api, opl, sides
+from yoke import api, opl, results, sides
 from yoke.progress import note
 from yoke.sending import check_server, note_server
 from yoke.session import Session
@@ -64,6 +64,7 @@ def bring(session, server, keys=()):
 
 def show(news, server):
     """Says what a refresh brought."""
+    results.put(asked=news.asked, merged=news.merged, never=news.never, joined=[one.key for one in news.joined], conflicts=[])
     print('{} objects asked for, {} newer ones merged'.format(news.asked, news.merged))
     for one in news.joined:
         by = ' by {}'.format(sides.plain(one.base.user)) if one.base.user else ''

@@ -1,5 +1,5 @@
 """`yoke resolve`: ends the conflict of objects."""
-from yoke import opl, sides
+from yoke import opl, results, sides
 from yoke.session import Session
 from yoke.trouble import Refused, Usage
 from yoke.verbs import conflicts
@@ -41,6 +41,7 @@ def run(arguments):
         now = session.known()
     for key in keys:
         print('resolved {}: {}'.format(key, outcome(now.get(key))))
+    results.put(resolved={key: outcome(now.get(key)) for key in keys}, left=[key for key, one in now.items() if one.conflict != 'none'])
     left = sum(one.conflict != 'none' for one in now.values())
     print('{} in conflict'.format(left))
     return 0

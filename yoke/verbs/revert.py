@@ -4,7 +4,7 @@ from __future__ import annotations
 import argparse
 from collections.abc import Iterable
 
-from yoke import api, sides
+from yoke import api, results, sides
 from yoke.day import Day
 from yoke.program import Program
 from yoke.progress import note
@@ -64,6 +64,8 @@ def _write_rest(day: Day, planned: plan.Plan) -> str:
 
 def show(numbers: list[str], done: history.History, planned: plan.Plan, found: perform.Outcome, rest: str) -> int:
     """Says what was taken back, and what to do next; the exit code."""
+    results.put(objects=len(done.objects) + len(done.left_out), counts=dict(found.counts), left_out=planned.left_out, edited=found.edited,
+                joined=[known.key for known in found.joined], conflicts=[], rest=rest or None)
     for text in planned.notes:
         note(sides.plain(text))
     counts = ', '.join(f'{count} {name}' for name, count in sorted(found.counts.items()) if count)

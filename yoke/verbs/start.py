@@ -5,7 +5,7 @@ import shutil
 import subprocess
 import tempfile
 
-from yoke import opl, session, words
+from yoke import opl, results, session, words
 from yoke.program import Program
 from yoke.day import Day
 from yoke.trouble import Refused, Trouble
@@ -34,6 +34,7 @@ def run(arguments):
                 raise Refused('{}: {}'.format(arguments.extracts[reply.line - 1], words.refusal(reply.rest)))
             state = day.keep('start', answer.saved())
     counts = answer.counts()
+    results.put(counts=counts, session=results.of_state(state))
     print('{nodes} nodes, {ways} ways, {relations} relations'.format(**counts))
     print('kept as {}'.format(state.path))
     return 0

@@ -1,4 +1,5 @@
 """`yoke status`: where the day stands."""
+from yoke import results
 from yoke.sending import noted
 from yoke.session import Session
 
@@ -13,6 +14,8 @@ def run(arguments):
     session = Session.of(arguments)
     day, last = session.day, session.day.last()
     counts = session.ask(['count']).counts()
+    results.put(session=results.of_state(last), counts=counts, server=(day.read('server') or '').strip() or None, pending=day.pending(),
+                changeset=noted(day).number if noted(day) else None, next=advice(day, counts))
     print('session {} by {}, in {}'.format(last.number, last.verb, day.folder))
     print('{nodes} nodes, {ways} ways, {relations} relations; {changed} edited, {conflicts} in conflict'.format(**counts))
     if day.read('server'):

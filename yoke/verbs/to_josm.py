@@ -1,7 +1,7 @@
 """`yoke to-josm`: the session as a file that JOSM opens."""
 import hashlib
 
-from yoke import table
+from yoke import results, table
 from yoke.day import Day
 from yoke.files import check_outputs, check_own, write_own
 from yoke.formats import osm_xml
@@ -35,6 +35,7 @@ def run(arguments):
         day.write(start, text)
         write_own(arguments.file, ''.join(line + '\n' for line in lines), MARK, arguments.force)
         forget(day, start)
+    results.put(file=arguments.file, state=state)
     if arguments.file != '-':
         print('wrote {}'.format(arguments.file))
     return 0

@@ -1,5 +1,5 @@
 """`yoke turns`: turn restrictions and lanes of turns whose ways don't meet."""
-from yoke import opl, sides, table
+from yoke import opl, results, sides, table
 from yoke.scripts import turns
 from yoke.session import Session
 from yoke.trouble import Usage
@@ -30,6 +30,7 @@ def run(arguments):
         mends = [one.mend for one in left if one.mend]
         if arguments.mend and mends:
             session.edit('turns', ['begin'] + mends + ['end'])
+    results.put(turns=[{'key': one.key, 'faults': one.faults, 'mend': one.mend or None} for one in left], mended=len(mends) if arguments.mend else 0)
     print('{} turn{} to mend'.format(len(left), '' if len(left) == 1 else 's'))
     if arguments.mend and mends:
         print('mended {}; kept as {}'.format(len(mends), session.day.last().path))
