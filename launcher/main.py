@@ -44,9 +44,32 @@ def act(asked):
     if asked.action == 'look':
         words.hold_to_script(asked.rest)
         return look.run(HOME, asked.rest)
+    if asked.action == 'rust':
+        return export(*asked.rest)
     if asked.action == 'prove':
         return prove(asked.flags)
     return run(asked.rest)
+
+
+def plain_version():
+    """The number of the version, as cargo takes it."""
+    found = re.match(r'\d+\.\d+\.\d+', version())
+    return found[0] if found else '0.0.0'
+
+
+def export(folder, libraries):
+    """Writes the program as a cargo workspace in plain Rust: the status."""
+    import pathlib
+
+    from plain import tokens, workspace
+
+    try:
+        made = workspace.write(pathlib.Path(HOME), pathlib.Path(folder), workspace.choice_of(libraries), plain_version())
+    except tokens.Refused as why:
+        raise Stop('{}\nThe export doesn\'t know this form, so it wrote nothing: plain/__init__.py says how to add one'.format(why)) from why
+    say('wrote {} with {:,} lines of plain Rust to {}. Nothing of it is proved. {} says how to build it'.format(
+        count(len(made.crates), 'crate'), made.lines, folder, os.path.join(folder, 'README.md')))
+    return 0
 
 
 def crates_and_texts():

@@ -58,12 +58,21 @@ def read(words):
         return Words('version')
     if words[0] == '--look':
         return Words('look', words[1:])
+    if words[0] == '--rust':
+        return Words('rust', rust_words(words[1:]))
     if words[0] == '--prove' or words[0] in FLAGS:
         other = [it for it in words if it != '--prove' and it not in FLAGS]
         if other or '--prove' not in words:
             raise Stop('{} goes with --prove and no script: ./editor --help says more'.format(' '.join(words)), 2)
         return Words('prove', [], {FLAGS[it]: True for it in words if it in FLAGS})
     return Words('run', words)
+
+
+def rust_words(words):
+    """The folder for the export, and which libraries it takes."""
+    if words and (len(words) == 1 or len(words) == 3 and words[1] == '--crates') and not words[0].startswith('-'):
+        return [words[0], words[2] if len(words) == 3 else 'stand-in']
+    raise Stop('usage: ./editor --rust FOLDER [--crates stand-in|real|vendor=DIR]', 2)
 
 
 def script_in(words):

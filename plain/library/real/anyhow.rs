@@ -1,0 +1,2 @@
+//! The real `anyhow`.
+pub use ::anyhow::{bail, Context, Error, Result};

@@ -1,0 +1,2 @@
+//! The real `itoa`.
+pub use ::itoa::Buffer;

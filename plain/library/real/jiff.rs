@@ -1,0 +1,4 @@
+//! The real `jiff`.
+pub mod civil {
+    pub use ::jiff::civil::Date;
+}

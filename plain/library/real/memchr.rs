@@ -1,0 +1,2 @@
+//! The real `memchr`.
+pub use ::memchr::{memchr, memchr_iter};
