@@ -11,23 +11,29 @@
 | `forgotten` | the last of the sessions after the first that were removed: nothing is taken back beyond it |
 | `lock` | held by the `yoke` that works here |
 | `refresh.new` | what a `refresh` merges, while it does |
+| `held` | keys of edits that are held back while others are sent, and the number of the session that has them (`yoke/parts.py`) |
 
 Each file appears whole or not at all: it is written under another name, brought to the disk, and then renamed, and the
 folder is brought to the disk after that. So what a later step rests on is there after a loss of power too.
 """
 import contextlib
 import fcntl
+import json
 import os
 import pathlib
 import re
 from dataclasses import dataclass
+from typing import Optional, Tuple
 
 from yoke.trouble import Busy, Refused, Trouble
 
 NAME = re.compile('([0-9]+)-([a-z-]+)\\.(saved|undone)')
-OWN = re.compile('[0-9]+-[a-z-]+\\.(saved|undone)|[0-9]+\\.(osc|answers?|refused)|josm-.*\\.start|changeset|server|forgotten|lock|refresh')
+OWN = re.compile('[0-9]+-[a-z-]+\\.(saved|undone)|[0-9]+\\.(osc|answers?|refused)|josm-.*\\.start|changeset|server|forgotten|lock|refresh|held')
 LAST = 3        # sessions that are kept of those that nothing goes back to any more
 FORGOTTEN = 'forgotten'
+HELD = 'held'
+PART, WHOLE = 'part', 'whole'   # verbs in the names of sessions: some edits are held back, and they are taken up again
+SENT = ('send', WHOLE)          # verbs whose sessions come after something that the server took
 BACK = 20       # sessions to which `undo` can go back, counted from the last
 
 
@@ -42,6 +48,14 @@ class State:
     def text(self):
         """The saved session."""
         return self.path.read_text(encoding='utf-8')
+
+
+@dataclass(frozen=True)
+class Held:
+    """Edits that are held back while others are sent: their keys, and the number of the session that has them."""
+
+    of: int
+    keys: Tuple[str, ...]
 
 
 class Day:
@@ -79,7 +93,9 @@ class Day:
             raise Refused('there is nothing to take back: this session is the first')
         if len(states) == 2 and self.read(FORGOTTEN):
             raise Refused('the session before this one is no longer kept: the last {} are, and those since a chunk was sent'.format(BACK))
-        if states[-1].verb == 'send':
+        if self.held():
+            raise Refused('a part of the edits is being sent: yoke send goes on')
+        if states[-1].verb in SENT:
             raise Refused('the last session was kept after the server took a chunk; that can\'t be taken back here, only by new edits')
         if self.pending():
             raise Refused('it isn\'t known yet what the server took of {}: yoke send looks'.format(self.pending()))
@@ -91,11 +107,13 @@ class Day:
     def _forget(self):
         """Removes sessions to which nothing goes back: all but the first, the last ones, and those since a chunk was sent."""
         states = self.states()
-        sent = max((at for at, state in enumerate(states) if state.verb == 'send'), default=0)
+        held = self.held()
+        sent = max((at for at, state in enumerate(states) if state.verb in SENT), default=0)
         first = max(min(sent, len(states) - LAST), len(states) - BACK)
-        if states[1:first]:
+        gone = [state for state in states[1:first] if held is None or state.number != held.of]
+        if gone:
             self.write(FORGOTTEN, '{:06}\n'.format(states[first - 1].number))
-        for state in states[1:first] + self.states('undone')[:-LAST]:
+        for state in gone + self.states('undone')[:-LAST]:
             state.path.unlink()
 
     # ---- what is sent ----
@@ -113,6 +131,20 @@ class Day:
         states = self.states()
         name = self.beside(states[-1], 'osc') if states else None
         return name if name and self.path(name).exists() else None
+
+    # ---- what is held back ----
+
+    def held(self) -> Optional[Held]:
+        """The edits that are held back; None where none are."""
+        text = self.read(HELD)
+        if text is None:
+            return None
+        found = json.loads(text)
+        return Held(found['of'], tuple(found['keys']))
+
+    def hold(self, held: Held) -> None:
+        """Notes edits that are held back."""
+        self.write(HELD, json.dumps({'of': held.of, 'keys': held.keys}) + '\n')
 
     # ---- files ----
 

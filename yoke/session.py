@@ -44,9 +44,11 @@ class Session:
         return answer
 
     def check_settled(self):
-        """NoAnswer where a document went out, and it isn't known what the server took of it."""
+        """NoAnswer where a document went out, and it isn't known what the server took of it, or where a part of the edits is being sent."""
         if self.day.pending():
             raise NoAnswer('it isn\'t known yet what the server took of {}: yoke send looks, and goes on'.format(self.day.path(self.day.pending())))
+        if self.day.held():
+            raise NoAnswer('a send was stopped while {} edits were held back: the same yoke send goes on'.format(len(self.day.held().keys)))
 
     def confirm(self, name, size):
         """Takes in the answers of a server, which are a file of the day, and keeps the session after them as the work of `send`.

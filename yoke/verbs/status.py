@@ -30,6 +30,8 @@ def advice(day, counts):
     """The next step."""
     if day.pending():
         return 'it isn\'t known what the server took of {}: yoke send looks, and goes on'.format(day.pending())
+    if day.held():
+        return 'a send was stopped while {} edits were held back, which aren\'t counted here: the same yoke send goes on'.format(len(day.held().keys))
     if counts['conflicts']:
         return 'yoke conflicts shows what clashes, and yoke resolve settles it'
     if counts['changed']:
