@@ -14,7 +14,7 @@ else is as the last session has it.**
 |---|---|---|---|---|
 | A | | any | nothing is held back | |
 | B | of N | N | nothing of the part is there yet | removes `held`: row A |
-| C | of N | `part` or `send`, after N | the part is being sent: the rows of `yoke/sending.py` tell how far | settles what is out, and takes the held edits up again |
+| C | of N | `part` or `send`, after N | a part is being sent, as the rows of `sending.py` tell | settles what is out, takes the held edits up again |
 | D | of N | `whole`, after N | all edits are in the last session | removes `held`: row A |
 
 From row to row, each line one write:
@@ -116,7 +116,8 @@ def choose(found: Table, wanted: Wanted, named: Optional[Set[str]], sent: int = 
             count += size(group)
     if smallest and not chosen.groups and not sent:
         raise Refused(
-            f'nothing is sent: the smallest group of edits that hang together has {smallest} changes, '
+            f'nothing is sent: the smallest group of edits that hang together has {smallest} '
+            f'changes, '
             f'and --at-most is {wanted.at_most}'
         )
     return chosen
@@ -312,8 +313,8 @@ def too_large(group: Group, count: int, most: int) -> str:
     """What to say of a group that doesn't fit a document."""
     keys = ','.join(group[:5]) + (',...' if len(group) > 5 else '')
     return (
-        f'{count} changes hang together ({keys}), and a document has {most}: they go out in several, '
-        f'and the map has a part of them meanwhile; a larger --chunk keeps them together'
+        f'{count} changes hang together ({keys}), and a document has {most}: they go out in '
+        f'several, and the map has a part of them meanwhile; a larger --chunk keeps them together'
     )
 
 
