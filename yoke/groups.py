@@ -80,23 +80,29 @@ def with_groups(groups: Iterable[Group], keys: Iterable[str]) -> Set[str]:
 
 def _links(edited: Mapping[str, Known]) -> Iterator[Tuple[str, str]]:
     """Pairs of edits that hang together."""
+    yield from follows(edited)
+    yield from belongs(edited)
+
+
+def follows(edited: Mapping[str, Known]) -> Iterator[Tuple[str, str]]:
+    """Pairs of edits in an order: where the first is taken back the other can't stay."""
     for key, known in edited.items():
-        for reference in _needed(known, edited):
-            yield key, reference
+        mine, base, theirs = (
+            set(side.references) if side else set()
+            for side in (known.mine, known.there, known.theirs)
+        )
+        for reference in mine - {key}:
+            if reference in edited and _is_made(edited[reference]):
+                yield reference, key
+        for reference in (base | theirs) - {key}:
+            if reference in edited and _is_gone(edited[reference]):
+                yield key, reference
+
+
+def belongs(edited: Mapping[str, Known]) -> Iterator[Tuple[str, str]]:
+    """Pairs of edits that are parts of one: of a split, a combine or a reverse."""
     yield from _pieces(edited)
     yield from _places_in_relations(edited)
-
-
-def _needed(known: Known, edited: Mapping[str, Known]) -> Set[str]:
-    """The edited objects to which an edited object refers, in one of its versions, so that both go
-    together.
-    """
-    mine, base, theirs = (
-        set(side.references) if side else set() for side in (known.mine, known.there, known.theirs)
-    )
-    made = {key for key in mine if key in edited and _is_made(edited[key])}
-    gone = {key for key in base | theirs if key in edited and _is_gone(edited[key])}
-    return (made | gone) - {known.key}
 
 
 def _is_made(known: Known) -> bool:

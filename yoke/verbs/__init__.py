@@ -14,7 +14,7 @@ import importlib
 import keyword
 
 NAMES = ['start', 'do', 'status', 'diff', 'undo', 'send', 'refresh', 'conflicts', 'resolve', 'tag', 'show', 'insert', 'add-member', 'turns', 'lint', 'expand',
-         'josm', 'to-josm', 'osc', 'geojson', 'import', 'revert', 'practice', 'get']
+         'josm', 'to-josm', 'osc', 'geojson', 'import', 'revert', 'practice', 'get', 'review']
 
 
 def load(name):
