@@ -52,7 +52,8 @@ class Drawing:
     there: MappingOf[Shape, str] = field(default_factory=dict)
     read: int = 0
     left: List[Tuple[str, str]] = field(default_factory=list)
-    notes: Counter = field(default_factory=Counter)
+    notes: 'Counter[str]' = field(default_factory=Counter)
+    tags: List[Dict[str, str]] = field(default_factory=list)        # those of each feature that was taken
     nodes: Dict[str, Tuple[Place, Dict[str, str]]] = field(default_factory=dict)
     ways: Dict[str, Tuple[List[str], Dict[str, str]]] = field(default_factory=dict)
     relations: Dict[str, Tuple[List[Tuple[str, str]], Dict[str, str]]] = field(default_factory=dict)
@@ -75,6 +76,7 @@ class Drawing:
             self.left.append((feature.where, str(why)))
         else:
             self.notes += notes
+            self.tags.append(tags)
 
     def _add_once(self, where: str, kind: str, shape, tags: Dict[str, str]):
         same = shape_of(kind, shape, tags)

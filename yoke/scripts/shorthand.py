@@ -3,7 +3,7 @@
 | line | written out as |
 |---|---|
 | `tag ( QUERY ) T..`, and so `move`, `delete`, `erase`, `purge` | the line with the keys of what is there and meets the query; nothing where none does |
-| `tag-csv FILE [COLUMN]` | a `tag` line for each row of a table |
+| `tag-csv FILE [COLUMN] [columns=NAME,..]` | a `tag` line for each row of a table, whose columns with these names become tags |
 | `insert NODE WAY [AFTER]` | a `nodes` line |
 | `add-member KEY@ROLE.. RELATION [PLACE]` | a `members` line |
 | `mend-turns [KEYS]` | a `members` line for each turn whose ways don't meet, and of which it is known how they would |
@@ -15,20 +15,22 @@ script, and is counted as any other step that is refused.
 import os
 import re
 from collections import Counter
-from typing import Callable, List, Optional, Tuple
+from typing import Callable, List, Mapping, Optional, Sequence, Tuple
 
 from yoke import opl, sides, table, words
 from yoke.files import data_of
-from yoke.formats import mapping, tag_table
+from yoke.formats import columns, suspicions, tag_plan, tag_table
+from yoke.formats.suspicions import Accepted
 from yoke.program import Answer, BadLine
 from yoke.scripts import grammar, lists, mends, turns
 from yoke.scripts.names import Expanded
 from yoke.trouble import Refused, Trouble
 
 BY_QUERY = ('tag', 'move', 'delete', 'erase', 'purge')      # what may have ( QUERY ) in the place of KEYS: their order says nothing
-FORMS = {'tag-csv': 'tag-csv FILE [COLUMN]', 'insert': 'insert NODE WAY [AFTER]', 'add-member': 'add-member KEY@ROLE,.. RELATION [PLACE]',
+FORMS = {'tag-csv': 'tag-csv FILE [COLUMN] [columns=NAME,..]', 'insert': 'insert NODE WAY [AFTER]', 'add-member': 'add-member KEY@ROLE,.. RELATION [PLACE]',
          'mend-turns': 'mend-turns [KEYS]'}
 STANDS_FOR = 'reverse n1'       # refused whatever there is: a node isn't reversed
+COLUMNS = 'columns='            # with which the word of `tag-csv` begins that names the columns that are tags
 
 
 # ---- which are lines ----
@@ -69,6 +71,16 @@ def query_of(rest: List[str]) -> Tuple[List[str], List[str]]:
     grammar.bad('a bracket isn\'t closed')
 
 
+def tags_of(word: str) -> Mapping[str, str]:
+    """The tags of a word `T..`."""
+    return opl.parse('n1 ' + word).tags
+
+
+def _in_a_script(names: Sequence[str]) -> str:
+    """How the columns that are tags are named in a line of a script."""
+    return COLUMNS + ','.join(map(opl.escape, names))
+
+
 def find_line(query: List[str]) -> str:
     """The line that finds what is there and meets a query."""
     return 'find ( {} ) and not deleted and not incomplete'.format(' '.join(query))
@@ -79,7 +91,18 @@ def _at_most(rest: List[str], least: int, *names: str) -> List[str]:
     return grammar.exactly(rest, *names[:max(least, min(len(rest), len(names)))])
 
 
+def _with_columns(rest: List[str]) -> Tuple[List[str], Optional[List[str]]]:
+    """The words of `tag-csv` without the one that names columns, and these names, None where there is no such word."""
+    if not rest[1:] or not rest[-1].startswith(COLUMNS):
+        return rest, None
+    return rest[:-1], rest[-1][len(COLUMNS):].split(',')
+
+
 def _check_tag_csv(rest):
+    rest, names = _with_columns(rest)
+    for name in names or ():
+        if not grammar.check_text(name, 'the column'):
+            grammar.bad('a column of {} is empty', COLUMNS)
     _at_most(rest, 1, 'FILE', 'COLUMN')
     grammar.check_file(rest[0])
     if rest[1:] and not grammar.check_text(rest[1], 'the column'):
@@ -140,7 +163,8 @@ def candidates(line: str):
     if verb in BY_QUERY and rest and (rest[0] == 'find' or rest[0].startswith('(')):
         yield _query(verb, rest)
     elif verb == 'tag-csv' and rest:
-        yield ' '.join([verb, mends.file(' '.join(rest))])
+        names = [word for word in rest[1:] if word.startswith(COLUMNS)]
+        yield ' '.join([verb, mends.file(' '.join(word for word in rest if word not in names)), *names])
     elif verb == 'insert':
         rest = [word for word in rest if word not in ('into', 'after')]
         yield ' '.join([verb] + rest)
@@ -171,14 +195,15 @@ def likely_verb(word: str) -> str:
 
 # ---- written out ----
 
-def write_out(script: Expanded, look: Callable[[List[str]], Answer]) -> Expanded:
+def write_out(script: Expanded, look: Callable[[List[str]], Answer], accepted: Optional[Accepted] = None) -> Expanded:
     """Writes the lines of a script without names out, as the program takes them; each has to be a line by `check_line`.
 
     `look` answers to lines of the program, refused ones too, over what the script begins with; nothing is kept of it.
+    `accepted` is what the user takes although it looks wrong.
     """
     if not any(map(is_short, script.lines)):
         return script
-    return _Writer(script, look).write()
+    return _Writer(script, look, accepted or Accepted()).write()
 
 
 class _GivenUp(Exception):
@@ -192,8 +217,8 @@ class _Writer:
     as they were, which matters to who changes one of them again.
     """
 
-    def __init__(self, script: Expanded, look):
-        self.script, self.look, self.number = script, look, 0
+    def __init__(self, script: Expanded, look: Callable[[List[str]], Answer], accepted: Accepted):
+        self.script, self.look, self.accepted, self.number = script, look, accepted, 0
         self.done = Expanded([], [], script.names)
         self.table: Optional[table.Table] = None
         self.changed = set()
@@ -263,14 +288,19 @@ class _Writer:
         query, more = query_of(rest)
         keys = self._answer(find_line(query)).found()
         self._note('{} object{} found'.format(len(keys) or 'no', '' if len(keys) == 1 else 's'))
+        if verb == 'tag':
+            self._check_alike(keys, tags_of(more[0]))
         if keys:
             self._add(' '.join([verb, ','.join(keys)] + more))
 
     def _tag_csv(self, rest: List[str]):
+        rest, named = _with_columns(rest)
         name, *column = (opl.unescape(word) for word in rest)
-        notes = Counter()
+        notes: 'Counter[str]' = Counter()
         try:
-            rows = tag_table.read(data_of(os.path.join(os.curdir, name) if name == '-' else name), column[0] if column else None, mapping.Mapping(), notes)
+            sheet = tag_table.sheet_of(data_of(os.path.join(os.curdir, name) if name == '-' else name))
+            keys = tag_table.key_columns(sheet.names, column[0] if column else None)
+            rows = self._rows(sheet, keys, named, notes)
         except Trouble as trouble:
             raise Refused(str(trouble)) from None
         except ValueError as error:
@@ -287,6 +317,26 @@ class _Writer:
                 self._refuse(row.problem, row=where)
             elif row.tags:
                 self._add('tag {} T{}'.format(row.key, opl.tags(row.tags)), where)
+
+    def _rows(self, sheet: tag_table.Sheet, keys: Sequence[str], named: Optional[List[str]], notes: 'Counter[str]') -> List[tag_table.Row]:
+        """The rows of a table, without those whose objects have another value than the one expected; Refused where the table looks wrong."""
+        given = None if named is None else [columns.word_of(map(opl.unescape, named))]
+        guards = tag_table.guards(sheet.names)
+        used = [*keys, *(name for name in sheet.names if name.startswith(tag_table.OLD))]
+        mapping = columns.mapping_of(None, given, sheet.names, used, sheet.columns(), self.accepted, lambda question: False, _in_a_script)
+        plan = tag_plan.Plan(tag_table.each_once(tag_table.rows_of(sheet, keys, mapping, guards, notes)))
+        self.accepted.stop(tag_plan.of_sheet(sheet, mapping, keys) + list(suspicions.of_tags([row.tags for row in plan.rows if row.tags])))
+        if guards:
+            plan = tag_plan.guarded(plan, self._known())
+            notes['rows whose object has changed, and that are left out'] += len(plan.changed)
+        return plan.rows
+
+    def _check_alike(self, keys: Sequence[str], tags: Mapping[str, str]) -> None:
+        """Refused where tags that each object has for itself would be the same in all."""
+        individual = [key for key in tags if suspicions.is_individual(key)]
+        if len(keys) > 1 and individual:
+            things = [self._known().mine(key) for key in keys]
+            self.accepted.stop(list(suspicions.of_query(individual, tags, [thing.tags for thing in things if thing])))
 
     def _insert(self, rest: List[str]):
         self._add_list(lists.insert_line(self._known(rest[1]), *rest), rest[1])

@@ -45,7 +45,7 @@ class Bound(FolderTest):
 
     def test_a_table_and_an_expanded_script(self) -> None:
         self.write('a.csv', 'key,surface\nw5,gravel\n')
-        self.done('tag', '--csv', 'a.csv', '--to', 'a.script')
+        self.done('tag', '--csv', 'a.csv', '--columns', 'surface', '--to', 'a.script')
         self.write('b.script', 'tag ( way ) Tlit=yes\n')
         expanded = self.done('expand', '--session', 'b.script')
         self.write('c.script', expanded)

@@ -120,10 +120,10 @@ class Verbs(FolderTest):
 
     def test_import_of_geojson(self):
         self.write('houses.geojson', HOUSES)
-        self.assertIn('features: 7 read, 0 taken, 7 left out', self.yoke('import', 'houses.geojson', code=1))
-        self.assertIn('yoke: nothing is done: 2 features were left out', self.yoke('import', 'houses.geojson', '--within', '13,52,14,53', '--all', code=1))
+        self.assertIn('features: 7 read, 0 taken, 7 left out', self.yoke('import', 'houses.geojson', '--accept', 'columns', code=1))
+        self.assertIn('yoke: nothing is done: 2 features were left out', self.yoke('import', 'houses.geojson', '--accept', 'columns', '--within', '13,52,14,53', '--all', code=1))
         self.assertEqual(self.states(), 1)
-        said = self.done('import', 'houses.geojson', '--within', '13,52,14,53', '--report', 'report.txt')
+        said = self.done('import', 'houses.geojson', '--accept', 'columns', '--within', '13,52,14,53', '--report', 'report.txt')
         self.assertIn('objects: 14 nodes, 5 ways, 1 relations\n', said)
         self.assertNotIn('left out: feature', said)
         self.assertIn('left out: feature 4: it has no geometry\n', pathlib.Path('report.txt').read_text())
@@ -132,27 +132,27 @@ class Verbs(FolderTest):
 
     def test_import_of_a_part(self):
         self.write('houses.geojson', HOUSES)
-        self.assertIn('features: 2 read, 2 taken, 0 left out\nobjects: 6 nodes, 2 ways, 0 relations\n', self.done('import', 'houses.geojson', '--within', '13,52,14,53', '--features', '1-2'))
-        self.assertIn('features: 4 read, 2 taken, 2 left out', self.done('import', 'houses.geojson', '--within', '13,52,14,53', '--features', '2-5'))
+        self.assertIn('features: 2 read, 2 taken, 0 left out\nobjects: 6 nodes, 2 ways, 0 relations\n', self.done('import', 'houses.geojson', '--accept', 'columns', '--within', '13,52,14,53', '--features', '1-2'))
+        self.assertIn('features: 4 read, 2 taken, 2 left out', self.done('import', 'houses.geojson', '--accept', 'columns', '--within', '13,52,14,53', '--features', '2-5'))
         for words, code, text in [(['--features', '8-9'], 1, 'the file has 7 features'), (['--features', '3-2'], 2, 'two numbers'), (['--features', '0-2'], 2, 'two numbers'),
                                   (['--features', 'all'], 2, 'two numbers')]:
-            self.assertIn(text, self.yoke('import', 'houses.geojson', *words, code=code))
+            self.assertIn(text, self.yoke('import', 'houses.geojson', '--accept', 'columns', *words, code=code))
         self.assertEqual(self.states(), 3)
 
     def test_the_same_import_again_does_nothing(self):
         self.write('houses.geojson', HOUSES)
-        self.done('import', 'houses.geojson', '--within', '13,52,14,53')
-        said = self.yoke('import', 'houses.geojson', '--within', '13,52,14,53', code=1)
+        self.done('import', 'houses.geojson', '--accept', 'columns', '--within', '13,52,14,53')
+        said = self.yoke('import', 'houses.geojson', '--accept', 'columns', '--within', '13,52,14,53', code=1)
         self.assertIn('left out: feature 1: the session has it already, as w-15\n', said)
         self.assertIn('yoke: nothing is done: no feature was taken', said)
-        self.assertIn('features: 7 read, 5 taken, 2 left out', self.done('import', 'houses.geojson', '--within', '13,52,14,53', '--again'))
+        self.assertIn('features: 7 read, 5 taken, 2 left out', self.done('import', 'houses.geojson', '--accept', 'columns', '--within', '13,52,14,53', '--again'))
 
     def test_import_of_csv(self):
         self.write('addresses.csv', ADDRESSES)
         self.write('town.rules', RULES)
         self.assertIn('features: 6 read, 3 taken, 3 left out', self.done('import', 'addresses.csv', '--within', '13,52,14,53', '--tags', 'town.rules'))
         self.assertEqual(self.table().mine('n-1').tags['addr:housenumber'], '12a')
-        self.done('import', 'addresses.csv', '--anywhere', '--to', 'new.opl')
+        self.done('import', 'addresses.csv', '--accept', 'columns', '--anywhere', '--to', 'new.opl')
         self.assertTrue(pathlib.Path('new.opl').read_text().startswith('n-1 THNR=12,STR=Hohe%20%Straße,'))
 
     def test_an_output_never_takes_the_place_of_what_is_read(self):
@@ -173,8 +173,8 @@ class Verbs(FolderTest):
                 (['addresses.csv', '--to', 'day/000001-start.saved'], 'it is a file of the day itself'), (['addresses.csv', '--report', 'day/server'], 'a file of the day itself')]:
             self.assertIn(said, self.yoke('import', *words, '--anywhere', code=1), words)
             self.assertEqual(({path: path.read_bytes() for path in pathlib.Path().glob('*.*')}, self.states(), os.listdir('sub')), (before, 1, []), words)
-        self.done('import', 'addresses.csv', '--anywhere', '--to', 'new.opl', '--report', 'new.txt')
-        self.done('import', 'addresses.csv', '--anywhere', '--to', 'new.opl', '--report', 'new.txt')
+        self.done('import', 'addresses.csv', '--accept', 'columns', '--anywhere', '--to', 'new.opl', '--report', 'new.txt')
+        self.done('import', 'addresses.csv', '--accept', 'columns', '--anywhere', '--to', 'new.opl', '--report', 'new.txt')
 
     def test_geojson_never_takes_the_place_of_a_file_of_the_day(self):
         os.symlink('day/000001-start.saved', 'link')
@@ -185,7 +185,7 @@ class Verbs(FolderTest):
 
     def test_import_over_nodes_that_are_there(self):
         self.write('a.geojson', json.dumps({'type': 'Feature', 'properties': {'highway': 'path'}, 'geometry': {'type': 'LineString', 'coordinates': [[9.5001, 47.1401], [9.5002, 47.1402]]}}))
-        self.done('import', 'a.geojson', '--join')
+        self.done('import', 'a.geojson', '--join', '--columns', 'highway')
         self.assertEqual(self.table().mine('w-2').nodes, ('n1', 'n-1'))
 
     def test_words_of_import(self):

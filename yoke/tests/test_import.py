@@ -155,7 +155,7 @@ class GeoJson(unittest.TestCase):
     def test_files_that_are_none(self):
         for data, why in [
                 (b'', 'it is no JSON'), (b'[]', 'it is no GeoJSON: a "type" is missing'), (b'{"type": "FeatureCollection"}', 'without "features"'), (b'{', 'it is no JSON'),
-                (b'\xff\xfe{', "it isn't UTF-8, from byte 0 on"),
+                (b'\xff\xfe{', "it begins as utf-16 and isn't, from byte 2 on"), (b'{"a": "\xfc"}', "it isn't UTF-8, first in line 1, which reads as cp1252"),
                 (b'{"type": "FeatureCollection", "crs": {"properties": {"name": "urn:ogc:def:crs:EPSG::25833"}}, "features": []}', 'EPSG::25833, and degrees are wanted')]:
             with self.assertRaisesRegex(ValueError, why):
                 features.read_geojson(data)

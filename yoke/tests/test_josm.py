@@ -265,7 +265,7 @@ class Both(ServerTest):
             {'type': 'Feature', 'properties': {'building': 'yes', 'ref': '1'}, 'geometry': {'type': 'Polygon', 'coordinates': [square(9.501, 47.142, 0.001), square(9.5012, 47.1422, 0.0002)]}},
             {'type': 'Feature', 'properties': {'building': 'yes', 'ref': '2'},
              'geometry': {'type': 'MultiPolygon', 'coordinates': [[square(9.503, 47.142, 0.001)], [square(9.505, 47.142, 0.001)]]}}]}))
-        self.done('import', 'a.geojson', '--anywhere')
+        self.done('import', 'a.geojson', '--anywhere', '--accept', 'columns')
         layer = self.opened()
         parts = {one.tags['ref']: one for one in layer.living() if one.tags.get('building') == 'yes'}
         inner = next(number for _, number, role in parts['1'].members if role == 'inner')

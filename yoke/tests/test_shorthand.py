@@ -31,6 +31,8 @@ erase\t(  way  )
 purge ( way )
 tag-csv surfaces.csv
 tag-csv my%20%surfaces.csv the%20%key
+tag-csv surfaces.csv columns=surface,lit
+tag-csv surfaces.csv the%20%key columns=a%20%b
 insert n7 w5
 insert n-7 w5 n2
 insert n7 w-5 0
@@ -55,9 +57,10 @@ BAD = [         # a line, the cause, what is right, and whether that is a mend
     ('delete n1 (old)', '(old) is too much', 'delete KEYS', False),
     ('delete ( way ) Ta=b', 'Ta=b is too much', 'delete ( ( way ) and Ta=b )', True),
     ('split ( way ) n1', ') n1 is too much', None, None),
-    ('tag-csv', 'FILE is missing', 'tag-csv FILE [COLUMN]', False),
+    ('tag-csv', 'FILE is missing', 'tag-csv FILE [COLUMN] [columns=NAME,..]', False),
     ('tag-csv a b c', 'c is too much', 'tag-csv a%20%b%20%c', True),
     ('tag-csv a,b', 'the file a,b has a ,, which is written %2c%', 'tag-csv a%2c%b', True),
+    ('tag-csv a.csv columns=', 'a column of columns= is empty', 'tag-csv FILE [COLUMN] [columns=NAME,..]', False),
     ('insert n7', 'WAY is missing', 'insert NODE WAY [AFTER]', False),
     ('insert w5 n7', 'w5 is no node', 'insert n7 w5', True),
     ('insert n7 into w5', 'into is no key: n, w or r and an id, as n1 and w-2', 'insert n7 w5', True),
@@ -157,20 +160,20 @@ class Script(FolderTest):
         self.assertIn('nothing is kept: 1 of 2 steps was refused', self.err)
 
     def test_a_table(self):
-        self.assertEqual(self.kept('tag-csv surfaces.csv', 'tag ( Tsurface=asphalt ) Tlit=yes'), ['a.script:1: surfaces.csv: 2 of 3 rows have tags', 'a.script:2: 1 object found'])
+        self.assertEqual(self.kept('tag-csv surfaces.csv columns=surface', 'tag ( Tsurface=asphalt ) Tlit=yes'), ['a.script:1: surfaces.csv: 2 of 3 rows have tags', 'a.script:2: 1 object found'])
         self.assertEqual([self.mine(key).tags.get('surface') for key in ('w5', 'w6', 'n1')], ['asphalt', 'fine, gravel', None])
         self.write('my table.csv', 'the key,ref\nw6,9\n')
-        self.kept('tag-csv my%20%table.csv the%20%key')
+        self.kept('tag-csv my%20%table.csv the%20%key columns=ref')
         self.assertEqual(self.mine('w6').tags['ref'], '9')
 
     def test_a_table_called_as_standard_input(self):
         self.write('-', SURFACES)
-        self.kept('tag-csv -')
+        self.kept('tag-csv - columns=surface')
         self.assertEqual(self.mine('w5').tags['surface'], 'asphalt')
 
     def test_rows_that_are_refused(self):
         self.write('b.csv', 'key,ref\nw5,1\nn9,2\nx7,3\nw6,4\n')
-        lines = ['tag n1 Tref=0', 'tag-csv b.csv']
+        lines = ['tag n1 Tref=0', 'tag-csv b.csv columns=ref']
         told = ['a.script:2: b.csv: 3 of 4 rows have tags', 'a.script:2: b.csv:3: refused: tag n9 Tref=2: n9 is deleted: name another one, or take the deletion back (refusal 3)',
                 'a.script:2: b.csv:4: refused: x7 names no object: as w5 or way/5']
         self.assertEqual(self.refused(*lines), told)
@@ -181,7 +184,7 @@ class Script(FolderTest):
 
     def test_a_strict_script_ends_at_a_row(self):
         self.write('b.csv', 'key,ref\nw5,1\nx7,3\nw6,4\nx8,1\n')
-        lines = ['tag n1 Tref=0', 'tag-csv b.csv', 'tag n3 Tref=5']
+        lines = ['tag n1 Tref=0', 'tag-csv b.csv columns=ref', 'tag n3 Tref=5']
         self.assertEqual(self.refused(*lines, words=['--strict'])[1:], ['a.script:2: b.csv:3: refused: x7 names no object: as w5 or way/5'])
         self.assertIn('nothing is kept: it ended at line 2', self.err)
         self.assertEqual(Refused.code, self.yoke('do', 'a.script', '--strict', '--keep'))
@@ -194,8 +197,8 @@ class Script(FolderTest):
         (self.folder / 'folder').mkdir()
         for name, text in [('no.csv', 'there is no file no.csv'), ('empty.csv', 'empty.csv: it is empty'), ('folder', 'folder is a folder'), ('id.csv', 'id.csv: no column names the objects'),
                            ('none.csv', 'none.csv: no row has a tag')]:
-            told, = self.refused('tag n1 Ta=b', 'tag-csv ' + name)
-            self.assertTrue(told.startswith('a.script:2: refused: tag-csv {}: {}'.format(name, text)), told)
+            told, = self.refused('tag n1 Ta=b', 'tag-csv {} columns=ref'.format(name))
+            self.assertTrue(told.startswith('a.script:2: refused: tag-csv {} columns=ref: {}'.format(name, text)), told)
 
     def test_a_node_into_a_way(self):
         self.assertEqual(self.kept('insert n7 w5', 'insert n4 w5 n1', 'insert n8 w5 0', 'insert n7 w6 1'), [
@@ -228,7 +231,7 @@ class Script(FolderTest):
         self.assertEqual([self.mine(key).tags for key in ('n1', 'n3')], [{'a': 'b'}] * 2)
 
     def test_it_gives_up_its_group(self):
-        lines = ['begin', 'tag n1 Ta=b', 'insert n99 w5', 'tag ( way ) Ta=b', 'insert n7 w5', 'tag-csv surfaces.csv', 'mend-turns', 'end', 'tag n3 Ta=b']
+        lines = ['begin', 'tag n1 Ta=b', 'insert n99 w5', 'tag ( way ) Ta=b', 'insert n7 w5', 'tag-csv surfaces.csv columns=surface', 'mend-turns', 'end', 'tag n3 Ta=b']
         self.assertEqual([line for line in self.refused(*lines) if 'refused' in line], ['a.script:3: refused: insert n99 w5: there is no n99 in the session'])
         self.assertEqual(Refused.code, self.yoke('do', '--keep', 'a.script'))
         self.assertEqual([key for key, known in self.session.known().items() if known.edit], ['n3'])
@@ -278,7 +281,7 @@ class Script(FolderTest):
         self.assertEqual(self.refused('tag ( way ) Ta=b', code=NoAnswer.code), [])
 
     def test_expand_over_the_day(self):
-        self.script('tag ( Tamenity=bench ) Tref=7', 'tag-csv surfaces.csv', '# a comment', 'insert n7 w5', 'tag ( Tno=* ) Tref=', 'node x1 y1 T as a')
+        self.script('tag ( Tamenity=bench ) Tref=7', 'tag-csv surfaces.csv columns=surface', '# a comment', 'insert n7 w5', 'tag ( Tno=* ) Tref=', 'node x1 y1 T as a')
         head, _, lines = self.done('expand', '--session', 'a.script').partition('\n')
         self.assertRegex(head, '^# for session [0-9a-f]{16}, 000001-start of day$')
         self.assertEqual(lines, 'tag n8 Tref=7\ntag w5 Tsurface=asphalt\ntag w6 Tsurface=fine%2c%%20%gravel\n# a comment\nnodes w5 Nn1,n2,n7,n3\n'
@@ -295,7 +298,7 @@ class Script(FolderTest):
 
     def test_what_expand_refuses(self):
         self.write('b.csv', 'key,ref\nw5,1\nx7,3\n')
-        for lines, code, why in [(['tag-csv b.csv'], Refused.code, 'a.script:1: b.csv:3: x7 names no object'), (['insert n99 w5'], Refused.code, 'a.script:1: there is no n99 in the session'),
+        for lines, code, why in [(['tag-csv b.csv columns=ref'], Refused.code, 'a.script:1: b.csv:3: x7 names no object'), (['insert n99 w5'], Refused.code, 'a.script:1: there is no n99 in the session'),
                                  (['tag ( way T'], BadLine.code, 'a.script:1: no line of a script: tag ( way T: a bracket')]:
             self.script(*lines)
             self.assertEqual(code, self.yoke('expand', '--session', 'a.script'))

@@ -60,29 +60,29 @@ class Tag(FolderTest):
 
     def test_a_table(self):
         self.write('a.csv', '\ufeffkey;surface;lit\r\nw5;asphalt;\r\nway/6;"fine; gravel";yes\r\nhttps://www.openstreetmap.org/node/1;;\r\n')
-        self.assertEqual(self.done('tag', '--csv', 'a.csv'), 'kept as day/000002-tag.saved\n2 of 3 rows taken\n')
+        self.assertEqual(self.done('tag', '--csv', 'a.csv', '--columns', 'surface,lit'), 'kept as day/000002-tag.saved\n2 of 3 rows taken\n')
         self.assertEqual([self.mine(key).get('surface') for key in ('w5', 'w6', 'n1')], ['asphalt', 'fine; gravel', None])
         self.assertEqual(('residential', None, 'yes'), (self.mine('w5')['highway'], self.mine('w5').get('lit'), self.mine('w6').get('lit')))
 
     def test_rows_that_are_refused(self):
         self.write('a.csv', '@type,@id,surface\nway,5,asphalt\nway,6,gravel\nnode,9,sand\nway,77,sand\n')
-        self.assertEqual(Refused.code, self.yoke('tag', '--csv', 'a.csv'))
+        self.assertEqual(Refused.code, self.yoke('tag', '--csv', 'a.csv', '--columns', 'surface'))
         self.assertIn('a.csv:4: refused: tag n9 Tsurface=sand: n9 is deleted', self.out)
         self.assertIn('a.csv:5: refused: tag w77 Tsurface=sand: w77 is only referred to', self.out)
         self.assertIn('nothing is kept: 2 of 4 steps were refused', self.err)
         self.assertEqual(self.day.last().number, 1)
-        self.assertEqual(Refused.code, self.yoke('tag', '--csv', 'a.csv', '--keep'))
+        self.assertEqual(Refused.code, self.yoke('tag', '--csv', 'a.csv', '--columns', 'surface', '--keep'))
         self.assertIn('2 of 4 rows taken', self.out)
         self.assertEqual(self.mine('w6')['surface'], 'gravel')
 
     def test_rows_that_are_none(self):
         self.write('a.csv', 'key,surface\nw5,asphalt\nx7,sand\nw6\nw6,{}\nway/5,gravel\n,sand\n'.format('x' * 256))
-        self.assertEqual(Refused.code, self.yoke('tag', '--csv', 'a.csv'))
+        self.assertEqual(Refused.code, self.yoke('tag', '--csv', 'a.csv', '--columns', 'surface'))
         self.assertEqual(self.out, 'a.csv:3: refused: x7 names no object: as w5 or way/5\na.csv:4: refused: it has 1 fields, and the first line has 2\n'
                          'a.csv:5: refused: surface: the value has 256 characters, and the map takes 255\na.csv:6: refused: w5 stands in line 2 already\n'
                          'a.csv:7: refused: an empty field names no object: as w5 or way/5\n')
         self.assertEqual(self.err, 'yoke: nothing is kept: 5 of 6 rows can\'t be taken\n')
-        self.assertEqual(Refused.code, self.yoke('tag', '--csv', 'a.csv', '--keep'))
+        self.assertEqual(Refused.code, self.yoke('tag', '--csv', 'a.csv', '--columns', 'surface', '--keep'))
         self.assertIn('1 of 6 rows taken', self.out)
 
     def test_a_table_with_rules(self):
@@ -94,7 +94,7 @@ class Tag(FolderTest):
     def test_tables_that_are_none(self):
         for text, words in [('', 'it is empty'), ('id,surface\n5,a\n', 'no column names the objects'), ('key,a,a\n', 'the column a stands twice'), ('key,a\n', 'no row has a tag')]:
             self.write('a.csv', text)
-            self.assertIn(self.yoke('tag', '--csv', 'a.csv'), (Trouble.code, Refused.code))
+            self.assertIn(self.yoke('tag', '--csv', 'a.csv', '--columns', 'a'), (Trouble.code, Refused.code))
             self.assertIn(words, self.err)
 
     def test_keys(self):

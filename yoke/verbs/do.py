@@ -4,6 +4,7 @@ import re
 import sys
 
 from yoke import opl, results, words
+from yoke.formats.suspicions import Accepted
 from yoke.program import BadLine
 from yoke.scripts import bound, lint
 from yoke.session import Session
@@ -27,8 +28,15 @@ OURS = {
 def add_arguments(parser):
     parser.add_argument('script', metavar='SCRIPT', help='a file of lines; - is standard input')
     parser.add_argument('--keep', action='store_true', help='keep what was done although steps were refused')
+    add_accept(parser)
     parser.add_argument('--strict', action='store_true', help='end at the first refused step; with --keep what was done before it is kept')
     parser.add_argument(bound.INSIST, action='store_true', help='run a script although it was made from another session')
+
+
+def add_accept(parser):
+    """The option by which a user takes what looks wrong."""
+    parser.add_argument('--accept', metavar='NAMES', action='append',
+                        help='take what was named as suspicious, such as same-value:name; with commas between several')
 
 
 def run(arguments):
@@ -39,7 +47,7 @@ def run(arguments):
         session.check_settled()
         if not arguments.any_session:
             bound.check(name, lines, session.day.last())
-        expanded = expand.over_session(name, lines, session)
+        expanded = expand.over_session(name, lines, session, Accepted.of(arguments.accept))
         for number, text in expanded.notes:
             print('{}:{}: {}'.format(name, number, text))
         began = session.known()

@@ -19,7 +19,7 @@ tag path Tsurface=gravel
 that makes an object to the last one with a name all lines become one group: where one is refused, nothing of it is done.
 
 tag ( way and Thighway=* ) Tlit=yes       the objects that a query finds; so move, delete, erase and purge
-tag-csv surfaces.csv                      a row for each object, a column for each tag; a COLUMN after it names the objects
+tag-csv surfaces.csv columns=surface,lit  a row for each object, a column for each tag; a COLUMN after FILE names the objects
 insert n7 w5                              a node into a way, where it lies nearest; or after n2, or after so many nodes
 add-member w7@outer,w8@ r9                members at the end of a relation, or from the place after it on
 mend-turns r3,r4                          turns whose ways don't meet; without keys all that can be mended
@@ -60,15 +60,16 @@ def run(arguments):
     return 0
 
 
-def over_session(name, lines, session):
+def over_session(name, lines, session, accepted=None):
     """The lines of a script as the program takes them over the session as it is now; the folder of the day has to be locked."""
-    return expand(name, lines, table.next_new(session.day.last().text()), lambda steps: session.ask(steps, allow_refused=True))
+    return expand(name, lines, table.next_new(session.day.last().text()), lambda steps: session.ask(steps, allow_refused=True), accepted)
 
 
-def expand(name, lines, number, look):
+def expand(name, lines, number, look, accepted=None):
     """The lines of a script as the program takes them; Refused, with the line, where a name can't be written out, BadLine where a line is none.
 
-    `number` is that of the next new object. `look` answers to lines over what the script begins with.
+    `number` is that of the next new object. `look` answers to lines over what the script begins with. `accepted` is what
+    the user takes although it looks wrong.
     """
     try:
         script = names.expand(lines, number, lint.count)
@@ -78,7 +79,7 @@ def expand(name, lines, number, look):
         for found in findings.findings(script.lines, short=True)[:1]:
             raise bad_line(name, script, found.line, findings.told(found))
     try:
-        return shorthand.write_out(script, look)
+        return shorthand.write_out(script, look, accepted)
     except BadLine as bad:
         raise BadLine('{}:{}: {}'.format(name, bad.line, bad), bad.line) from None
 

@@ -1,14 +1,24 @@
 """`yoke import`: features of GeoJSON or CSV as new objects of the session."""
+import argparse
+import contextlib
 import os
 import pathlib
 import re
 import tempfile
+from collections import Counter
+from dataclasses import dataclass
+from typing import Dict, List, Optional, Tuple
 
 from yoke import day, opl, table
 from yoke.files import check_outputs, data_of
-from yoke.formats import drawing, features, mapping
+from yoke.formats import columns, drawing, features, mapping, suspicions, tag_table
+from yoke.formats.features import Feature
+from yoke.formats.mapping import Mapping, scalar
+from yoke.formats.suspicions import Accepted, Suspicion
+from yoke.formats.tag_table import Sheet
 from yoke.session import Session
 from yoke.trouble import Refused, Trouble, Usage
+from yoke.verbs import do
 
 SUMMARY = 'make new objects of the features of a GeoJSON or CSV file'
 DETAILS = """A feature comes whole or not at all; corners at one place are one node. Each feature that is left out is named with the cause.
@@ -19,11 +29,14 @@ OpenStreetMap: https://wiki.openstreetmap.org/wiki/Import/Guidelines"""
 LEAST = 10 ** 5     # by how much the session's own box is widened at least, in units of 10^-7 degree
 
 
-def add_arguments(parser):
+def add_arguments(parser: argparse.ArgumentParser) -> None:
     parser.add_argument('file', metavar='FILE', help='.geojson, .json, .geojsonl or .csv, .tsv')
     parser.add_argument('--within', metavar='W,S,E,N', help='the bounds in degrees: what lies outside is left out')
     parser.add_argument('--anywhere', action='store_true', help='no bounds')
     parser.add_argument('--tags', metavar='RULES', help='a file of rules by which properties become tags')
+    parser.add_argument('--columns', metavar='NAMES', action='append', help='the properties that become tags under their own names, with commas between them')
+    do.add_accept(parser)
+    parser.add_argument('--encoding', metavar='NAME', help='the encoding of FILE, such as cp1252; else UTF-8')
     parser.add_argument('--latitude-first', action='store_true', help='in FILE the latitude stands before the longitude')
     parser.add_argument('--lon', metavar='COLUMN', help='the column of the longitude of a CSV')
     parser.add_argument('--lat', metavar='COLUMN', help='the column of the latitude of a CSV')
@@ -35,13 +48,20 @@ def add_arguments(parser):
     parser.add_argument('--to', metavar='FILE.opl', help='write the new objects for `import` into a file, and do nothing')
 
 
-def run(arguments):
+def run(arguments: argparse.Namespace) -> int:
     if arguments.within and arguments.anywhere:
         raise Usage('--within or --anywhere, not both')
-    session = Session.of(arguments)
+    session, accepted = Session.of(arguments), Accepted.of(arguments.accept)
     check_outputs(filter(None, [arguments.report, arguments.to]), filter(None, [arguments.file, arguments.tags]), session.day.folder)
+    named = rules(arguments.tags) if arguments.tags else None
+    given_box(arguments)
+    source = read(arguments)
+    chosen = tags_of(arguments, source, named, accepted)
+    wanted = part(source.features, arguments.features)
+    accepted.stop(of_source(source, wanted, chosen))
     with session.day.locked():
-        picture = draw(arguments, table.read(session.day.last().text()))
+        picture = draw(arguments, table.read(session.day.last().text()), wanted, chosen)
+        accepted.stop(list(suspicions.of_tags(picture.tags)))
         report(picture, arguments.report)
         if picture.left and arguments.all:
             raise Refused('nothing is done: {} features were left out'.format(len(picture.left)))
@@ -60,17 +80,35 @@ def run(arguments):
     return 0
 
 
-def draw(arguments, found):
-    """The new objects of the file that the words name, over a session."""
+@dataclass(frozen=True)
+class Source:
+    """A file of features: these, the names of their properties, and the table, where it is one."""
+
+    features: List[Feature]
+    names: List[str]
+    sheet: Optional[Sheet] = None
+
+    def values(self, wanted: List[Feature]) -> Dict[str, List[Tuple[str, str]]]:
+        """The values of features by property, each with the place where its feature stands, as `line 7`."""
+        found: Dict[str, List[Tuple[str, str]]] = {name: [] for name in self.names}
+        for one in wanted:
+            for name, value in one.properties.items():
+                with contextlib.suppress(mapping.Left):
+                    found[name].append((one.where, value if isinstance(value, str) else scalar(value, name, Counter())))
+        return found
+
+
+def draw(arguments: argparse.Namespace, found: table.Table, wanted: List[Feature], chosen: Mapping) -> drawing.Drawing:
+    """The new objects of features, over a session."""
     there = {drawing.place_of(known.mine): key for key, known in reversed(list(found.things.items())) if known.mine and key[0] == 'n'}
-    picture = drawing.Drawing(rules(arguments.tags), bounds(arguments, there), arguments.latitude_first, there if arguments.join else {},
+    picture = drawing.Drawing(chosen, bounds(arguments, there), arguments.latitude_first, there if arguments.join else {},
                               {} if arguments.again else drawing.shapes_of(found))
-    for feature in part(read(arguments), arguments.features):
+    for feature in wanted:
         picture.add(feature)
     return picture
 
 
-def part(found, text):
+def part(found: List[Feature], text: Optional[str]) -> List[Feature]:
     """The features of a file that `N-M` names; all where it is None."""
     if text is None:
         return found
@@ -83,17 +121,40 @@ def part(found, text):
     return found[first - 1:last]
 
 
-def read(arguments):
+def read(arguments: argparse.Namespace) -> Source:
     """The features of the file."""
     data, name = data_of(arguments.file), arguments.file.lower()
     is_table = pathlib.Path(name[:-3] if name.endswith('.gz') else name).suffix in ('.csv', '.tsv', '.txt')
     try:
-        return features.read_csv(data, arguments.lon, arguments.lat) if is_table else features.read_geojson(data)
+        if not is_table:
+            found = features.read_geojson(data, arguments.encoding)
+            return Source(found, features.names_of(found))
+        sheet = tag_table.sheet_of(data, arguments.encoding)
+        places = features.place_columns(sheet.names, arguments.lon, arguments.lat)
+        return Source(features.points(sheet.names, sheet.rows, sheet.sign, arguments.lon, arguments.lat),
+                      [one for at, one in enumerate(sheet.names) if one and at not in places], sheet)
     except ValueError as error:
         raise Trouble('{}: {}'.format(arguments.file, error)) from None
 
 
-def rules(name):
+def tags_of(arguments: argparse.Namespace, source: Source, named: Optional[Mapping], accepted: Accepted) -> Mapping:
+    """The rules by which properties become tags, all of which the user named or confirmed."""
+    texts = {name: [text for _, text in values] for name, values in source.values(source.features).items()}
+    return columns.mapping_of(named, arguments.columns, source.names, (), texts, accepted)
+
+
+def of_source(source: Source, wanted: List[Feature], chosen: Mapping) -> List[Suspicion]:
+    """What is suspicious in the values that become tags."""
+    values = source.values(wanted)
+    used = {name: found for name, found in values.items() if chosen.uses(name)}
+    found = list(suspicions.of_columns(used))
+    if source.sheet:
+        rows = [source.sheet.rows[one.number - 1] for one in wanted]
+        found += [*suspicions.of_rows(source.sheet.names, rows), *suspicions.of_shift(source.sheet.names, rows, used)]
+    return found
+
+
+def rules(name: Optional[str]) -> Mapping:
     """The rules of a file; without one properties are kept as they are."""
     if name is None:
         return mapping.Mapping()
@@ -103,22 +164,28 @@ def rules(name):
         raise Trouble('{}: {}'.format(name, error)) from None
 
 
-def bounds(arguments, there):
+def given_box(arguments: argparse.Namespace) -> Optional[drawing.Box]:
+    """The box that the user gave, in units of 10^-7 degree; None where there is none."""
+    try:
+        return drawing.box_of(arguments.within) if arguments.within else None
+    except ValueError as error:
+        raise Usage(str(error)) from None
+
+
+def bounds(arguments: argparse.Namespace, there: Dict[drawing.Place, str]) -> drawing.Box:
     """The box in which features have to lie, in units of 10^-7 degree: the given one, or that of the session's nodes, widened."""
-    if arguments.within:
-        try:
-            return drawing.box_of(arguments.within)
-        except ValueError as error:
-            raise Usage(str(error)) from None
+    given = given_box(arguments)
+    if given:
+        return given
     if arguments.anywhere or not there:
         return drawing.WORLD
     lons, lats = zip(*there)
     wide, high = (max(LEAST, (max(side) - min(side)) // 10) for side in (lons, lats))
-    box = min(lons) - wide, min(lats) - high, max(lons) + wide, max(lats) + high
-    return tuple(choose(one, other) for choose, one, other in zip((max, max, min, min), box, drawing.WORLD))
+    west, south, east, north = drawing.WORLD
+    return (max(min(lons) - wide, west), max(min(lats) - high, south), min(max(lons) + wide, east), min(max(lats) + high, north))
 
 
-def report(picture, name):
+def report(picture: drawing.Drawing, name: Optional[str]) -> None:
     """Prints the report, or writes it into a file and prints its counts."""
     lines = list(picture.report())
     if name:
