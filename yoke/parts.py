@@ -38,7 +38,7 @@ import re
 import tempfile
 from dataclasses import dataclass, field
 from decimal import Decimal, InvalidOperation
-from typing import Any, Callable, Dict, Iterable, List, Optional, Sequence, Set, Tuple
+from typing import Any, Callable, Dict, FrozenSet, Iterable, List, Optional, Sequence, Set, Tuple
 
 from yoke import groups, opl, table
 from yoke.day import PART, WHOLE, Day, Held
@@ -62,16 +62,34 @@ class Wanted:
 
     Each word of `only` is keys with commas between them, a box `WEST,SOUTH,EAST,NORTH` in degrees,
     or a query. Groups are taken whole: an edit comes with those that it hangs together with.
+    `reviewed` tells how the edits of a session were reviewed: then only groups go out of which all
+    is accepted.
     """
 
     only: Tuple[str, ...] = ()
     at_most: Optional[int] = None
     skip_conflicts: bool = False
+    reviewed: Optional[Callable[[Session, Table], 'Reviewed']] = None
 
     @property
     def is_all(self) -> bool:
         """Whether nothing is left out."""
-        return not self.only and self.at_most is None and not self.skip_conflicts
+        return (
+            not self.only
+            and self.at_most is None
+            and not self.skip_conflicts
+            and self.reviewed is None
+        )
+
+
+@dataclass(frozen=True)
+class Reviewed:
+    """How the edits of a session were reviewed: the keys of those that are accepted as they are, and
+    of those on which nobody decided.
+    """
+
+    accepted: FrozenSet[str]
+    undecided: FrozenSet[str]
 
 
 @dataclass
@@ -89,25 +107,36 @@ class Chosen:
 NOT_NAMED = 'not named by --only'
 IN_CONFLICT = 'in conflict, or hanging together with what is'
 TOO_MANY = 'beyond --at-most'
+NOT_ACCEPTED = 'not accepted as they are, or hanging together with what is not (yoke review --write)'
 
 
 Size = Callable[[Group], int]
 
 
-def choose(found: Table, wanted: Wanted, named: Optional[Set[str]], sent: int = 0) -> Chosen:
+def choose(
+    found: Table,
+    wanted: Wanted,
+    named: Optional[Set[str]],
+    sent: int = 0,
+    review: Optional[Reviewed] = None,
+) -> Chosen:
     """The groups of a session that a send is to take; `named` has what `only` names, `sent` is how
-    many changes went out before.
+    many changes went out before, `review` how they were reviewed, if that counts.
 
     Refused where nothing went out, and none of the groups that could go has so few changes as
-    `at_most` allows.
+    `at_most` allows; or where one of them isn't reviewed.
     """
     size, chosen, count, smallest = size_in(found), Chosen(), sent, 0
     divided = groups.divide(found)
+    if review is not None:
+        check_reviewed([one for one in divided if named is None or named & set(one)], review)
     for group in divided if wanted.at_most is None else groups.by_place(found, divided):
         if named is not None and named.isdisjoint(group):
             chosen.leave(NOT_NAMED, group)
         elif wanted.skip_conflicts and any(found.things[key].conflict != 'none' for key in group):
             chosen.leave(IN_CONFLICT, group)
+        elif review is not None and not review.accepted.issuperset(group):
+            chosen.leave(NOT_ACCEPTED, group)
         elif wanted.at_most is not None and count + size(group) > wanted.at_most:
             smallest = min(smallest or size(group), size(group))
             chosen.leave(TOO_MANY, group)
@@ -121,6 +150,16 @@ def choose(found: Table, wanted: Wanted, named: Optional[Set[str]], sent: int = 
             f'and --at-most is {wanted.at_most}'
         )
     return chosen
+
+
+def check_reviewed(wanted: List[Group], review: Reviewed) -> None:
+    """Refused where somebody has to decide on one of these edits yet."""
+    keys = [key for group in wanted for key in group if key in review.undecided]
+    if keys:
+        many = f'{len(keys)} edits are' if len(keys) > 1 else '1 edit is'
+        raise Refused(
+            f'nothing is sent: {many} not reviewed, the first is {keys[0]}: yoke review goes on'
+        )
 
 
 def size_in(found: Table) -> Size:
@@ -255,7 +294,8 @@ class Parts:
         text = self.day.last().text()
         found = table.read(text)
         named = named_by(self.session, found, self.wanted.only)
-        chosen = choose(found, self.wanted, named, self.sending.sent)
+        review = self.wanted.reviewed(self.session, found) if self.wanted.reviewed else None
+        chosen = choose(found, self.wanted, named, self.sending.sent, review)
         self.left = chosen.left
         return self._send_groups(found, text, groups.by_place(found, chosen.groups))
 
@@ -301,7 +341,8 @@ def preview(session: Session, size: int, wanted: Wanted) -> Tuple[Answer, Dict[s
         return session.ask([f'upload {size}']), {}
     text = session.day.last().text()
     found = table.read(text)
-    chosen = choose(found, wanted, named_by(session, found, wanted.only))
+    review = wanted.reviewed(session, found) if wanted.reviewed else None
+    chosen = choose(found, wanted, named_by(session, found, wanted.only), 0, review)
     back = set(groups.edits(found)).difference(*chosen.groups)
     answer = run_over(session, groups.taken_back(text, back), [f'upload {size}'])
     if answer.refused():

@@ -74,11 +74,16 @@ class Decisions:
         self.path, self.digests = path, digests
         self.how: Dict[str, str] = {}
         self._file: Optional[IO[bytes]] = None
+        self.after: Dict[str, str] = {}  # digests after the script that was written last
         others = set()
-        for key, of, how in read(path):
+        for key, of, how, is_after in read(path):
+            if is_after:
+                self._take_after(key, of, how)
             if digests.get(key) == of:
                 self._take(key, how)
                 others.discard(key)
+            elif is_after:
+                continue
             elif key in digests and key not in self.how:
                 others.add(key)
         self.stale = len(others)
@@ -88,6 +93,12 @@ class Decisions:
             self.how.pop(key, None)
         else:
             self.how[key] = how
+
+    def _take_after(self, key: str, of: str, how: str) -> None:
+        if how == 'accepted':
+            self.after[key] = of
+        elif self.after.get(key) == of:
+            del self.after[key]
 
     def open(self) -> None:
         """Opens the file to decide in it, alone: Busy where another review does, Refused where it is another file.
@@ -118,7 +129,7 @@ class Decisions:
 
     def decide(self, pairs: Iterable[Decision]) -> None:
         """Takes decisions; they are on the disk when this returns, and count from then on."""
-        made = time.strftime('%Y-%m-%dT%H:%M:%SZ', time.gmtime())
+        made = self._now()
         taken = list(pairs)
         lines = [
             json.dumps({'key': key, 'of': self.digests[key], 'how': how, 'at': made}) + '\n'
@@ -127,6 +138,27 @@ class Decisions:
         self._append(''.join(lines))
         for key, how in taken:
             self._take(key, how)
+
+    def note_after(self, digests: Mapping[str, str]) -> None:
+        """Notes objects as accepted with contents that they don't have yet: those after the script of the review.
+
+        What was noted so before, and isn't any more, is undecided again.
+        """
+        made = self._now()
+        gone = {key: of for key, of in self.after.items() if digests.get(key) != of}
+        new = {key: of for key, of in digests.items() if self.after.get(key) != of}
+        lines = [
+            json.dumps({'key': key, 'of': of, 'how': how, 'at': made, 'after': True}) + '\n'
+            for some, how in ((gone, 'undecided'), (new, 'accepted'))
+            for key, of in some.items()
+        ]
+        if lines:
+            self._append(''.join(lines))
+        self.after = dict(digests)
+
+    @staticmethod
+    def _now() -> str:
+        return time.strftime('%Y-%m-%dT%H:%M:%SZ', time.gmtime())
 
     def _append(self, text: str) -> None:
         if self._file is None:
@@ -141,8 +173,8 @@ def _ends_line(file: IO[bytes]) -> bool:
     return file.read(1) == b'\n'
 
 
-def read(path: str) -> Iterator[Tuple[str, str, str]]:
-    """The decisions of a file in their order: key, digest, and how. None where there is no file.
+def read(path: str) -> Iterator[Tuple[str, str, str, bool]]:
+    """The decisions of a file in their order: key, digest, how, and whether it is on what a script makes. None where there is no file.
 
     What is no decision is passed over, such as half a line of a machine that stopped; Refused where the file is another one.
     """
@@ -157,7 +189,7 @@ def read(path: str) -> Iterator[Tuple[str, str, str]]:
         fields = _fields(line)
         key, of, how = (fields.get(name) for name in ('key', 'of', 'how'))
         if isinstance(key, str) and isinstance(of, str) and isinstance(how, str):
-            yield key, of, how
+            yield key, of, how, fields.get('after') is True
 
 
 def _is_begun(lines: List[bytes]) -> bool:

@@ -11,6 +11,7 @@ from collections import Counter
 from typing import Any, Callable, Dict, List, Mapping, Optional, Set, Tuple
 
 from yoke import day, files, opl, table, words
+from yoke.parts import Reviewed
 from yoke.program import Answer, BadLine, Reply
 from yoke.review import plan, shown
 from yoke.review.around import Around
@@ -18,6 +19,7 @@ from yoke.review.decisions import Decision, Decisions, Renames, digest, of_text
 from yoke.review.items import USERS, Edits, collect
 from yoke.scripts import bound
 from yoke.session import Session
+from yoke.table import Table
 from yoke.trouble import Refused, Trouble
 from yoke.verbs import resolve
 
@@ -99,12 +101,13 @@ class Review:
         tiles: str = '',
         questions: Optional[Questions] = None,
         force: bool = False,
+        there: Optional[Table] = None,
     ):
         self.session, self.to, self.tiles, self.force = session, to, tiles, force
         self.questions = questions
         self.state = session.day.last()
         self.text = self.state.text()
-        self.found: Edits = collect(table.read(self.text), session.ask([USERS]).found())
+        self.found: Edits = collect(there or table.read(self.text), session.ask([USERS]).found())
         self.followers = plan.followers(self.found)
         digests = digests_of(self.found, Renames(session.day.folder))
         digests.update(questions.digests() if questions else {})
@@ -181,10 +184,21 @@ class Review:
         return Counter(self.state_of(key) for key in self.keys())
 
     def accepted(self) -> Set[str]:
-        """The keys of all objects whose edits are accepted, corners too. What such an edit needs is accepted too."""
-        found = {key for key in self.found.items if self.state_of(key) == ACCEPTED}
+        """The keys of the edits that are accepted as they are, corners too. What they need is accepted too.
+
+        A conflict isn't among them, nor an object of which a tag is rejected: the script changes these.
+        """
+        how = self.decisions.how
+        found = {key for key in self.found.items if how.get(key) == ACCEPTED}
         corners = {corner for key in found for corner in self.found.corners.get(key, ())}
-        return {key for key in found | corners if key in self.found.edits} - set(self.because)
+        plain = (key for key in found | corners if key in self.found.edits)
+        return {key for key in plain if self.found.edits[key].conflict == 'none'} - set(self.because)
+
+    def undecided(self) -> Set[str]:
+        """The keys of the edits on which nobody decided, corners too if they belong to no accepted item."""
+        found = {key for key in self.found.items if self.state_of(key) == UNDECIDED}
+        corners = {corner for key in found for corner in self.found.corners.get(key, ())}
+        return (found | corners) & set(self.found.edits) - self.accepted() - set(self.because)
 
     # ---- what the page asks ----
 
@@ -275,6 +289,7 @@ class Review:
         bases = plan.bases_of(self.found, one)
         texts = [OPL_MARK.decode() + f' by {opl.escape(os.path.basename(self.to))}', *bases]
         text = ''.join(line + '\n' for line in texts)
+        self._accept_after(answer)
         if bases:
             day.write_whole(base_file, text)
         summary = self._summary(one)
@@ -348,13 +363,40 @@ class Review:
                 'download ' + opl.escape(place) if line.startswith('download ') else line
                 for line in lines
             ]
-            return self.session.ask([*steps, 'count'], allow_refused=True)
+            return self.session.ask([*steps, 'count', USERS, 'save'], allow_refused=True)
+
+    def _accept_after(self, answer: Answer) -> None:
+        """Notes what accepted objects are after the script, where it changes them: that is what was decided on them.
+
+        So nobody has to decide on a conflict again after it was resolved as decided.
+        """
+        users = next(reply for reply in answer.replies if reply.step == USERS).text[1:]
+        after = collect(table.read(answer.saved()), users)
+        digests = digests_of(after, Renames(self.session.day.folder))
+        self.decisions.note_after(
+            {
+                key: of
+                for key, of in digests.items()
+                if self.decisions.digests.get(key) != of
+                and self.state_of(self.found.item_of(key)) == ACCEPTED
+            }
+        )
 
     def _item_of(self, reply: Reply) -> str:
         """The item of which a refused step tells."""
         named = reply.step.split(' ')[1:2] + reply.rest.split(' ')[1:]
         keys = [self.found.item_of(word) for text in named for word in text.split(',')]
         return next(filter(None, keys), '')
+
+
+def reviewed_by(path: str) -> Callable[[Session, Table], Reviewed]:
+    """How the edits of a session were reviewed, by a file of decisions, as `yoke.parts` asks for it."""
+
+    def look(session: Session, found: Table) -> Reviewed:
+        one = Review(session, path, there=found)
+        return Reviewed(frozenset(one.accepted()), frozenset(one.undecided()))
+
+    return look
 
 
 def check_resolve(how: str) -> None:

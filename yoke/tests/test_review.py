@@ -18,7 +18,7 @@ from yoke.review.around import Around
 from yoke.review.items import USERS, collect
 from yoke.review.reviewing import Impossible, Questions, Review
 from yoke.review.server import Server, tile_source
-from yoke.tests.support import FolderTest
+from yoke.tests.support import FolderTest, ServerTest
 from yoke.trouble import Busy, Refused, Trouble, Usage
 
 TOWN = '''n1 v1 x13.001 y52
@@ -512,3 +512,85 @@ class Asked(ReviewTest):
         found = collect(table.read(self.day.last().text()), self.session.ask([USERS]).found())
         self.assertEqual(['w5', 'w6'], sorted(self.session.ask([USERS]).found()))
         self.assertEqual(['w6'], found.items)
+
+
+class Sent(ServerTest):
+    """`send --reviewed`: what was accepted goes out, and nothing else."""
+
+    town = TOWN
+
+    def setUp(self) -> None:
+        super().setUp()
+        self.begin(town=TOWN)
+
+    def versions(self) -> dict[str, int]:
+        return {key: element.version for key, element in self.theirs().items()}
+
+    def test_refused_where_something_is_not_reviewed(self) -> None:
+        self.do('tag n8 Ta=b', 'tag w5 Ta=b', 'move w6 0.001 0')
+        self.done('review', '--accept', 'n8')
+        before = self.versions()
+        self.assertEqual(Refused.code, self.send('--reviewed'))
+        self.assertIn('nothing is sent: 4 edits are not reviewed, the first is n1: yoke review goes on', self.err)
+        self.assertEqual(Refused.code, self.send('--reviewed', '--decisions', 'none'))
+        self.assertIn('5 edits are not reviewed', self.err)
+        self.assertEqual(before, self.versions())
+
+    def test_what_is_accepted_goes_and_what_is_rejected_stays(self) -> None:
+        self.do('tag n8 Ta=b', 'tag w5 Ta=b', 'erase w6', 'node x13.1 y52 Tshop=x')
+        self.done('review', '--accept', 'n8,n-1', '--reject', 'others')
+        self.assertEqual(0, self.send('--reviewed'), self.err)
+        self.assertIn('2 changes sent', self.out)
+        self.assertIn('edits are left, not accepted as they are', self.out)
+        self.assertEqual((3, 3, 1), tuple(self.theirs()[key].version for key in ('n8', 'w5', 'w6')))
+        self.assertEqual({'w5': 'changed', 'w6': 'deleted', 'n5': 'deleted', 'n6': 'deleted'}, {key: known.edit for key, known in self.session.known().items() if known.edit})
+
+    def test_with_the_script_first(self) -> None:
+        self.do('tag n8 Ta=b', 'tag w5 Ta=b,lit=yes', 'erase w6')
+        self.server.edit('modify', 'n8', tags={'amenity': 'bench', 'a': 'c'})
+        self.ask('refresh')
+        self.assertEqual(Refused.code, self.send('--reviewed'))
+        one = Review(self.session, 'review.decisions')
+        one.decisions.open()
+        one.decide([('n8', 'mine'), ('w5', 'without Klit'), ('w6', 'rejected')])
+        one.finish()
+        one.decisions.close()
+        before = self.versions()
+        self.assertEqual(0, self.send('--reviewed', '--skip-conflicts'), self.err)
+        self.assertIn('0 changes sent', self.out)
+        self.assertEqual(before, self.versions())
+        self.done('do', 'review.script')
+        self.assertEqual(0, self.send('--reviewed'), self.err)
+        self.assertEqual('2 changes sent in changeset 2\nnothing is left to send\n', self.out)
+        self.assertEqual(({'amenity': 'bench', 'a': 'b'}, 4), (self.theirs()['n8'].tags, self.theirs()['n8'].version))
+        self.assertNotIn('lit', self.theirs()['w5'].tags)
+
+    def test_another_mind_after_the_script_was_written(self) -> None:
+        self.do('tag w5 Ta=b,lit=yes')
+        one = Review(self.session, 'review.decisions')
+        one.decisions.open()
+        for how in ('without Klit', 'without Ka'):
+            one.decide([('w5', how)])
+            one.finish()
+        one.decisions.close()
+        self.do('tag w5 Tlit=')
+        self.assertEqual(Refused.code, self.send('--reviewed'))
+        self.assertIn('1 edit is not reviewed', self.err)
+        self.do('tag w5 Tlit=yes,a=')
+        self.assertEqual(0, self.send('--reviewed'), self.err)
+
+    def test_somebody_was_faster_so_it_is_reviewed_anew(self) -> None:
+        self.do('tag n8 Ta=b', 'tag w5 Ta=b')
+        self.done('review', '--accept', 'others')
+        self.server.edit('modify', 'n8', tags={'amenity': 'bench', 'material': 'wood'})
+        self.assertEqual(Refused.code, self.send('--reviewed', '--refresh'), self.out)
+        self.assertIn('1 edit is not reviewed, the first is n8', self.err)
+        self.assertEqual(3, self.theirs()['n8'].version)
+        self.done('review', '--accept', 'n8')
+        self.assertEqual(0, self.send('--reviewed'), self.err)
+        self.assertEqual({'amenity': 'bench', 'material': 'wood', 'a': 'b'}, self.theirs()['n8'].tags)
+
+    def test_dry(self) -> None:
+        self.do('tag n8 Ta=b', 'tag w5 Ta=b')
+        self.done('review', '--accept', 'n8', '--reject', 'w5')
+        self.assertIn('1 changes would be sent: 0 new, 1 changed, 0 deleted', self.done('send', '--reviewed', '--dry'))

@@ -69,15 +69,16 @@ def run(arguments: argparse.Namespace) -> int:
 
 def without_page(one: Review, arguments: argparse.Namespace) -> None:
     """Decides, lists and writes as the command line says."""
-    if arguments.accept or arguments.reject:
+    if arguments.accept or arguments.reject or arguments.write:
         one.decisions.open()
+    if arguments.accept or arguments.reject:
         decide(one, arguments)
-        one.decisions.close()
     if arguments.list:
         for line in listed(one):
             print(line)
     if arguments.write:
         print(one.finish())
+    one.decisions.close()
     print(counted(one))
     results.put(items=list(data(one)), counts=dict(one.counts()), script=one.to if arguments.write else None)
 

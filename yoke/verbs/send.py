@@ -2,6 +2,7 @@
 from yoke import api, opl, parts, sending
 from yoke.parts import Parts, Wanted
 from yoke.progress import note
+from yoke.review import reviewing
 from yoke.sending import Sending
 from yoke.session import Session
 from yoke.trouble import Clash, NoAnswer, Usage
@@ -27,6 +28,9 @@ def add_arguments(parser):
     parser.add_argument('--only', metavar='KEYS|BOX|QUERY', action='append', default=[],
                         help='send these edits alone, with what hangs together with them: keys, WEST,SOUTH,EAST,NORTH or a query; may come again')
     parser.add_argument('--at-most', metavar='N', type=int, help='send so many changes at most, and leave the rest')
+    parser.add_argument('--reviewed', action='store_true',
+                        help='send only what yoke review accepted; refused where something is not reviewed')
+    parser.add_argument('--decisions', metavar='FILE', default='review.decisions', help='with --reviewed: where the decisions are (%(default)s)')
     parser.add_argument('--dry', action='store_true', help='show what would be sent, and ask no server')
 
 
@@ -35,7 +39,8 @@ def run(arguments):
         raise Usage('--chunk wants a number from 1 to 10,000')
     if arguments.at_most is not None and arguments.at_most < 1:
         raise Usage('--at-most wants a number from 1 on')
-    wanted = Wanted(tuple(arguments.only), arguments.at_most, arguments.skip_conflicts)
+    reviewed = reviewing.reviewed_by(arguments.decisions) if arguments.reviewed else None
+    wanted = Wanted(tuple(arguments.only), arguments.at_most, arguments.skip_conflicts, reviewed)
     if arguments.dry:
         return show(Session.of(arguments), arguments.chunk, wanted)
     tags = tags_of(arguments)
