@@ -7,12 +7,21 @@ const pool = [];
 let height = 44;
 
 export function setUp(pick) {
-  height = 2.75 * parseFloat(getComputedStyle(document.documentElement).fontSize);
+  measure();
   $('list').addEventListener('scroll', rows);
+  addEventListener('resize', measure);
   $('rows').addEventListener('click', event => {
     const row = event.target.closest('.item');
     if (row) pick(row.number);
   });
+}
+
+// A row is as high as the letters are large.
+export function measure() {
+  const now = 2.75 * parseFloat(getComputedStyle(document.documentElement).fontSize);
+  if (now === height) return;
+  height = now;
+  filled(); reveal(); rows();
 }
 
 export function filled() {

@@ -242,7 +242,7 @@ function listen() {
   }
   document.addEventListener('keydown', press);
   new ResizeObserver(() => { list.rows(); map.draw(); }).observe($('mapbox'));
-  new ResizeObserver(list.rows).observe($('list'));
+  new ResizeObserver(() => { list.measure(); list.rows(); }).observe($('list'));
 }
 
 globalThis.review = { state, map, pick, filter };     // for the tools of a developer
