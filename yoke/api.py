@@ -1,4 +1,4 @@
-"""The HTTP of OpenStreetMap's API 0.6, by Python's own urllib.
+"""The HTTP of OpenStreetMap's API 0.6.
 
 Each call ends in one of three ways, and a caller can rely on which:
 
@@ -6,33 +6,44 @@ Each call ends in one of three ways, and a caller can rely on which:
 - `ServerRefused`: the server answered with a 4xx that says so, so it did nothing of it;
 - `NoAnswer`: anything else. A call that only looks was tried again before. Of one that writes nobody knows what became.
 
-A 429 was refused, and says how long to wait: the call waits, and asks again. Nothing else that writes is ever sent twice
-here, but for the close of a changeset, which does no harm.
+A 429 was refused too. The call waits, as long as the server says or longer each time, and asks again; `Later` where that
+takes longer than the command may wait in all. Only `upload` doesn't wait, since a smaller document may be wanted
+(`sending.py`). Nothing else that writes is ever sent twice here, except the close of a changeset, which does no harm.
 """
-import http.client
+import argparse
+import datetime
+import email.utils
 import os
 import pathlib
 import re
+import select
 import stat
 import time
-import urllib.error
 import urllib.parse
-import urllib.request
 from dataclasses import dataclass, field
+from typing import Any, Callable, FrozenSet, Iterable, List, Mapping, Optional, Sequence, Tuple
+from xml.etree import ElementTree
 
-from yoke import VERSION, opl, osc, words
-from yoke.trouble import NoAnswer, ServerRefused, Trouble, Usage
+from yoke import VERSION, opl, osc, transport, words
+from yoke.trouble import Later, NoAnswer, Redacted, ServerRefused, Trouble, Usage
 
 AGENT = 'yokeorange-yoke/' + VERSION        # of each call
 CREATED_BY = 'yokeorange yoke ' + VERSION    # of each changeset
 TOKEN = re.compile('[!-~]+')
+LONGEST_TOKEN = 4096        # bytes
+TOKEN_WAIT = 60             # seconds until a pipe has to give a token
 LOOPBACK = ('localhost', '127.0.0.1', '::1')
-TIMEOUT = 300               # seconds without a byte; a large document takes its time
+TIMEOUT = transport.TIMEOUT
 WAITS = (1, 5, 25)          # seconds before a call that does no harm is tried again
-PATIENCE = 900              # seconds that a 429 may make one call wait in all
+PATIENCE = 900              # seconds that a command waits in all where a server asks to, unless --wait says otherwise
+BACKOFF = 10                # seconds that the first wait takes where a server doesn't say how long; each next one twice as long
+LONGEST_BACKOFF = 600       # seconds of the longest of these
 NOT_DONE = {400, 401, 403, 404, 405, 406, 409, 410, 411, 412, 413, 414, 415, 422, 428, 431, 451}
+SLOWER = (429, 509)         # statuses by which a server asks to wait
 AT_ONCE = 400               # objects of one multi-fetch, so that its address stays short
 VERSIONS_AT_ONCE = 300      # the same of objects with a version each
+WEBSITES = {'api.openstreetmap.org': 'www.openstreetmap.org'}      # where the website isn't at the API's own host
+UNITS = {'': 1, 's': 1, 'm': 60, 'h': 3600, 'd': 86400}            # seconds
 
 
 @dataclass(frozen=True)
@@ -43,133 +54,228 @@ class Limits:
     writable: bool
 
 
-def pause(seconds):
+@dataclass(frozen=True)
+class Account:
+    """An account of a server: its number, which never changes, and its name."""
+
+    number: int
+    name: str
+
+
+def pause(seconds: float) -> None:
     """Waits."""
     time.sleep(seconds)
 
 
-def add_arguments(parser):
+# ---- the words of a command line ----
+
+def add_arguments(parser: argparse.ArgumentParser) -> None:
     """The words by which a verb names a server and an account."""
     group = parser.add_argument_group('the server')
-    group.add_argument('--api', metavar='ADDRESS', help='its address, such as https://HOST/api/0.6; there is no other one by default')
-    group.add_argument('--token-file', metavar='FILE', help='a file that only you can read, with a token of your account (else $YOKE_TOKEN)')
+    group.add_argument('--api', metavar='ADDRESS',
+                       help='its address, such as https://HOST/api/0.6; there is no default')
+    group.add_argument('--token-file', metavar='FILE',
+                       help='a file or pipe that only you can read, with a token of your account (else $YOKE_TOKEN)')
+    group.add_argument('--wait', metavar='DURATION', type=duration, default=PATIENCE,
+                       help='how long the command may wait in all where the server asks to, such as 90s, 15m or 8h (15m)')
 
 
-def server_of(arguments, note, writes=False):
+def duration(text: str) -> int:
+    """A duration such as `90`, `90s`, `15m`, `8h` or `1d`, in seconds."""
+    found = re.fullmatch('([0-9]{1,6})([smhd]?)', text)
+    if not found:
+        raise argparse.ArgumentTypeError(f'wants a duration such as 90s, 15m or 8h, and not {words.cut(text)}')
+    return int(found[1]) * UNITS[found[2]]
+
+
+def server_of(arguments: argparse.Namespace, note: Callable[[str], None], writes: bool = False) -> 'Server':
     """The Server that the words name; Usage where they name none, or where it is to be written to and there is no token."""
     if not arguments.api:
         raise Usage('--api ADDRESS names the server; the page docs/COMPANION.md names the one to try things with')
-    token = token_in(arguments.token_file) if arguments.token_file else os.environ.get('YOKE_TOKEN', '').strip()
+    token = token_of(arguments)
     if writes and not token:
         raise Usage('a token of your account is wanted, in $YOKE_TOKEN or in a --token-file')
+    return Server(arguments.api, token, note, patience=getattr(arguments, 'wait', PATIENCE))
+
+
+def token_of(arguments: argparse.Namespace) -> str:
+    """The token that the words and the environment give: of --token-file, else of $YOKE_TOKEN, else an empty text. Usage or Trouble
+    where it is none; no message has it."""
+    name = getattr(arguments, 'token_file', None)
+    token = token_in(name) if name else os.environ.get('YOKE_TOKEN', '').strip()
     if token and not TOKEN.fullmatch(token):
-        raise Usage('the token has a blank or a sign in it that no token has')
-    return Server(arguments.api, token, note)
+        where = name if name else '$YOKE_TOKEN'
+        raise Usage(f'{where} has no token: there is a blank in it, or a sign that no token has')
+    return token
 
 
-def token_in(name):
-    """The token in a file; Trouble where others can read it."""
+def token_in(name: str) -> str:
+    """The token in a file or a pipe; Trouble where others can read it, or where it is neither."""
     path = pathlib.Path(name)
-    if not path.is_file():
-        raise Trouble('there is no file {}'.format(name))
-    if path.stat().st_mode & (stat.S_IRWXG | stat.S_IRWXO):
-        raise Trouble('others can read {}: chmod 600 {}'.format(name, name))
-    return path.read_text(encoding='utf-8').strip()
+    try:
+        mode = path.stat().st_mode
+    except FileNotFoundError:
+        raise Trouble(f'there is no file {name}') from None
+    if not stat.S_ISREG(mode) and not stat.S_ISFIFO(mode):
+        raise Trouble(f'{name} is neither a file nor a pipe: name a file that has the token')
+    if mode & (stat.S_IRWXG | stat.S_IRWXO):
+        raise Trouble(f'others can read {name}: chmod 600 {name}')
+    data = _first_bytes(path, LONGEST_TOKEN + 1)
+    if len(data) > LONGEST_TOKEN or not data.isascii():
+        raise Trouble(f'{name} has no token: it is a binary file, or too long; a token is one line of letters and digits')
+    return data.decode('ascii').strip()
 
 
-class NoRedirect(urllib.request.HTTPRedirectHandler):
-    """A redirected call would go elsewhere with the token, and a POST would become a GET: it isn't followed."""
+def _first_bytes(path: pathlib.Path, most: int) -> bytes:
+    """What a file or pipe begins with. Trouble where a pipe gives nothing for too long."""
+    handle = os.open(path, os.O_RDONLY | os.O_NONBLOCK | os.O_CLOEXEC)     # so that a pipe that nobody writes to doesn't hold us up
+    try:
+        data = b''
+        while len(data) < most:
+            if not select.select([handle], [], [], TOKEN_WAIT)[0]:
+                raise Trouble(f'{path} is a pipe, and nothing came through it for {TOKEN_WAIT} s')
+            piece = os.read(handle, most - len(data))
+            if not piece:
+                break
+            data += piece
+        return data
+    finally:
+        os.close(handle)
 
-    def redirect_request(self, request, file, code, message, headers, address):
-        return None
 
+# ---- the server ----
 
 @dataclass
 class Server:
     """A server of API 0.6: its address, as `https://HOST/api/0.6`, and perhaps a token of an account.
 
-    `note` is called with a line for the user where a call waits.
+    `note` is called with a line for the user where a call waits. `patience` is how many seconds all calls together may wait
+    where the server asks to, and `waited` how many they did.
     """
 
     address: str
-    token: str = ''
-    note: object = print
+    token: str = field(default='', repr=False)
+    note: Callable[[str], Any] = print
     timeout: float = TIMEOUT
-    opener: object = field(default_factory=lambda: urllib.request.build_opener(NoRedirect))
+    patience: float = PATIENCE
+    waited: float = 0
 
-    def __post_init__(self):
+    def __post_init__(self) -> None:
         self.address = checked(self.address)
+        self.transport = transport.Transport(self.address, self.timeout)
 
     # ---- what is asked ----
 
-    def limits(self):
+    def capabilities(self) -> ElementTree.Element:
+        """The document of `/capabilities`."""
+        root: ElementTree.Element = self._read(osc.root_of, self.look('/capabilities'), 'osm')
+        return root
+
+    def limits(self) -> Limits:
         """The Limits; Trouble where the server doesn't speak API 0.6."""
-        root = self._read(osc.root_of, self.look('/api/capabilities', above=True), 'osm')
+        root = self.capabilities()
         most = root.find('./api/changesets')
         state = root.find('./api/status')
-        if most is None or not (most.get('maximum_elements') or '').isdigit():
-            raise Trouble('{} doesn\'t say how many changes it takes in a changeset: is it a server of API 0.6?'.format(self.address))
-        return Limits(int(most.get('maximum_elements')), state is None or state.get('api') in (None, 'online'))
+        count = '' if most is None else most.get('maximum_elements') or ''
+        if not opl.is_digits(count):
+            raise Trouble(f'{self.address} doesn\'t say how many changes it takes in a changeset: is it a server of API 0.6?')
+        return Limits(int(count), state is None or state.get('api') in (None, 'online'))
 
-    def open_changeset(self, tags):
+    def permissions(self) -> Optional[FrozenSet[str]]:
+        """What the token may do, such as `allow_write_api`; None where the server doesn't say."""
+        try:
+            root = self._read(osc.root_of, self.look('/permissions'), 'osm')
+        except ServerRefused as refused:
+            if refused.status != 404:
+                raise
+            return None
+        return frozenset(one.get('name') or '' for one in root.iter('permission'))
+
+    def account(self) -> Optional[Account]:
+        """The account of the token; None where the server has no such call, or where the token may not ask for it."""
+        try:
+            user = self._read(osc.root_of, self.look('/user/details'), 'osm').find('user')
+        except ServerRefused as refused:
+            if refused.status != 404 and not (refused.status == 403 and words.is_scope_missing(refused.text)):
+                raise
+            return None
+        number = '' if user is None else user.get('id') or ''
+        if user is None or not opl.is_digits(number):
+            raise NoAnswer(f'{self.address} doesn\'t say whose the token is')
+        return Account(int(number), user.get('display_name') or '')
+
+    def link(self, number: str) -> str:
+        """Where a changeset is shown on the website."""
+        parts = urllib.parse.urlsplit(self.address)
+        host = WEBSITES.get(parts.netloc, parts.netloc)
+        return f'{parts.scheme}://{host}{parts.path[:-len("/api/0.6")]}/changeset/{number}'
+
+    def open_changeset(self, tags: Mapping[str, str]) -> str:
         """Opens a changeset; answers with its id, a text."""
         number = self._ask('PUT', '/changeset/create', osc.changeset(tags)).strip()
-        if not number.isdigit():
+        if not opl.is_digits(number):
             raise NoAnswer('the answer to a new changeset is no id: ' + words.cut(number))
         return number
 
-    def changeset(self, number):
+    def changeset(self, number: str) -> Tuple[int, bool]:
         """How many changes a changeset has, and whether it is open."""
         element = self._read(osc.root_of, self.look('/changeset/' + number), 'osm').find('changeset')
         count, is_open = ('', '') if element is None else (element.get('changes_count') or '', element.get('open'))
-        if not count.isdigit() or is_open not in ('true', 'false'):
-            raise NoAnswer('{} doesn\'t say how many changes the changeset {} has, and whether it is open'.format(self.address, number))
+        if not opl.is_digits(count) or is_open not in ('true', 'false'):
+            raise NoAnswer(f'{self.address} doesn\'t say how many changes the changeset {number} has, and whether it is open')
         return int(count), is_open == 'true'
 
-    def close_changeset(self, number):
+    def close_changeset(self, number: str) -> None:
         """Closes a changeset; one that is closed already is fine, so it is asked again where no answer comes. ServerRefused where it is
         another account's."""
         try:
-            self._patiently('PUT', '/changeset/{}/close'.format(number))
+            self._patiently('PUT', f'/changeset/{number}/close')
         except ServerRefused as refused:
             if refused.status != 409 or words.is_of_another_account(refused.text):
                 raise
 
-    def upload(self, number, document):
-        """Sends an osmChange document into a changeset; answers with the text of the diffResult."""
-        return self._ask('POST', '/changeset/{}/upload'.format(number), document)
+    def upload(self, number: str, document: str) -> str:
+        """Sends an osmChange document into a changeset; answers with the text of the diffResult. It never waits: a 429 is raised as
+        any other refusal."""
+        return self._once('POST', f'/changeset/{number}/upload', document)
 
-    def download(self, number):
+    def download(self, number: str) -> str:
         """What a changeset has, as the text of an osmChange document."""
-        return self.look('/changeset/{}/download'.format(number))
+        return self.look(f'/changeset/{number}/download')
 
-    def version(self, key, number):
-        """A version of an object; None where there is none."""
+    def version(self, key: str, number: int) -> Optional[opl.Object]:
+        """A version of an object; None where there is none. Redacted where a moderator hid it."""
         try:
-            found = self._read(osc.things, self.look('/{}/{}/{}'.format(opl.KINDS[key[0]], key[1:], number)))
+            found = self._read(osc.things, self.look(f'/{opl.KINDS[key[0]]}/{key[1:]}/{number}'))
         except ServerRefused as refused:
+            if refused.status == 403:
+                raise Redacted(f'{key}: its version {number} is redacted, so the server doesn\'t show it',
+                               403, refused.text) from None
             if refused.status != 404:
                 raise
             return None
         return found[0] if found else None
 
-    def changes(self, number):
+    def changes(self, number: str) -> List[Tuple[str, opl.Object]]:
         """The changes that a changeset has, in the order in which the server lists them: pairs of a verb and an object."""
-        return self._read(osc.changes, self.download(number))
+        found: List[Tuple[str, opl.Object]] = self._read(osc.changes, self.download(number))
+        return found
 
-    def versions(self, pairs):
+    def versions(self, pairs: Iterable[Tuple[str, int]]) -> Tuple[List[opl.Object], List[Tuple[str, int]]]:
         """The objects of these pairs of a key and a version, and the pairs that the server doesn't show, as redacted ones."""
-        found, hidden = [], []
+        found: List[opl.Object] = []
+        hidden: List[Tuple[str, int]] = []
+        pairs = list(pairs)
         for kind in ('node', 'way', 'relation'):
             some = [pair for pair in pairs if opl.KINDS[pair[0][0]] == kind]
             for at in range(0, len(some), VERSIONS_AT_ONCE):
                 found += self._versions(kind, some[at:at + VERSIONS_AT_ONCE], hidden)
         return found, hidden
 
-    def _versions(self, kind, pairs, hidden):
+    def _versions(self, kind: str, pairs: List[Tuple[str, int]], hidden: List[Tuple[str, int]]) -> List[opl.Object]:
         try:
-            words = ','.join('{}v{}'.format(key[1:], number) for key, number in pairs)
-            found = self._read(osc.things, self.look('/{0}s?{0}s={1}'.format(kind, words)))
+            asked = ','.join(f'{key[1:]}v{number}' for key, number in pairs)
+            found: List[opl.Object] = self._read(osc.things, self.look(f'/{kind}s?{kind}s={asked}'))
             there = {(thing.key, thing.version) for thing in found}
             hidden += [pair for pair in pairs if pair not in there]     # a server leaves redacted versions out without a word
             return found
@@ -182,21 +288,23 @@ class Server:
         half = len(pairs) // 2
         return self._versions(kind, pairs[:half], hidden) + self._versions(kind, pairs[half:], hidden)
 
-    def things(self, keys, missing):
+    def things(self, keys: Iterable[str], missing: Callable[[str], Any]) -> List[opl.Object]:
         """The objects with these keys as they are now, the deleted ones too.
 
         `missing` is called with each key that never existed; what it raises ends the call.
         """
-        found = []
+        found: List[opl.Object] = []
+        keys = list(keys)
         for kind in ('node', 'way', 'relation'):
             ids = [key[1:] for key in keys if opl.KINDS[key[0]] == kind]
             for at in range(0, len(ids), AT_ONCE):
                 found += self._things(kind, ids[at:at + AT_ONCE], missing)
         return found
 
-    def _things(self, kind, ids, missing):
+    def _things(self, kind: str, ids: Sequence[str], missing: Callable[[str], Any]) -> List[opl.Object]:
         try:
-            return self._read(osc.things, self.look('/{0}s?{0}s={1}'.format(kind, ','.join(ids))))
+            found: List[opl.Object] = self._read(osc.things, self.look(f'/{kind}s?{kind}s={",".join(ids)}'))
+            return found
         except ServerRefused as refused:
             if refused.status != 404:
                 raise
@@ -206,105 +314,141 @@ class Server:
         half = len(ids) // 2
         return self._things(kind, ids[:half], missing) + self._things(kind, ids[half:], missing)
 
-    def users(self, key):
+    def users(self, key: str) -> List[opl.Object]:
         """The ways and relations that refer to an object as they are now; none where it isn't there."""
-        found = []
+        found: List[opl.Object] = []
         for kind in ('ways', 'relations') if key[0] == 'n' else ('relations',):
             try:
-                found += self._read(osc.things, self.look('/{}/{}/{}'.format(opl.KINDS[key[0]], key[1:], kind)))
+                found += self._read(osc.things, self.look(f'/{opl.KINDS[key[0]]}/{key[1:]}/{kind}'))
             except ServerRefused as refused:
                 if refused.status not in (404, 410):
                     raise
         return found
 
-    def _read(self, reader, text, *names):
+    def _read(self, reader: Callable[..., Any], text: str, *names: str) -> Any:
         """What a reader makes of an answer; NoAnswer where it is another document, as the page of a proxy."""
         try:
             return reader(text, *names)
         except osc.NoXml as fault:
-            raise NoAnswer('{} answers something else: {}'.format(self.address, fault)) from None
+            raise NoAnswer(f'{self.address} answers something else: {fault}') from None
 
     # ---- how ----
 
-    def look(self, path, above=False):
-        """The text of a GET, asked again a few times where no answer comes. `above` takes a path from the top of the server."""
-        return self._patiently('GET', path, above)
+    def look(self, path: str) -> str:
+        """The text of a GET, asked again a few times where no answer comes."""
+        return self._patiently('GET', path)
 
-    def _patiently(self, method, path, above=False):
+    def _patiently(self, method: str, path: str) -> str:
         """A call that does no harm when it is done twice."""
         for wait in WAITS:
             try:
-                return self._ask(method, path, above=above)
+                return self._ask(method, path)
+            except transport.TooLarge:
+                raise
             except NoAnswer as silence:
-                self.note('{}; asked again in {} s'.format(silence, wait))
+                self.note(f'{silence}; asked again in {wait} s')
                 pause(wait)
-        return self._ask(method, path, above=above)
+        return self._ask(method, path)
 
-    def _ask(self, method, path, document=None, above=False):
-        waited = 0
+    def _ask(self, method: str, path: str, document: Optional[str] = None) -> str:
+        """A call that waits where the server asks to."""
+        attempt = 0
         while True:
             try:
-                return self._once(method, path, document, above)
+                return self._once(method, path, document)
             except ServerRefused as refused:
-                if refused.status not in (429, 509) or waited + refused.wait > PATIENCE:
+                if refused.status not in SLOWER:
                     raise
-                self.note('the server asks to wait {} s'.format(refused.wait))
-                pause(refused.wait)
-                waited += refused.wait
+                self.hold_off(refused, attempt)
+                attempt += 1
 
-    def _once(self, method, path, document, above):
-        address = urllib.parse.urljoin(self.address, path) if above else self.address + path
+    def hold_off(self, refused: ServerRefused, attempt: int = 0) -> None:
+        """Waits as long as a refusal asks to. Where it doesn't say how long the waits grow from one attempt to the next. Later where
+        that is longer than may be waited."""
+        wait = refused.wait or min(BACKOFF << min(attempt, 16), LONGEST_BACKOFF)
+        if self.waited + wait > self.patience:
+            raise later(refused, self.patience - self.waited)
+        if refused.wait:
+            self.note(f'the server asks to wait {wait} s')
+        else:
+            self.note(f'the server asks to wait, and doesn\'t say how long: asked again in {wait} s')
+        pause(wait)
+        self.waited += wait
+
+    def _once(self, method: str, path: str, document: Optional[str] = None) -> str:
         headers = {'User-Agent': AGENT, 'Accept': '*/*'}
         if self.token:
             headers['Authorization'] = 'Bearer ' + self.token
+        body = None
         if document is not None:
             headers['Content-Type'] = 'text/xml; charset=utf-8'
-        request = urllib.request.Request(address, None if document is None else document.encode('utf-8'), headers, method=method)
+            body = document.encode('utf-8')
+        answer = self.transport.call(method, self.address + path, headers, body)
+        if not 200 <= answer.status < 300:
+            raise _refused(answer, method)
         try:
-            with self.opener.open(request, timeout=self.timeout) as answer:
-                return answer.read().decode('utf-8')
-        except urllib.error.HTTPError as error:
-            raise self._refused(error, method) from None
-        except (OSError, http.client.HTTPException, UnicodeDecodeError) as error:
-            raise NoAnswer('no answer from {}: {}'.format(self.address, reason(error))) from None
-
-    def _refused(self, error, method):
-        """What an answer with another status than 200 is. A 509 asks who looked at too much to wait, as a 429 does. A redirection
-        tells nothing of what became of a call that writes: a gateway may have made it of an answer that came too late."""
-        try:
-            text = error.read().decode('utf-8', 'replace')
-        except (OSError, http.client.HTTPException):
-            text = ''
-        looks = method == 'GET' and (300 <= error.code < 400 or error.code == 509)
-        if error.code in NOT_DONE or error.code == 429 or looks:
-            text = text or error.headers.get('Error') or ''
-            return ServerRefused(words.answer(error.code, text), error.code, text, seconds(error.headers.get('Retry-After')))
-        return NoAnswer('the server answers {}{}'.format(error.code, ': ' + words.cut(text) if text else ''))
+            return answer.body.decode('utf-8')
+        except UnicodeDecodeError:
+            raise NoAnswer(f'no answer from {self.address}: it isn\'t UTF-8') from None
 
 
-def checked(address):
-    """An address as `https://HOST/api/0.6`; Usage where it is none, or where a token would go out in the clear."""
+def _refused(answer: transport.Response, method: str) -> Trouble:
+    """What an answer with another status than 200 is. A 509 asks who looked at too much to wait, as a 429 does. A redirection
+    tells nothing of what became of a call that writes: a gateway may have made it of an answer that came too late."""
+    status, text = answer.status, answer.body.decode('utf-8', 'replace')
+    looks = method == 'GET' and (300 <= status < 400 or status == 509)
+    if status in NOT_DONE or status == 429 or looks:
+        text = text or answer.headers.get('Error') or ''
+        return ServerRefused(words.answer(status, text), status, text, seconds(answer.headers.get('Retry-After')))
+    return NoAnswer(f'the server answers {status}{": " + words.cut(text) if text else ""}')
+
+
+def later(refused: ServerRefused, left: float) -> Later:
+    """That a server asks to wait for longer than a command may still wait, with what to do."""
+    if not refused.wait:
+        return Later(f'{refused}; it doesn\'t say how long: run the same command again later, or let it wait, as by --wait 2h',
+                     refused.status, refused.text)
+    when = datetime.datetime.now() + datetime.timedelta(seconds=refused.wait)
+    return Later(f'{refused}; it asks to wait {refused.wait} s, and {left:.0f} s are left to wait: run the same command again '
+                 f'after {when:%H:%M}, or let it wait by --wait {refused.wait}s', refused.status, refused.text, refused.wait)
+
+
+def checked(address: str) -> str:
+    """An address as `https://HOST/api/0.6`; Usage where it is none, or where a token would go out in the clear. No message has a
+    password that is in it."""
+    bare = re.sub('[^/]*@', '***@', address)
+    wanted = f'--api wants an address such as https://HOST/api/0.6, and not {words.cut(bare)}'
     try:
         parts = urllib.parse.urlsplit(address)
-        parts.port
-    except ValueError as error:
-        raise Usage('--api wants an address such as https://HOST/api/0.6, and not {}: {}'.format(address, error)) from None
-    if parts.scheme not in ('http', 'https') or not parts.hostname or parts.query or parts.fragment or parts.username:
-        raise Usage('--api wants an address such as https://HOST/api/0.6, and not {}'.format(address))
-    if parts.scheme == 'http' and parts.hostname not in LOOPBACK:
+        port = parts.port
+    except ValueError:
+        raise Usage(wanted) from None
+    if parts.scheme not in ('http', 'https') or not parts.hostname or parts.query or parts.fragment:
+        raise Usage(wanted)
+    if '@' in parts.netloc:
+        raise Usage(f'{wanted}: a name and a password have no place in it; the account is told by a token')
+    if parts.scheme == 'http' and not transport.is_loopback(parts.hostname):
         raise Usage('--api wants https: by http the token would go out in the clear')
-    path = parts.path.rstrip('/')
-    if not path.endswith('/0.6'):
-        path += '/api/0.6'
-    return '{}://{}{}'.format(parts.scheme, parts.netloc, path)
+    path = re.sub('/+', '/', parts.path).rstrip('/')
+    found = re.search('/api(?:/([0-9.]+))?$', path)
+    if found and found[1] not in (None, '0.6'):
+        raise Usage(f'{wanted}: yoke speaks version 0.6 of the API, and no other')
+    path = (path[:found.start()] if found else path) + '/api/0.6'
+    host = f'[{parts.hostname}]' if ':' in parts.hostname else parts.hostname
+    usual = {'http': 80, 'https': 443}[parts.scheme]
+    return f'{parts.scheme}://{host}{"" if port in (None, usual) else f":{port}"}{path}'
 
 
-def seconds(text):
-    """How long a `Retry-After` asks to wait; a minute where it doesn't say so in seconds."""
-    return min(max(int(text), 1), PATIENCE) if text and text.isdigit() else 60
-
-
-def reason(error):
-    """Why no answer came, in a few words."""
-    inner = getattr(error, 'reason', error)
-    return str(inner) or type(inner).__name__
+def seconds(text: Optional[str]) -> int:
+    """How many seconds a `Retry-After` asks to wait, which it may say by a time too; 0 where it doesn't say."""
+    if not text:
+        return 0
+    if opl.is_digits(text.strip()) and len(text) < 10:
+        return max(int(text), 1)
+    try:
+        when = email.utils.parsedate_to_datetime(text)
+    except (TypeError, ValueError):
+        return 0
+    if when.tzinfo is None:
+        when = when.replace(tzinfo=datetime.timezone.utc)
+    return max(int((when - datetime.datetime.now(datetime.timezone.utc)).total_seconds()) + 1, 1)

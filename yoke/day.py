@@ -8,6 +8,7 @@
 | `N.answer` | what the server answered to it; `N.answers` is the same for `confirm` |
 | `changeset` | the changeset that is open |
 | `server` | the address of the server that this day belongs to |
+| `account` | the account that sends the edits of this day (`yoke/accounts.py`) |
 | `forgotten` | the last of the sessions after the first that were removed: nothing is taken back beyond it |
 | `lock` | held by the `yoke` that works here |
 | `refresh.new` | what a `refresh` merges, while it does |
@@ -28,7 +29,7 @@ from typing import Optional, Tuple
 from yoke.trouble import Busy, Refused, Trouble
 
 NAME = re.compile('([0-9]+)-([a-z-]+)\\.(saved|undone)')
-OWN = re.compile('[0-9]+-[a-z-]+\\.(saved|undone)|[0-9]+\\.(osc|answers?|refused)|josm-.*\\.start|changeset|server|forgotten|lock|refresh|held')
+OWN = re.compile('[0-9]+-[a-z-]+\\.(saved|undone)|[0-9]+\\.(osc|answers?|refused)|josm-.*\\.start|changeset|server|account|forgotten|lock|refresh|held')
 LAST = 3        # sessions that are kept of those that nothing goes back to any more
 FORGOTTEN = 'forgotten'
 HELD = 'held'

@@ -52,6 +52,11 @@ class Object:
         return self.nodes + tuple(key for key, _ in self.members)
 
 
+def is_digits(text: str) -> bool:
+    """Whether a text is a number in the digits 0 to 9 alone: `isdigit` takes other signs too, such as `²`."""
+    return text.isascii() and text.isdigit()
+
+
 def rank(key):
     """Sorts keys as `print` does: nodes, ways, relations; within a kind positive ids rising, and then -1, -2 and on."""
     number = int(key[1:])

@@ -54,6 +54,19 @@ class Known:
         return None if self.there and self.there.content == self.mine.content else 'changed'
 
 
+def known_of(lines):
+    """The object of its lines, of which the first is `known ..`; those of another one may follow."""
+    _, key, _, mine, conflict = lines[0].split(' ')
+    thing = Known(key, conflict)
+    thing._same = mine == 'same'
+    for line in lines[1:]:
+        word, _, rest = line.partition(' ')
+        if word not in ('base', 'mine', 'theirs'):
+            break
+        thing._lines[word] = rest
+    return thing
+
+
 def read(text):
     """The objects of a saved session, Known by key, by rank; Trouble where the text is none. Incomplete ones aren't in it."""
     things, thing = {}, None

@@ -15,6 +15,7 @@ From row to row, in this order, of which each line is one write or one call:
 
     1 -> 2   PUT changeset/create; write server, the first time; write changeset
     2 -> 3   write N.osc; POST changeset/C/upload
+    2 -> 1   the next change would make the bounding box of C too large: PUT changeset/C/close; remove changeset
     3 -> 4   the answer is a diffResult of all changes: write N.answer
     3 -> 2   the answer is a 4xx: the document wasn't taken, C doesn't have it, and where that may be the answer to a second time,
              C counts no more changes than were confirmed: remove N.osc
@@ -29,6 +30,11 @@ The look is at `changeset/C/download`; where that doesn't come, at the version t
 many changes a changeset counts says the same once more, and where the two don't agree nothing goes out; nor does anything go
 into one that counts more than was confirmed.
 
+A server may limit how much goes out: by time (429), by the size of a document, or by the bounding box of a changeset (both
+413). Each is a refusal, by which nothing was taken. The next document is then smaller: half the changes, or, for the box,
+those that span half as much. After a document that was taken the next has twice as many changes again, up to those that
+were wanted. A 429 waits besides, and ends the send with `Later` where that takes longer than the command may wait.
+
 A new object has no version that would guard it, so row 3 is where another sender would make it twice; a change that names
 a version can't be taken twice at all.
 """
@@ -36,11 +42,13 @@ import enum
 import json
 import re
 from dataclasses import dataclass, field
-from typing import Dict, List, Optional
+from typing import Dict, List, Optional, Tuple
 
-from yoke import api, osc, words
-from yoke.api import Limits, Server
+from yoke import accounts, api, extent, opl, osc, words
+from yoke.api import Account, Limits, Server
+from yoke.day import State
 from yoke.session import Session
+from yoke.stored import Stored
 from yoke.trouble import Clash, NoAnswer, Refused, ServerRefused, Trouble
 
 CHUNK = 1000                # changes in a document, unless --chunk names another number
@@ -48,6 +56,7 @@ SILENCES = 3                # documents in a row that got no answer and weren't 
 WAITS = (10, 60)            # seconds between them
 FENCE_WAITS = (5, 15, 60)   # seconds in which a changeset that is closed may still be at work
 CLASHES = (409, 410, 412)   # somebody was faster
+Identity = Tuple[State, int, int]   # a kept session, and the file that it is now
 
 
 class Outcome(enum.Enum):
@@ -60,18 +69,22 @@ class Outcome(enum.Enum):
 
 @dataclass
 class Open:
-    """A changeset that is open: its id, its tags, and how many changes it has."""
+    """A changeset that is open: its id, its tags, how many changes it has, and the box around them, where that is known."""
 
     number: str
     tags: Dict[str, str]
     count: int = 0
+    box: Optional[extent.Box] = None
+    is_measured: bool = False       # whether `box` is around all of its changes
 
 
 @dataclass
 class Sending:
     """One send: a session, a server, the tags for changesets, and how many changes a chunk may have.
 
-    `note` is called with lines of progress. After `run` `sent` is how many changes were taken, and `used` the changesets.
+    `note` is called with lines of progress. `account` is the name of the account that has to send, if any; `max_extent` is how
+    much of the map a changeset may span, in units of 10^-7 degree: its box's width plus its height. After `run` `sent` is how
+    many changes were taken, and `used` the changesets.
     """
 
     session: Session
@@ -85,6 +98,16 @@ class Sending:
     used: List[str] = field(default_factory=list)
     unusable: int = 0       # changesets in a row that were refused before they had a change
     held: int = 0           # edits that are held back (`yoke/parts.py`), and that count as left
+    account: str = ''
+    max_extent: Optional[int] = None
+    sender: Optional[Account] = None        # who sends, where the server says so
+    _small: int = 0         # how many changes a chunk may have for now, where the server wanted fewer; else 0
+    _attempts: int = 0      # documents in a row to which the server said 429
+    _ahead: List[Tuple[str, opl.Object]] = field(default_factory=list)      # the next changes of the session
+    _ahead_of: Optional[Identity] = None    # the session that these are of
+    _answered: Optional[List[str]] = None   # the lines of the answer to the document that was just taken
+    _out: Optional[List[Tuple[str, opl.Object]]] = None     # the changes of the document that is out, where it was made here
+    _boxes_of: Optional[Tuple[Identity, extent.Boxes]] = None
 
     @property
     def day(self):
@@ -105,6 +128,7 @@ class Sending:
         self.limits = self.server.limits()
         if not self.limits.writable:
             raise NoAnswer('{} takes no edits at present; send again later'.format(self.server.address))
+        self.sender = accounts.check(self.day, self.server, self.account, self.note)
         self._take_up()
 
     def send_all(self, may_go=lambda chunk: True):
@@ -172,15 +196,43 @@ class Sending:
     def room(self):
         """How many changes the next chunk may have; where the changeset is full the chunk goes into another one."""
         left = self.limits.changes - (self.changeset.count if self.changeset else 0)
-        return min(self.size, left if left > 0 else self.limits.changes)
+        return min(self._small or self.size, left if left > 0 else self.limits.changes)
 
     def _next_chunk(self):
         """The changes of the next chunk; none where nothing is left."""
-        return self.session.ask(['upload {}'.format(self.room())]).first_chunk()
+        if self._ahead_of != identity(self.day.last()):
+            self._look_ahead(self.session.ask(['upload {}'.format(self.room())]))
+        return self._within_extent(self._ahead[:self.room()])
+
+    def _look_ahead(self, answer):
+        """Keeps the next changes of the last session, of an Answer whose last `upload` has them: after a refusal they are asked for no
+        second time."""
+        self._ahead, self._ahead_of = answer.first_chunk(), identity(self.day.last())
+
+    def _boxes(self) -> extent.Boxes:
+        """The boxes of changes of the last session."""
+        wanted = identity(self.day.last())
+        if self._boxes_of is None or self._boxes_of[0] != wanted:
+            self._boxes_of = wanted, extent.Boxes(Stored(self.day.last().path))
+        return self._boxes_of[1]
+
+    def _within_extent(self, chunk):
+        """As many changes of a chunk as keep the changeset within the extent. Where not even the first does the changeset is closed; a
+        change that spans more by itself goes out alone."""
+        if self.max_extent is None or not chunk:
+            return chunk
+        count = 0
+        if self.changeset and (self.changeset.is_measured or not self.changeset.count):
+            count = self._boxes().fitting(chunk, self.changeset.box, self.max_extent)
+        if not count and self.changeset and self.changeset.count:
+            self.note('changeset {}: the next change lies too far away, and goes into another one'.format(self.changeset.number))
+            self.close()
+        return chunk[:count or self._boxes().fitting(chunk, None, self.max_extent) or 1]
 
     def _open(self):
         number = self.server.open_changeset(self.tags)
         note_server(self.day, self.server)
+        accounts.note_account(self.day, self.sender)
         self.day.write('changeset', json.dumps({'number': number, 'tags': self.tags}) + '\n')
         self.changeset = Open(number, self.tags)
 
@@ -207,9 +259,10 @@ class Sending:
         except ValueError as error:
             raise Refused(str(error)) from None
         self._write('osc', document)
+        self._out, self._answered = chunk, None
         try:
             text = self.server.upload(self.changeset.number, document)
-            osc.answers(chunk, text)
+            self._answered = osc.answers(chunk, text)
         except ServerRefused as refused:
             return self._refused(refused, chunk)
         except (NoAnswer, osc.NoXml) as silence:
@@ -230,18 +283,54 @@ class Sending:
             self._remove('osc')
             keys = users(refused.text)
             raise Clash(str(refused) + ('; where it doesn\'t know them: yoke refresh ' + ' '.join(keys) if keys else ''), keys) from None
-        if refused.status == 413 and (self.changeset.count or len(chunk) > 1):
-            self._hold_to_count()
-            self.note('{}'.format(refused))
-            self.size = self.size if self.changeset.count else len(chunk) // 2
+        if refused.status in (413, 429):
+            if self._was_taken():
+                return Outcome.TAKEN
             self._remove('osc')
-            self.close()
+            self._make_smaller(refused, chunk)
             return Outcome.AGAIN
         if refused.status == 400:
             self.day.rename(self.day.beside(self.day.last(), 'osc'), self.day.beside(self.day.last(), 'refused'))
         else:
             self._remove('osc')
         raise refused
+
+    def _was_taken(self):
+        """Whether a document was taken although it was refused, since a proxy had sent it twice."""
+        count, _ = self.server.changeset(self.changeset.number)
+        if not self._counts(count):
+            return False
+        if not self._found():
+            raise self._unseen()
+        return True
+
+    def _make_smaller(self, refused, chunk):
+        """Sees to it that the next document is smaller than this chunk, or goes into another changeset; of a 429 it waits, too."""
+        if refused.status == 429:
+            self._small = max(1, len(chunk) // 2)
+            self.server.hold_off(refused, self._attempts)
+            self._attempts += 1
+            return
+        self.note('{}'.format(refused))
+        if self.changeset.count:
+            self.close()
+        elif len(chunk) == 1:
+            verb, one = chunk[0]
+            raise ServerRefused('{}; {} {} is one change, and too large by itself: make it smaller, or take it back'.format(
+                refused, verb, one.key), refused.status, refused.text)
+        elif words.is_too_wide(refused.text):
+            self._span_less(chunk)
+        else:
+            self.size = len(chunk) // 2     # for good: the server's limit of a document doesn't change
+
+    def _span_less(self, chunk):
+        """Lets changesets span half as much as this chunk; where its changes have no place the next chunk has half of them."""
+        box = self._boxes().of_all(chunk)
+        if box is None or not box.extent:
+            self._small = len(chunk) // 2
+        else:
+            self.max_extent = box.extent // 2
+            self.note('from here on a changeset spans {} degrees at most'.format(extent.degrees(self.max_extent)))
 
     def _other_changeset(self, refused):
         """A 409 for the changeset itself: it is closed, or somebody works in it. A second new one in a row is another fault."""
@@ -375,22 +464,51 @@ class Sending:
 
     def _confirm(self):
         """Takes the answer in, keeps the session after it, and answers with the next chunk."""
+        lines = self._lines_of_answer()
+        self._write('answers', ''.join(line + '\n' for line in lines))
+        self._measure()
+        self.changeset.count += len(lines)
+        self._grow()
+        answer = self.session.confirm(self.day.beside(self.day.last(), 'answers'), self.room())
+        self._look_ahead(answer)
+        self.sent, self.unusable = self.sent + len(lines), 0
+        if self.changeset.number not in self.used:
+            self.used.append(self.changeset.number)
+        self.note('changeset {}: {} changes taken, {} left'.format(self.changeset.number, len(lines), answer.upload_size() + self.held))
+        if self.changeset.count >= self.limits.changes:
+            self.close()
+        return self._next_chunk()
+
+    def _lines_of_answer(self) -> List[str]:
+        """The lines by which `confirm` takes the answer in: as it was just read, else from the disk."""
+        lines, self._answered = self._answered, None
+        if lines is not None:
+            return lines
         sent, text = self._sent(), self._read('answer')
         try:
-            lines = osc.answers(sent, text) if '<diffResult' in text else osc.looked_up(sent, text, self._given())
+            return osc.answers(sent, text) if '<diffResult' in text else osc.looked_up(sent, text, self._given())
         except ValueError as fault:
             raise Trouble('{} doesn\'t answer {}: {}'.format(
                 self.day.path(self.day.beside(self.day.last(), 'answer')), self.day.path(self.day.pending()), fault)) from None
-        self._write('answers', ''.join(line + '\n' for line in lines))
-        self.changeset.count += len(sent)
-        answer = self.session.confirm(self.day.beside(self.day.last(), 'answers'), self.room())
-        self.sent, self.unusable = self.sent + len(sent), 0
-        if self.changeset.number not in self.used:
-            self.used.append(self.changeset.number)
-        self.note('changeset {}: {} changes taken, {} left'.format(self.changeset.number, len(sent), answer.upload_size() + self.held))
-        if self.changeset.count >= self.limits.changes:
-            self.close()
-        return answer.first_chunk()
+
+    def _measure(self) -> None:
+        """Lets the box of the changeset be around the changes that were taken, where it was around all before them."""
+        assert self.changeset is not None
+        knows = self.max_extent is not None and self._out is not None and (self.changeset.is_measured or not self.changeset.count)
+        if knows:
+            self.changeset.box = extent.joined(self.changeset.box, self._boxes().of_all(self._out or []))
+        self.changeset.is_measured, self._out = knows, None
+
+    def _grow(self) -> None:
+        """Lets the next chunk have twice as many changes, up to as many as were wanted."""
+        self._attempts = 0
+        self._small = 0 if self._small * 2 >= self.size else self._small * 2
+
+
+def identity(state: State) -> Identity:
+    """What tells a session from one that is kept under its name later."""
+    found = state.path.stat()
+    return state, found.st_ino, found.st_mtime_ns
 
 
 def noted(day):

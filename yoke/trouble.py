@@ -43,13 +43,23 @@ class NoAnswer(Trouble):
 
 class ServerRefused(Trouble):
     """The server answered with a 4xx: it did nothing of what it was asked. `status` and `text` are its answer, and `wait` is
-    how many seconds it asks to wait."""
+    how many seconds it asks to wait, or 0 where it doesn't say."""
 
     code = 6
 
-    def __init__(self, message, status=0, text='', wait=0):
+    def __init__(self, message: str, status: int = 0, text: str = '', wait: int = 0) -> None:
         super().__init__(message)
         self.status, self.text, self.wait = status, text, wait
+
+
+class Later(ServerRefused):
+    """The server asks to wait for longer than the command may. `wait` is how many seconds, or 0 where it doesn't say."""
+
+    code = 75
+
+
+class Redacted(ServerRefused):
+    """A version of an object exists, and the server shows it to nobody."""
 
 
 class Busy(Trouble):

@@ -5,6 +5,8 @@ terminal.
 """
 import re
 
+from yoke import printing
+
 # What each refusal says, with places for what it carries, and the way out. docs/REFUSALS.md has each at length.
 REFUSALS = {
     1: ('there is no {0}', 'download it, or mend the key; of an import put it into the file'),
@@ -66,7 +68,7 @@ STATUSES = {
 ANSWERS = {
     400: ('it calls what was sent malformed', 'nothing was taken; the document is kept in the folder of the day'),
     401: ('it doesn\'t know the token', 'make a new token that may edit the map, and give it by $YOKE_TOKEN or --token-file'),
-    403: ('the account may not do that', 'the token needs the right to edit the map; look for a message or a block at the account'),
+    403: ('the account may not do that', 'log in to the website, and look for a message or a block'),
     404: ('it doesn\'t know what was asked for', 'look at the address, and whether the extract is of this server'),
     409: ('somebody was faster', 'yoke refresh, then yoke conflicts, and send again'),
     410: ('what is to be changed is deleted there', 'yoke refresh, then yoke conflicts, and send again'),
@@ -110,6 +112,16 @@ def is_version_mismatch(text):
     return text.startswith('Version mismatch')
 
 
+def is_too_wide(text: str) -> bool:
+    """Whether the text of a 413 is about the bounding box of the changeset, and not about the number of changes."""
+    return bool(re.search('bounding box|bbox|^size limit exceeded', text.strip(), re.IGNORECASE))
+
+
+def is_scope_missing(text: str) -> bool:
+    """Whether the text of a 403 says that the token lacks a right, and not that the account is blocked."""
+    return bool(re.search('not (granted|permitted)|permission|scope', text, re.IGNORECASE))
+
+
 def is_of_another_account(text):
     """Whether the text of a 409 says that the changeset was opened by another account."""
     return 'own that changeset' in text
@@ -120,11 +132,15 @@ def answer(code, text):
     cause, way = ANSWERS.get(code, ('it refuses', 'its text says why'))
     if code == 409 and not is_version_mismatch(text):
         cause, way = 'the changeset isn\'t open', 'another one is needed'
+    if code == 413 and is_too_wide(text):
+        cause, way = 'the changeset would span too large an area', 'send less of the map in one changeset: --max-extent'
+    if code == 403 and is_scope_missing(text):
+        cause, way = 'the token may not do that', 'make a token that may edit the map (write_api) and read your account\'s name (read_prefs)'
     said = cut(' '.join(text.split()), 300)
     return 'the server answers {}, {}{}; {}'.format(code, cause, ': ' + said if said else '', way)
 
 
 def cut(text, longest=100):
     """A text that may be very long, as one line of a message."""
-    text = re.sub('[\\x00-\\x1f\\x7f-\\x9f]', ' ', text)
+    text = printing.line(re.sub('[\\t\\n\\r]', ' ', text))
     return text if len(text) <= longest else text[:longest - 3] + '...'

@@ -60,8 +60,7 @@ class BoxDownload:
 
     def _largest(self) -> Decimal:
         """Square degrees of one call."""
-        text = self.server.look('/api/capabilities', above=True)
-        found = self.server._read(osc.root_of, text, 'osm').find('./api/area')
+        found = self.server.capabilities().find('./api/area')
         try:
             largest = Decimal(found.get('maximum') or '') if found is not None else AREA
         except InvalidOperation:

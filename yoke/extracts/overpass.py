@@ -65,7 +65,7 @@ def fetch(address: str, query: str, parts: Parts, note: Callable[[str], None]) -
         if answer.status not in BUSY or wait is None:
             raise refused(address, answer.status, text)
         told = answer.headers.get('retry-after')
-        wait = api.seconds(told) if told else wait
+        wait = min(api.seconds(told) or wait, api.PATIENCE)
         note(f'{web.host(address)} is busy ({answer.status}); asked again in {wait} s')
         api.pause(wait)
     raise AssertionError('the last wait is None')

@@ -53,5 +53,5 @@ def stop_at(last, stop=None):
     with mock.patch('os.replace', steps.around(os.replace, 'write')), \
             mock.patch('os.rename', steps.around(os.rename, 'rename')), \
             mock.patch.object(pathlib.Path, 'unlink', steps.around(pathlib.Path.unlink, 'remove')), \
-            mock.patch.object(api.Server, '_once', lambda server, method, path, document, above: once(server, method, path, document, above)):
+            mock.patch.object(api.Server, '_once', lambda server, method, path, document=None: once(server, method, path, document)):
         yield steps

@@ -15,7 +15,7 @@ from yoke.testing.database import Refusal
 from yoke.testing.server import MAPPER, User
 from yoke.tests.stops import Stopped, stop_at
 from yoke.tests.support import ServerTest, program
-from yoke.trouble import Busy, Clash, NoAnswer, Refused, ServerRefused, Trouble, Usage
+from yoke.trouble import Busy, Clash, Later, NoAnswer, Refused, ServerRefused, Trouble, Usage
 
 EDITS = ['node x13.004 y52 Tamenity=bench', 'way Thighway=footway Nn3,n-1', 'tag w5 Tsurface=asphalt', 'tag n8 Tbackrest=yes', 'delete r9']
 
@@ -67,7 +67,7 @@ class Whole(SendTest):
         self.assertEqual(0, self.send('--source', 'survey', '--tag', 'import=yes'), self.err)
         self.is_all_there()
         self.is_at_rest()
-        self.assertEqual('5 changes sent in changeset 1\nnothing is left to send\n', self.out)
+        self.assertEqual(f'5 changes sent in changeset 1\n{self.server.address}/changeset/1\nnothing is left to send\n', self.out)
         self.assertEqual(3, self.server.requests.count('upload'))
         changeset = self.server.database.changesets[1]
         self.assertEqual({'created_by': api.CREATED_BY, 'comment': 'a test', 'source': 'survey', 'import': 'yes'}, changeset.tags)
@@ -193,7 +193,7 @@ class Changesets(SendTest):
         self.assertEqual(ServerRefused.code, self.send())
         self.server.users = {'another': User(7, 'another')}
         with mock.patch.dict(os.environ, YOKE_TOKEN='another'):
-            self.assertEqual(0, self.send(), self.err)
+            self.assertEqual(0, self.send('--as', 'another'), self.err)
         self.assertEqual(['mapper', 'another'], [changeset.user.name for changeset in self.server.database.changesets.values()])
         self.assertEqual(5, len(self.server.history))
         self.assertIsNone(self.day.read('changeset'))
@@ -204,7 +204,7 @@ class Changesets(SendTest):
         self.assertEqual(NoAnswer.code, self.send())
         self.server.users['another'] = User(7, 'another')
         with mock.patch.dict(os.environ, YOKE_TOKEN='another'):
-            self.assertEqual(ServerRefused.code, self.send())
+            self.assertEqual(ServerRefused.code, self.send('--as', 'another'))
         self.assertIn('own that changeset', self.err)
         self.assertEqual('000002.osc', self.day.pending())
         self.goes_on()
@@ -315,8 +315,9 @@ class Refusals(SendTest):
     def test_429_without_end(self):
         self.server.limits.user_changes = 2
         self.server.limits.retry_after = 600
-        self.assertEqual(ServerRefused.code, self.send())
+        self.assertEqual(Later.code, self.send())
         self.assertEqual([600], self.waited)
+        self.assertIn('it asks to wait 600 s, and 300 s are left to wait', self.err)
         self.server.limits.user_changes = None
         self.goes_on()
 
@@ -329,7 +330,7 @@ class Refusals(SendTest):
 
 
 FAULTS = ['close-before', 'drop-after', 'half-after', '500-before', '500-after', '504-before', '504-after']
-OPERATIONS = ['capabilities', 'create', 'upload', 'close']
+OPERATIONS = ['capabilities', 'details', 'permissions', 'create', 'upload', 'close']
 
 
 class Silence(SendTest):

@@ -1,5 +1,9 @@
 """`yoke send`: the edits go to a server."""
-from yoke import api, opl, parts, sending
+import argparse
+import re
+from decimal import Decimal
+
+from yoke import api, extent, opl, osc, parts, sending, words
 from yoke.parts import Parts, Wanted
 from yoke.progress import note
 from yoke.review import reviewing
@@ -13,6 +17,7 @@ DETAILS = """It may end anywhere: the same command again goes on. Where an answe
 sends nothing twice. OpenStreetMap asks for a comment that says what was done and why, and for the source; before many
 edits of one kind read its rules for imports and automated edits."""
 SHOWN = 20      # keys of what is left, before the rest is counted
+OURS = {'comment': 'say it by -m', 'created_by': 'it names the program that made the changeset'}     # tags that --tag can't set
 MOST = 20       # how often one command refreshes: somebody who edits the same objects all the time is to be talked to
 
 
@@ -21,6 +26,12 @@ def add_arguments(parser):
     parser.add_argument('-m', '--comment', metavar='TEXT', help='what was done, for those who read the changeset')
     parser.add_argument('--source', metavar='TEXT', help='where it is known from, such as survey')
     parser.add_argument('--tag', metavar='KEY=VALUE', action='append', default=[], help='another tag of the changeset; may come again')
+    parser.add_argument('--bot', action='store_true', help='tag the changeset bot=yes: a program made the edits')
+    parser.add_argument('--import', dest='imports', action='store_true', help='tag the changeset import=yes: the edits are data of others')
+    parser.add_argument('--review', action='store_true', help='tag the changeset review_requested=yes: others are asked to look at it')
+    parser.add_argument('--as', dest='account', metavar='NAME', default='', help='the account that sends; with the token of another one nothing is sent')
+    parser.add_argument('--max-extent', metavar='DEGREES', type=degrees,
+                        help='how much of the map a changeset may span: width plus height of its bounding box')
     parser.add_argument('--chunk', metavar='N', type=int, default=sending.CHUNK, help='changes in a document, 1 to 10,000 (%(default)s)')
     parser.add_argument('--refresh', action='store_true', help='where somebody was faster, refresh and go on, unless something is in conflict then')
     parser.add_argument('--skip-conflicts', action='store_true',
@@ -46,7 +57,7 @@ def run(arguments):
     tags = tags_of(arguments)
     server = api.server_of(arguments, note, writes=True)
     session = Session.of(arguments)
-    one = Sending(session, server, tags, arguments.chunk, note)
+    one = Sending(session, server, tags, arguments.chunk, note, account=arguments.account, max_extent=arguments.max_extent)
     part = Parts(one, wanted, note)
     with session.day.locked():
         try:
@@ -54,6 +65,8 @@ def run(arguments):
         except NoAnswer as silence:
             raise NoAnswer('{}; the same command again goes on from here'.format(silence)) from None
     print('{} changes sent{}'.format(one.sent, ' in ' + ', '.join('changeset ' + number for number in one.used) if one.used else ''))
+    for number in one.used:
+        print(server.link(number))
     show_left(part.left)
     return 0
 
@@ -87,21 +100,48 @@ def deliver(part, refreshes):
 
 
 def tags_of(arguments):
-    """The tags of a changeset; Usage where OpenStreetMap wouldn't take them."""
+    """The tags of a changeset; Usage where OpenStreetMap wouldn't take them, or where they would say something untrue."""
     if not (arguments.comment or '').strip():
         raise Usage('send wants a comment: -m \'what was done\'')
     tags = {'created_by': api.CREATED_BY, 'comment': arguments.comment}
     if arguments.source:
         tags['source'] = arguments.source
+    for wanted, key in ((arguments.bot, 'bot'), (arguments.imports, 'import'), (arguments.review, 'review_requested')):
+        if wanted:
+            tags[key] = 'yes'
     for pair in arguments.tag:
         key, sign, value = pair.partition('=')
-        if not key or not sign:
-            raise Usage('--tag wants KEY=VALUE, and not {}'.format(pair))
+        if not key or not sign or not value.strip():
+            raise Usage(f'--tag wants KEY=VALUE, and not {words.cut(pair)}')
+        if key in OURS:
+            raise Usage(f'--tag can\'t set {key}: {OURS[key]}')
+        if tags.get(key, value) != value:
+            raise Usage(f'--tag {key}={words.cut(value)} says something else than {key}={words.cut(tags[key])} before it')
         tags[key] = value
     for key, value in tags.items():
-        if max(len(key), len(value)) > opl.LONGEST:
-            raise Usage('the {} of a changeset has at most {} characters'.format(key[:40], opl.LONGEST))
+        check_text(key, value)
     return tags
+
+
+def check_text(key: str, value: str) -> None:
+    """Usage where a tag of a changeset is too long, or has a character that the API doesn't take."""
+    name = words.cut(key, 40)
+    if max(len(key), len(value)) > opl.LONGEST:
+        raise Usage(f'the {name} of a changeset has at most {opl.LONGEST} characters')
+    found = osc.NOT_CARRIED.search(key + value)
+    if found and '\ud800' <= found[0] <= '\udfff':
+        raise Usage(f'the {name} of the changeset isn\'t text in UTF-8: look at the encoding of your terminal or script')
+    if found:
+        raise Usage(f'the {name} of the changeset has U+{ord(found[0]):04X} in it, which the API doesn\'t take: leave it out')
+
+
+def degrees(text: str) -> int:
+    """Degrees as units of 10^-7 degree, for --max-extent."""
+    found = re.fullmatch('[0-9]{1,3}([.][0-9]{1,7})?', text)
+    units = int(Decimal(text) * extent.UNITS) if found else 0
+    if not units:
+        raise argparse.ArgumentTypeError(f'wants degrees such as 0.5, and not {words.cut(text)}')
+    return units
 
 
 def show(session, size, wanted):
