@@ -41,6 +41,10 @@ class Edits:
         """The object of an item."""
         return self.table.things[key]
 
+    def parts_of(self, key: str) -> List[str]:
+        """The edited objects that are decided as one item: itself, and its corners."""
+        return ([key] if key in self.edits else []) + self.corners.get(key, [])
+
     def item_of(self, key: str) -> str:
         """The item with which an edited object is decided; empty where there is none."""
         if key in self.is_corner:

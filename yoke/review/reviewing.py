@@ -189,16 +189,17 @@ class Review:
         A conflict isn't among them, nor an object of which a tag is rejected: the script changes these.
         """
         how = self.decisions.how
-        found = {key for key in self.found.items if how.get(key) == ACCEPTED}
-        corners = {corner for key in found for corner in self.found.corners.get(key, ())}
-        plain = (key for key in found | corners if key in self.found.edits)
-        return {key for key in plain if self.found.edits[key].conflict == 'none'} - set(self.because)
+        found = self._with_corners({key for key in self.found.items if how.get(key) == ACCEPTED})
+        return {key for key in found if self.found.edits[key].conflict == 'none'}
+
+    def _with_corners(self, items: Set[str]) -> Set[str]:
+        """The keys of the edits of items, corners too, but for those that are rejected."""
+        return {part for key in items for part in self.found.parts_of(key)} - set(self.because)
 
     def undecided(self) -> Set[str]:
         """The keys of the edits on which nobody decided, corners too if they belong to no accepted item."""
         found = {key for key in self.found.items if self.state_of(key) == UNDECIDED}
-        corners = {corner for key in found for corner in self.found.corners.get(key, ())}
-        return (found | corners) & set(self.found.edits) - self.accepted() - set(self.because)
+        return self._with_corners(found) - self.accepted()
 
     # ---- what the page asks ----
 
@@ -372,13 +373,15 @@ class Review:
         """
         users = next(reply for reply in answer.replies if reply.step == USERS).text[1:]
         after = collect(table.read(answer.saved()), users)
+        taken = self._with_corners(
+            {key for key in self.found.items if self.state_of(key) == ACCEPTED}
+        )
         digests = digests_of(after, Renames(self.session.day.folder))
         self.decisions.note_after(
             {
                 key: of
                 for key, of in digests.items()
-                if self.decisions.digests.get(key) != of
-                and self.state_of(self.found.item_of(key)) == ACCEPTED
+                if self.decisions.digests.get(key) != of and taken.issuperset(after.parts_of(key))
             }
         )
 
