@@ -13,8 +13,34 @@ end there: `to-josm` is `to_josm.py`, `import` is `import_.py`.
 import importlib
 import keyword
 
-NAMES = ['start', 'do', 'status', 'diff', 'undo', 'send', 'refresh', 'conflicts', 'resolve', 'tag', 'show', 'insert', 'add-member', 'turns', 'lint', 'expand',
-         'josm', 'to-josm', 'osc', 'geojson', 'import', 'revert', 'practice', 'get', 'review']
+NAMES = [
+    'start',
+    'do',
+    'status',
+    'diff',
+    'undo',
+    'send',
+    'refresh',
+    'conflicts',
+    'resolve',
+    'tag',
+    'show',
+    'insert',
+    'add-member',
+    'turns',
+    'lint',
+    'expand',
+    'josm',
+    'to-josm',
+    'osc',
+    'geojson',
+    'import',
+    'revert',
+    'practice',
+    'tiles',
+    'get',
+    'review',
+]
 
 
 def load(name):

@@ -163,7 +163,7 @@ def programs_named(_):
 def says_for_whom(lines):
     """The first line under the title of a page says for whom it is."""
     first = next((line for line in lines[1:] if line.strip()), '')
-    if not re.match(r'For (?:who|mappers|everybody|import teams|authors)\b', first):
+    if not re.match(r'For (?:who|mappers|everybody|people|import teams|authors)\b', first):
         raise Wrong('{} doesn\'t say for whom it is: {}'.format(lines[0], first))
 
 

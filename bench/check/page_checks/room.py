@@ -1,5 +1,6 @@
 """Rooms in which blocks of pages are run as a reader runs them, and cases are tried."""
 import contextlib
+import importlib.util
 import os
 import pathlib
 import re
@@ -87,7 +88,11 @@ def compare(want, got):
 
 
 def run_section(room, blocks, shell):
-    """Runs a section's blocks in their order."""
+    """Runs a section's blocks in their order; Missing where one needs what isn't installed."""
+    for block in blocks:
+        for needed in block.words[1:] if block.words[:1] == ['needs'] else ():
+            if shutil.which(needed) is None and importlib.util.find_spec(needed) is None:
+                raise Missing(needed)
     said = None
     for block in blocks:
         try:
@@ -96,8 +101,12 @@ def run_section(room, blocks, shell):
             raise Wrong('{}, line {}: {}'.format(shell, block.line, wrong))
 
 
+class Missing(Exception):
+    """Something that a block needs isn't installed."""
+
+
 def run_block(room, block, shell, said):
-    name = block.words[0] if block.words else None
+    name = block.words[0] if block.words and block.words[0] != 'needs' else None
     if block.kind == 'sh' and name != 'elsewhere':
         ended = pathlib.Path(room.holder.name) / 'bin' / 'ended'
         status, said = room.sh("trap 'pwd -P > {}' EXIT\n".format(ended) + block.text, shell)

@@ -1,0 +1,166 @@
+"""A made town of blocks for trials: streets, buildings with addresses, shops, trees, bus routes, turn restrictions, and slips.
+
+    python3 -m yoke.testing.made_town BLOCKS FILE.opl [--seed N] [--slips]
+
+Streets cross at shared nodes. With `--slips` there are repeated nodes, doubled nodes, rings that aren't closed, and old tags.
+"""
+from __future__ import annotations
+
+import argparse
+import math
+import random
+from collections.abc import Iterator
+from dataclasses import dataclass, field
+
+from yoke import opl
+
+WEST, SOUTH = 13.0, 52.0            # degrees of the first corner
+WIDE, HIGH = 0.0013, 0.0009         # degrees of a block: some 90 by 100 m
+NAMES = ('Adler Anker Berg Bär Bach Brunnen Dom Eiche Falken Fichten Garten Hafen Hirsch Insel Jäger Kirch Krone Linden Löwen '
+         'Markt Mühlen Nord Ost Park Quell Rathaus Rosen Schloss Schwan See Sonnen Stern Süd Tal Tannen Ufer Weiden West '
+         'Wiesen Ziegel').split()
+SHOPS = [('shop', 'bakery'), ('amenity', 'pharmacy'), ('amenity', 'restaurant'), ('shop', 'hairdresser'), ('amenity', 'cafe'),
+         ('shop', 'butcher'), ('amenity', 'bank'), ('shop', 'florist'), ('amenity', 'doctors'), ('shop', 'books')]
+FAMILIES = 'Müller Schmidt Schneider Fischer Weber Meyer Wagner Becker Schulz Hoffmann Koch Richter Klein Wolf Schröder'.split()
+STREET_NODES = 9                    # of one way of a street, before the next one goes on
+
+Tags = dict[str, str]
+
+
+@dataclass
+class Town:
+    """The objects of a town, as they are made: ids rise from 1 in each kind."""
+
+    dice: random.Random
+    slips: bool
+    nodes: list[tuple[float, float, Tags]] = field(default_factory=list)
+    ways: list[tuple[list[int], Tags]] = field(default_factory=list)
+    relations: list[tuple[list[tuple[str, int, str]], Tags]] = field(default_factory=list)
+    streets: dict[str, list[int]] = field(default_factory=dict)
+
+    def node(self, lon: float, lat: float, tags: Tags | None = None) -> int:
+        self.nodes.append((lon, lat, tags or {}))
+        return len(self.nodes)
+
+    def way(self, refs: list[int], tags: Tags) -> int:
+        self.ways.append((refs, tags))
+        return len(self.ways)
+
+    def now_and_then(self, share: float) -> bool:
+        """Whether a slip happens, of which there is such a share."""
+        return self.slips and self.dice.random() < share
+
+    def __len__(self) -> int:
+        return len(self.nodes) + len(self.ways) + len(self.relations)
+
+
+def make(blocks: int, seed: int = 1, slips: bool = False) -> Town:
+    """A town of so many blocks, in a square."""
+    town = Town(random.Random(seed), slips)
+    side = math.ceil(math.sqrt(blocks))
+    corners = {(x, y): town.node(WEST + x * WIDE, SOUTH + y * HIGH) for y in range(side + 1) for x in range(side + 1)}
+    _streets(town, side, corners)
+    for y in range(side):
+        for x in range(side):
+            _block(town, x, y)
+    _routes(town)
+    return town
+
+
+def _name(number: int, ending: str) -> str:
+    return NAMES[number % len(NAMES)] + (str(number // len(NAMES)) if number >= len(NAMES) else '') + ending
+
+
+def _streets(town: Town, side: int, corners: dict[tuple[int, int], int]) -> None:
+    # a corner at which a street has a node of its own, at the same place: the two streets don't meet there
+    doubled = {place: town.node(*town.nodes[node - 1][:2]) for place, node in corners.items() if town.now_and_then(.05)}
+    for at in range(side + 1):
+        _street(town, _name(at, 'straße'), [corners[x, at] for x in range(side + 1)], at)
+        _street(town, _name(at, 'weg'), [doubled.get((at, y), corners[at, y]) for y in range(side + 1)], at)
+
+
+def _street(town: Town, name: str, points: list[int], number: int) -> None:
+    for at in range(0, len(points) - 1, STREET_NODES - 1):
+        refs = points[at:at + STREET_NODES]
+        if len(refs) < 2:
+            continue
+        if town.now_and_then(.02):
+            refs = refs[:2] + refs[1:]          # a node twice side by side
+        tags = {'highway': 'tertiary' if number % 5 == 0 else 'residential', 'name': name}
+        if town.dice.random() < .5:
+            tags['maxspeed'] = '30'
+        if town.now_and_then(.1):
+            tags['created_by'] = 'JOSM'
+        town.streets.setdefault(name, []).append(town.way(refs, tags))
+
+
+def _block(town: Town, x: int, y: int) -> None:
+    west, south = WEST + x * WIDE, SOUTH + y * HIGH
+    for house in range(6):
+        _house(town, west + WIDE * (.12 + .27 * (house % 3)), south + HIGH * (.15 + .4 * (house // 3)),
+               _name(y + house // 3, 'straße'), 1 + x * 6 + house)
+    for shop in range(4):
+        key, value = town.dice.choice(SHOPS)
+        tags = {key: value, 'name': f'{value.title()} {town.dice.choice(FAMILIES)}'}
+        if town.dice.random() < .4:
+            tags['opening_hours'] = 'Mo-Fr 08:00-18:00'
+        if town.now_and_then(.1):
+            tags['created_by'] = 'iD'
+        town.node(west + WIDE * (.1 + .22 * shop + town.dice.random() * .05), south + HIGH * (.43 + town.dice.random() * .08), tags)
+    for _ in range(3):
+        town.node(west + WIDE * town.dice.random(), south + HIGH * .05, {'natural': 'tree'})
+
+
+def _house(town: Town, west: float, south: float, street: str, number: int) -> None:
+    east, north = west + WIDE * .2, south + HIGH * .25
+    refs = [town.node(west, south), town.node(east, south), town.node(east, north), town.node(west, north)]
+    end = town.node(west, south) if town.now_and_then(.01) else refs[0]     # a ring that isn't closed
+    if town.now_and_then(.01):
+        refs = refs[:1] + refs
+    tags = {'building': 'house', 'addr:street': street, 'addr:housenumber': str(number)}
+    if town.now_and_then(.1):
+        tags['created_by'] = 'Potlatch'
+    town.way(refs + [end], tags)
+
+
+def _routes(town: Town) -> None:
+    """A bus route along some streets, and a turn restriction at some crossings."""
+    for name, ways in list(town.streets.items())[::3]:
+        town.relations.append(([('w', way, '') for way in ways], {'type': 'route', 'route': 'bus', 'ref': name[:3]}))
+    of_node: dict[int, list[int]] = {}
+    for number, (refs, tags) in enumerate(town.ways, 1):
+        for ref in refs if 'highway' in tags else ():
+            of_node.setdefault(ref, []).append(number)
+    crossings = [(node, ways) for node, ways in of_node.items() if len(set(ways)) > 1]
+    for node, ways in crossings[::7]:
+        town.relations.append(([('w', ways[0], 'from'), ('n', node, 'via'), ('w', ways[-1], 'to')],
+                               {'type': 'restriction', 'restriction': 'no_left_turn'}))
+
+
+def lines(town: Town) -> Iterator[str]:
+    """The town as lines of OPL."""
+    def head(kind: str, number: int, tags: Tags) -> str:
+        return f'{kind}{number} v{1 + number % 4} dV c1 t2024-05-06T07:10:00Z i23 umapper T{opl.tags(tags)}'
+    for number, (lon, lat, tags) in enumerate(town.nodes, 1):
+        yield f'{head("n", number, tags)} x{opl.degrees(lon)} y{opl.degrees(lat)}'
+    for number, (refs, tags) in enumerate(town.ways, 1):
+        yield f'{head("w", number, tags)} N{",".join(f"n{ref}" for ref in refs)}'
+    for number, (members, tags) in enumerate(town.relations, 1):
+        yield f'{head("r", number, tags)} M{",".join(f"{kind}{ref}@{role}" for kind, ref, role in members)}'
+
+
+def main() -> None:
+    words = argparse.ArgumentParser(description=__doc__, formatter_class=argparse.RawDescriptionHelpFormatter)
+    words.add_argument('blocks', type=int)
+    words.add_argument('file')
+    words.add_argument('--seed', type=int, default=1)
+    words.add_argument('--slips', action='store_true')
+    said = words.parse_args()
+    town = make(said.blocks, said.seed, said.slips)
+    with open(said.file, 'x', encoding='utf-8') as file:
+        file.writelines(line + '\n' for line in lines(town))
+    print(len(town), 'objects')
+
+
+if __name__ == '__main__':
+    main()
