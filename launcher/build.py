@@ -5,7 +5,7 @@ import subprocess
 import time
 from dataclasses import dataclass, field
 
-from launcher import calls, crates, keys, machine, measure
+from launcher import calls, crates, example, keys, machine, measure
 from launcher.guard import Guard
 from launcher.messages import Stop, count, end_of, gigabytes, minutes, say, stopped_by
 from launcher.schedule import RATES, Running, Schedule, Start
@@ -25,7 +25,6 @@ PRIOR, SILENCE = 300.0, 120.0
 # The part of what a proof has taken that it is taken to need still, where it takes longer than reckoned.
 MORE = 0.15
 EACH_LOOK = 0.5
-EXAMPLE = ('examples', 'edit.script', 'edit.expected')
 
 
 @dataclass
@@ -112,7 +111,7 @@ class Build:
             self.tell_begin()
             self.prove()
             part = self.link()
-            self.hold_to_example(part)
+            example.hold(self.home, part)
             return self.keep(part)
         except (KeyboardInterrupt, SystemExit):
             say('interrupted: {} of {} crates are proved and kept, and ./editor goes on from there'
@@ -301,18 +300,6 @@ class Build:
             raise Stop(stopped_by(what + ' the program', step.signal, 1, free))
         if step.status:
             raise Stop('{} the program failed with status {}. The end of {}:\n{}'.format(what, step.status, log, end_of(log)))
-
-    def hold_to_example(self, program):
-        """Ends the build where the program doesn't answer the example as its page does, if there is one."""
-        folder, script, wanted = EXAMPLE
-        folder = os.path.join(self.home, folder)
-        if not os.path.isfile(os.path.join(folder, wanted)):
-            return
-        done = subprocess.run([program, script], cwd=folder, stdin=subprocess.DEVNULL, stdout=subprocess.PIPE)
-        with open(os.path.join(folder, wanted), 'rb') as file:
-            if done.returncode or done.stdout != file.read():
-                raise Stop('the built program doesn\'t answer examples/{} as examples/{} has it (status {})'
-                           .format(script, wanted, done.returncode))
 
     def keep(self, part):
         """Keeps the program with its record, and removes the libraries, unless they are wanted: its path."""

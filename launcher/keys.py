@@ -13,7 +13,7 @@ from launcher import calls
 from launcher.crates import PARTS
 from launcher.messages import Stop
 
-FORM = 'yokeorange launcher 1'
+FORM, FORM_PLAIN = 'yokeorange launcher 1', 'yokeorange plain 1'
 
 
 def of(*parts):
@@ -67,6 +67,21 @@ def of_texts(home, crates):
 def of_sources(texts):
     """One hash over the texts of all crates that a program needs: what tells whether it is of these sources."""
     return of(FORM, sorted(texts.items()))
+
+
+def of_plain(home, crates):
+    """One hash over all that a plain build reads: the sources of the crates and their lines, the export itself, the version."""
+    found = [[name, it.line, of_folder(os.path.join(home, 'crates', name, 'src'))] for name, it in sorted(crates.items())]
+    folder = os.path.join(home, 'plain')
+    own = [it for it in files_below(folder) if not it.startswith('tests' + os.sep) and '__pycache__' not in it]
+    return of(FORM_PLAIN, found, of_folder(folder, own), of_file(os.path.join(home, 'CHANGELOG.md')))
+
+
+def plain_again(home):
+    """The same, read once more."""
+    from launcher import build
+
+    return of_plain(home, build.needed(home))
 
 
 def of_crates(crates, texts, toolkit):

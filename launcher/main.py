@@ -1,17 +1,21 @@
-"""The launcher: reads the words, finds a program or has one proved and built, and runs it."""
+"""The launcher: reads the words, finds a program or has one built, and runs it; or has it proved, or exported."""
+from __future__ import annotations
+
 import os
 import re
+import shutil
 import signal
 import sys
 import time
+from typing import NoReturn
 
-from launcher import keys, look, machine, programs, toolkit, words
+from launcher import keys, programs, sources, words
 from launcher.messages import Stop, count, gigabytes, minutes, say
 from launcher.store import Store, default_folder
 
 HOME = os.path.dirname(os.path.dirname(os.path.abspath(__file__)))
-# The name under which the program is started, as its messages have it.
-PROGRAM = 'editor'
+# The name under which the program is started, as its messages have it, and the part of the store with programs that aren't proved.
+PROGRAM, PLAIN = 'editor', 'plain-programs'
 # Bytes of memory that proofs side by side take at the most, where there is enough.
 USUAL_MEMORY = 6e9
 
@@ -42,6 +46,8 @@ def act(asked):
         sys.stdout.write(version_text())
         return 0
     if asked.action == 'look':
+        from launcher import look
+
         words.hold_to_script(asked.rest)
         return look.run(HOME, asked.rest)
     if asked.action == 'rust':
@@ -80,30 +86,68 @@ def crates_and_texts():
     return crates, keys.of_texts(HOME, crates)
 
 
-def run(arguments):
-    """Runs the program, and proves and builds it first where that has to be."""
+def run(arguments: list[str]) -> NoReturn:
+    """Runs the program: the one that was proved here, else the released one, else a plain build, else the toolkit's look."""
     store = Store(default_folder())
-    crates, texts = crates_and_texts()
-    sources = keys.of_sources(texts)
-    path = proved(store, sources) or released(sources)
-    if not path:
-        words.hold_to_script(arguments)
-        path = proved_now(store, crates, texts, {})
+    found = sources.found(HOME, store)
+    path = proved(store, found.proved) or released(found.proved) or unproved(store, found, arguments)
     # Python ignores these, and the program would inherit that.
     for number in (signal.SIGPIPE, signal.SIGXFSZ):
         signal.signal(number, signal.SIG_DFL)
     os.execv(path, [PROGRAM, *arguments])
 
 
+def unproved(store: Store, found: sources.Sources, arguments: list[str]) -> str:
+    """A program of these sources that isn't proved, built where it has to be: its path."""
+    kept = store.program(found.plain, None, PLAIN)
+    if not kept:
+        words.hold_to_script(arguments)
+        kept = built_plain(store, found)
+    path, record = kept
+    if record.get('kind') == 'look':
+        say('running the program as the toolkit compiles it before any proof: nothing of it is proved. ./editor --prove proves it')
+    else:
+        say('running a plain Rust build of these sources: nothing of it is proved. ./editor --prove proves it, with the toolkit')
+    return path
+
+
+def built_plain(store: Store, found: sources.Sources) -> tuple[str, dict[str, object]]:
+    """A plain build, or the toolkit's look where there is no cargo: its path and its record."""
+    from launcher import kept_look, plain_build
+
+    cargo, why = plain_build.find()
+    ends_by_signal()
+    if cargo:
+        plain_build.build(HOME, store, cargo, found.plain, plain_version())
+    elif shutil.which('rt'):
+        say(f'{why}, so the toolkit compiles the program. For a build of half a minute, {plain_build.INSTALL}')
+        kept_look.build(HOME, store, found.plain)
+    else:
+        raise Stop(f'{why}, and no Rattle toolkit: {plain_build.INSTALL}', 127)
+    kept = store.program(found.plain, None, PLAIN)
+    if not kept:
+        raise Stop(f'{store.path(PLAIN)} was changed while the program was built: run ./editor again')
+    return kept
+
+
+def ends_by_signal() -> None:
+    """Has the launcher end by what stops it, so that what it started ends too."""
+    for number in (signal.SIGTERM, signal.SIGHUP):
+        if signal.getsignal(number) != signal.SIG_IGN:  # nohup ignores SIGHUP
+            signal.signal(number, lambda it, _: sys.exit(128 + it))
+
+
 def proved(store, sources):
     """A kept program of these sources by the toolkit that is on the path, or by any where none is: its path or None."""
     found = store.program(sources, None)
-    kit = toolkit.find(store) if found else None
+    if not found:
+        return None
+    from launcher import build, toolkit
+
+    kit = toolkit.find(store)
     found = store.program(sources, kit.identity) if kit else found
     if not found:
         return None
-    from launcher import build
-
     build.copy_to_checkout(HOME, found[0], tells=False)
     return found[0]
 
@@ -119,12 +163,12 @@ def released(sources):
 
 def proved_now(store, crates, texts, flags):
     """Proves and builds the program, one launcher at a time: its path."""
+    from launcher import toolkit
+
     jobs = words.jobs_wanted()
     toolkit.demand(toolkit.find(store), HOME)
     store.make(HOME)
-    for number in (signal.SIGTERM, signal.SIGHUP):
-        if signal.getsignal(number) != signal.SIG_IGN:  # nohup ignores SIGHUP
-            signal.signal(number, lambda it, _: sys.exit(128 + it))
+    ends_by_signal()
     mine = 'process {}, since {}'.format(os.getpid(), time.strftime('%H:%M'))
     with store.lock(mine, told_of_other):
         kit = toolkit.demand(toolkit.find(store), HOME)
@@ -146,7 +190,7 @@ def told_of_other(other):
 
 def built(store, kit, crates, texts, flags, jobs):
     """Proves and builds the program by this toolkit: its path. The lock is held."""
-    from launcher import build, by_rt
+    from launcher import build, by_rt, toolkit
 
     why = toolkit.misfits(kit, HOME)
     if why:
@@ -188,12 +232,13 @@ def version():
 
 def version_text():
     """What --version answers. It proves nothing and writes nothing."""
-    from launcher import build
+    from launcher import build, toolkit
 
     store = Store(default_folder())
     kit = toolkit.find(store)
     crates, texts = crates_and_texts()
     found = store.program(keys.of_sources(texts), kit.identity if kit else None)
+    plain = store.program(keys.of_plain(HOME, crates), None, PLAIN)
     release = programs.release_of(HOME)
     lines = ['yokeorange ' + version(), 'commit: ' + (build.commit(HOME) or 'unknown')]
     lines.append('toolkit: ' + (toolkit.named(kit) if kit else 'none on the path'))
@@ -202,13 +247,16 @@ def version_text():
         lines.append('sha256: ' + found[1].get('sha256', ''))
     else:
         lines.append('program: not proved yet from these {}: ./editor --prove does it'.format(count(len(crates), 'crate')))
+    if plain:
+        lines.append('without proof: {}, {} of these sources'.format(
+            plain[0], 'the toolkit\'s look' if plain[1].get('kind') == 'look' else 'a plain build by ' + str(plain[1].get('rust'))))
     lines.append('release: ' + ('{}, commit {}'.format(release.version, release.commit) if release else 'none yet'))
     return '\n'.join(lines) + '\n'
 
 
 def help_text():
     """What --help answers."""
-    from launcher import build
+    from launcher import build, machine
 
     crates = build.needed(HOME)
     plan = build.plan(crates, words.jobs_wanted() or machine.processors())

@@ -18,6 +18,8 @@ from launcher.messages import Stop
 
 NAME = 'yokeorange'
 PROGRAMS_KEPT = 3
+# The folders in it. What isn't proved is kept apart from what is.
+PARTS = ('log', 'part', 'programs', 'rlib', 'tmp', 'plain', 'plain-programs', 'sources')
 
 
 def default_folder():
@@ -96,7 +98,7 @@ class Store:
             with contextlib.suppress(FileExistsError):
                 os.mkdir(folder, 0o700)
             self.hold_to_owner()
-            for part in ('log', 'part', 'programs', 'rlib', 'tmp'):
+            for part in PARTS:
                 os.makedirs(self.path(part), mode=0o700, exist_ok=True)
             with tempfile.TemporaryFile(dir=folder):
                 pass
@@ -122,9 +124,10 @@ class Store:
         return self.path('log', name)
 
     @contextlib.contextmanager
-    def lock(self, text, wait):
-        """Holds the folder for one launcher. Where another has it, `wait` is called with what that one wrote, and it waits."""
-        with open(self.path('lock'), 'a+', encoding='utf-8') as file:
+    def lock(self, text, wait, name='lock'):
+        """Holds the folder, or the part of it that a lock of this name stands for, for one launcher. Where another has it, `wait`
+        is called with what that one wrote, and it waits."""
+        with open(self.path(name), 'a+', encoding='utf-8') as file:
             try:
                 fcntl.flock(file, fcntl.LOCK_EX | fcntl.LOCK_NB)
             except BlockingIOError:
@@ -185,32 +188,32 @@ class Store:
 
     # ---- programs ----
 
-    def keep_program(self, part, record):
+    def keep_program(self, part, record, among='programs'):
         """Keeps a built program under its key, with its record, and the newest few of those before it."""
-        folder = self.path('programs', record['key'])
+        folder = self.path(among, record['key'])
         remove(folder)
         os.mkdir(folder, 0o700)
         os.rename(part, os.path.join(folder, NAME))
         write_whole(os.path.join(folder, 'record.json'), json.dumps(record, indent=1) + '\n')
-        every = [self.path('programs', it) for it in os.listdir(self.path('programs'))]
+        every = [self.path(among, it) for it in os.listdir(self.path(among))]
         for it in sorted(every, key=os.path.getmtime)[:-PROGRAMS_KEPT]:
             remove(it)
         return os.path.join(folder, NAME)
 
-    def program(self, sources, toolkit):
+    def program(self, sources, toolkit, among='programs'):
         """A built program of these sources, by the toolkit of this identity or by any (None): its path and its record, or
         None. Its bytes are held against its record."""
         with contextlib.suppress(FileNotFoundError, NotADirectoryError):
-            return self.program_among(os.listdir(self.path('programs')), sources, toolkit)
+            return self.program_among(os.listdir(self.path(among)), sources, toolkit, among)
         return None
 
-    def program_among(self, names, sources, toolkit):
+    def program_among(self, names, sources, toolkit, among):
         """The same, among the programs of these names."""
         for name in names:
-            record = read_record(self.path('programs', name, 'record.json')) or {}
+            record = read_record(self.path(among, name, 'record.json')) or {}
             if record.get('sources') != sources or toolkit and record.get('toolkit') != toolkit:
                 continue
-            path = self.path('programs', name, NAME)
+            path = self.path(among, name, NAME)
             if os.path.isfile(path) and keys.of_file(path) == record.get('sha256'):
                 return path, record
         return None

@@ -6,33 +6,43 @@ from dataclasses import dataclass, field
 from launcher.messages import Stop
 
 HELP = '''usage: ./editor [--max-objects N] [--max-file N] SCRIPT
-       ./editor --look SCRIPT
        ./editor --prove
+       ./editor --rust FOLDER [--crates stand-in|real|vendor=DIR]
+       ./editor --look SCRIPT
 
-Runs a script over OPL files (docs/TOUR.md), and writes the replies and the data to standard output. The first time it
-proves the program's crates and builds the program. On this machine that takes {minutes}, as far as the sources
-tell, up to {memory} of memory, and {disk} of disk until it is done. It may be interrupted, and goes on later from what is
-proved. Then it starts at once, until the sources change.
+Runs a script over OPL files (docs/TOUR.md), and writes the replies and the data to standard output. It runs the first of these
+that there is, and says on the error stream which one it is where that isn't the first:
 
-  --look SCRIPT    runs the script unproved, in one to three minutes and 3 GB of memory, by the toolkit's `rt try`: at most 60
-                   seconds and 1 MiB of output, and nothing is kept
-  --prove          proves and builds the program, and runs nothing; also where a released program stands beside ./editor,
-                   and says whether its bytes are the same. Beside it:
+  1. the program that --prove proved and built here from these sources
+  2. a released program beside ./editor whose hash RELEASE names
+  3. a plain Rust build of these sources. It is built where cargo is on the path: half a minute and 200 MB of memory, once.
+     It gives the same answers. Nothing of it is proved
+  4. where only the Rattle toolkit is there, the program as that compiles it before any proof: two to four minutes and 3 GB
+     of memory, once
+
+  --prove          proves and builds the program, and runs nothing. On this machine that takes {minutes}, as far as the
+                   sources tell, up to {memory} of memory, and {disk} of disk until it is done. It may be interrupted,
+                   and goes on later from what is proved. It says whether the bytes are those of the released program. Beside it:
                      --keep     keeps the proved libraries for the next build
                      --measure  writes to the log what memory each proof takes, with all of its processes
                      --anyway   begins although memory or disk seem too small
+  --rust FOLDER    writes the program as a cargo workspace in plain Rust, to build it anywhere. --crates says which libraries
+                   it uses: small stand-ins (the default; nothing is downloaded), the real ones of crates.io, or those in
+                   a folder of vendored sources
+  --look SCRIPT    runs the script by the toolkit's `rt try`, with its checks: at most 60 seconds and 1 MiB of output, and
+                   nothing is kept
   -h, --help       this text
-  --version        the version, the commit, the toolkit, and whether the program is built
+  --version        the version, the commit, the toolkit, and which programs are built
 
-JOBS=N ./editor    proves N crates at a time, with N jobs (as many as there are processors, where it isn't said)
+JOBS=N ./editor --prove    proves N crates at a time, with N jobs (as many as there are processors, where it isn't said)
 
 A script whose name begins with - stands after --. The exit status is the program's own (docs/REFUSALS.md, "Statuses"); 1 where
-it couldn't be proved or built, 127 where the Rattle toolkit is missing, 130 after Ctrl-C.
-The log is {log}.
+it couldn't be proved or built, 127 where neither cargo nor the toolkit is there, 130 after Ctrl-C.
+The log of a proof is {log}.
 Read on: README.md, then docs/TOUR.md and docs/COMMANDS.md.
 '''
 BRIEF = '''usage: ./editor [--max-objects N] [--max-file N] SCRIPT
-       ./editor --look SCRIPT      runs it unproved, in one to three minutes
+       ./editor --prove            proves the program and builds it
        ./editor --help             says more
 '''
 FLAGS = {'--anyway': 'anyway', '--keep': 'keeps', '--measure': 'measures'}
@@ -41,7 +51,7 @@ LIMITS = ('--max-objects', '--max-file')
 
 @dataclass
 class Words:
-    """What the user asked for: `action` is run, help, brief, version, look or prove; `rest` are the program's words."""
+    """What the user asked for: `action` is run, help, brief, version, look, rust or prove; `rest` are the words that go with it."""
 
     action: str
     rest: list = field(default_factory=list)

@@ -221,16 +221,22 @@ def others(top: pathlib.Path, names: list[str], listed: dict[str, tuple[str, ...
         if name != 'thiserror':
             path = HERE / 'library' / ('real' if name in choice.real else 'stand_in') / (name + '.rs')
             found[f'{LIBRARY}/src/{name}.rs'] = path.read_text(encoding='utf-8')
-    data = top / 'crates' / CASES / 'data'
-    for path in sorted(data.iterdir()):
-        found[f'crates/{CASES}/data/{path.name}'] = path.read_text(encoding='utf-8')
-    found[f'crates/{CASES}/expected'] = (data.parent / 'stdout').read_text(encoding='utf-8')
-    found[f'crates/{CASES}/tests/session_cases.rs'] = (HERE / 'library' / 'session_cases.rs').read_text(encoding='utf-8')
+    if CASES in names:
+        found.update(cases(top / 'crates' / CASES))
     if choice.vendor:
         found['.cargo/config.toml'] = (MARK + '[source.crates-io]\nreplace-with = "vendored"\n\n[source.vendored]\n'
                                        f'directory = "{choice.vendor}"\n')
     if not choice.real:
         found['Cargo.lock'] = lock(names, listed, version)
+    return found
+
+
+def cases(crate: pathlib.Path) -> dict[str, str]:
+    """The session cases, what they have to print, and the test that runs them."""
+    to = f'crates/{CASES}'
+    found = {f'{to}/data/{it.name}': it.read_text(encoding='utf-8') for it in sorted((crate / 'data').iterdir())}
+    found[f'{to}/expected'] = (crate / 'stdout').read_text(encoding='utf-8')
+    found[f'{to}/tests/session_cases.rs'] = (HERE / 'library' / 'session_cases.rs').read_text(encoding='utf-8')
     return found
 
 
