@@ -25,6 +25,7 @@ from typing import Any, Callable, FrozenSet, Iterable, List, Mapping, Optional, 
 from xml.etree import ElementTree
 
 from yoke import VERSION, opl, osc, transport, words
+from yoke.login import store
 from yoke.trouble import Later, NoAnswer, Redacted, ServerRefused, Trouble, Usage
 
 AGENT = 'yokeorange-yoke/' + VERSION        # of each call
@@ -74,6 +75,8 @@ def add_arguments(parser: argparse.ArgumentParser) -> None:
     group = parser.add_argument_group('the server')
     group.add_argument('--api', metavar='ADDRESS',
                        help='its address, such as https://HOST/api/0.6; there is no default')
+    group.add_argument('--profile', metavar='NAME',
+                       help='a profile that names the server and more: docs/HOWTO/log-in.md')
     group.add_argument('--token-file', metavar='FILE',
                        help='a file or pipe that only you can read, with a token of your account (else $YOKE_TOKEN)')
     group.add_argument('--wait', metavar='DURATION', type=duration, default=PATIENCE,
@@ -92,9 +95,9 @@ def server_of(arguments: argparse.Namespace, note: Callable[[str], None], writes
     """The Server that the words name; Usage where they name none, or where it is to be written to and there is no token."""
     if not arguments.api:
         raise Usage('--api ADDRESS names the server; the page docs/COMPANION.md names the one to try things with')
-    token = token_of(arguments)
+    token = token_of(arguments) or token_of_login(arguments)
     if writes and not token:
-        raise Usage('a token of your account is wanted, in $YOKE_TOKEN or in a --token-file')
+        raise Usage('a token of your account is wanted, in $YOKE_TOKEN or in a --token-file, or by yoke login')
     return Server(arguments.api, token, note, patience=getattr(arguments, 'wait', PATIENCE))
 
 
@@ -107,6 +110,12 @@ def token_of(arguments: argparse.Namespace) -> str:
         where = name if name else '$YOKE_TOKEN'
         raise Usage(f'{where} has no token: there is a blank in it, or a sign that no token has')
     return token
+
+
+def token_of_login(arguments: argparse.Namespace) -> str:
+    """The token that yoke login keeps for the server that the words name; an empty text if there is none."""
+    login = store.read(checked(arguments.api), getattr(arguments, 'profile', None) or '')
+    return login.token if login else ''
 
 
 def token_in(name: str) -> str:

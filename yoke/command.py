@@ -9,6 +9,7 @@ import re
 import sys
 
 from yoke import VERSION, results, verbs
+from yoke.login import profiles
 from yoke.progress import note
 from yoke.trouble import Trouble
 
@@ -31,7 +32,7 @@ def parser():
                                 epilog=getattr(verb, 'DETAILS', None), formatter_class=argparse.RawDescriptionHelpFormatter)
         common(one)
         verb.add_arguments(one)
-        one.set_defaults(run=verb.run)
+        one.set_defaults(run=verb.run, own_parser=one)
     return top
 
 
@@ -56,9 +57,25 @@ def with_boxes(words):
     return joined
 
 
+def parsed(words):
+    """The words, with those of the profile that they name in the place of words that aren't given."""
+    top = parser()
+    given = top.parse_args(words)
+    name = getattr(given, 'profile', None)
+    if name:
+        try:
+            options = profiles.read(name).options()
+        except Trouble as trouble:
+            complain(trouble)
+            sys.exit(trouble.code)
+        given.own_parser.set_defaults(**{key: value for key, value in options.items() if hasattr(given, key)})
+        given = top.parse_args(words)
+    return given
+
+
 def main(words=None):
     """Runs a verb; answers with the exit code."""
-    arguments = parser().parse_args(with_boxes(sys.argv[1:] if words is None else words))
+    arguments = parsed(with_boxes(sys.argv[1:] if words is None else words))
     if not arguments.json:
         return attempt(arguments)[0]
     with results.collected() as (found, printed):

@@ -8,7 +8,7 @@ import re
 from typing import Callable, Optional, Tuple
 from xml.etree import ElementTree
 
-from yoke import api, opl, osc, web, words
+from yoke import api, opl, osc, transport, web, words
 from yoke.extracts import boxes, header
 from yoke.extracts.parts import Parts
 from yoke.extracts.whole import Whole
@@ -50,18 +50,18 @@ def fetch(address: str, query: str, parts: Parts, note: Callable[[str], None]) -
     path = parts.path('answer')
     if path.exists():
         return str(path)
-    new = path.with_suffix('.new')
     for wait in (*WAITS, None):
-        with web.posted(address, {'data': query}) as (answer, stream):
-            if answer.status == 200:
-                with open(new, 'wb') as file:
-                    count = web.save(address, stream, file)
-                    file.flush()
-                    os.fsync(file.fileno())
-                note(f'{count} bytes came from {web.host(address)}')
-                os.replace(new, path)
-                return str(path)
-            text = plain(b''.join(web.pieces(address, stream))[:web.MOST])
+        answer = web.post_form(address, {'data': query}, most=transport.MOST)
+        if answer.status == 200:
+            new = path.with_suffix('.new')
+            with open(new, 'wb') as file:
+                file.write(answer.body)
+                file.flush()
+                os.fsync(file.fileno())
+            note(f'{len(answer.body)} bytes came from {web.host(address)}')
+            os.replace(new, path)
+            return str(path)
+        text = plain(answer.body)
         if answer.status not in BUSY or wait is None:
             raise refused(address, answer.status, text)
         told = answer.headers.get('retry-after')

@@ -50,10 +50,15 @@ class Whole:
         """The keys that objects of these kinds refer to and that aren't there."""
         return {key for letter in letters for key in self.references(letter)} - set(self.lines)
 
+    def numbers(self) -> Dict[str, int]:
+        """How many objects there are by the letters of their kinds."""
+        return Counter(key[0] for key in self.lines)
+
     def counts(self) -> str:
-        """How many objects there are, in words."""
-        kinds = Counter(key[0] for key in self.lines)
-        return f'{kinds["n"]} nodes, {kinds["w"]} ways, {kinds["r"]} relations'
+        """The same in words."""
+        kinds = self.numbers()
+        return ', '.join(f'{kinds.get(letter, 0)} {name}' for letter, name in (
+            ('n', 'nodes'), ('w', 'ways'), ('r', 'relations')))
 
     def newest(self) -> Optional[str]:
         """The newest time of an object."""

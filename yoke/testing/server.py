@@ -37,6 +37,7 @@ from http import HTTPStatus
 from typing import Any, Callable, Dict, Iterable, List, NamedTuple, Optional, Tuple
 from xml.etree import ElementTree
 
+from yoke.testing.authorisation import PATHS, Authorisation
 from yoke.testing.database import (
     Change, Database, Limits, Refusal, User, document, stamp, too_fast, too_many, too_much, too_wide)
 from yoke.testing.elements import KIND_OF_LETTER, Element, Member, as_xml, opl, read_file, units
@@ -242,6 +243,7 @@ class StrictServer:
         self.scopes: Dict[str, Tuple[str, ...]] = {}    # what tokens may do; SCOPES where a token isn't in it
         self.blocks: Dict[str, str] = {}        # names of users who may do nothing, each with a cause, which is a key of BLOCKS
         self.connections = 0                    # how many were opened
+        self.authorisation: Optional[Authorisation] = None      # answers below /oauth2 where it is there
         self.faults = Faults()
         self.requests: List[str] = []           # the operations asked for, in their order
         self.answers: Counter = Counter()       # how many answers of each status were made, faults apart, such as `upload 409`
@@ -355,6 +357,10 @@ class StrictServer:
         """The fault that a request meets, or an empty text, and the answer that it would have without."""
         path, _, query = target.partition('?')
         try:
+            if self.authorisation is not None and path.startswith(PATHS):
+                with self.lock:
+                    found = self.authorisation.answer(method, target, headers, body)
+                return '', Answer(found.status, found.body, found.type, found.headers)
             if path.startswith('/control/'):
                 return '', self._control(method, path[len('/control/'):], body)
             route, parts = route_of(method, path)

@@ -13,7 +13,7 @@ from yoke.trouble import Clash, Refused
 # verbs whose documents have no data of their own: they serve, or ask a person
 WITHOUT = {'practice'}
 # verbs whose result isn't described yet: docs/JSON.md gets a row for each, and this set goes
-NOT_YET = {'get', 'import', 'send', 'show', 'tag'}
+NOT_YET = {'import', 'send', 'show', 'tag'}
 
 
 def documented() -> dict[str, set[str]]:
@@ -86,6 +86,10 @@ class Documents(ServerTest):
     def test_a_revert(self) -> None:
         number = self.server.edit('modify', 'n8', tags={'amenity': 'bench', 'material': 'wood'}) and max(self.server.database.changesets)
         self.json('revert', str(number), '--api', self.server.api)
+
+    def test_a_download(self) -> None:
+        found = self.json('get', '--api', self.server.api, '--bbox', '13,51.9,13.1,52.1', '--to', 'area.opl')['result']
+        self.assertEqual(({'nodes': 4, 'ways': 1, 'relations': 1}, 0, 'area.opl'), (found['counts'], found['missing'], found['file']))
 
     def test_an_error(self) -> None:
         self.begin()

@@ -40,6 +40,9 @@ NAMES = [
     'tiles',
     'get',
     'review',
+    'login',
+    'whoami',
+    'logout',
 ]
 
 

@@ -2,11 +2,12 @@
 import argparse
 import pathlib
 import time
-from typing import Dict, List, Optional, Set
+from typing import Dict, List, Optional
 
-from yoke import api, web
+from yoke import api, results, web
 from yoke.extracts import boxes, cutting, header, map_calls, overpass, parts
 from yoke.extracts.parts import Parts
+from yoke.extracts.whole import Whole
 from yoke.files import data_of
 from yoke.formats.drawing import Box
 from yoke.formats.features import text_of
@@ -35,7 +36,7 @@ def add_arguments(parser: argparse.ArgumentParser) -> None:
                         help='an Overpass server, such as https://HOST/api/interpreter')
     parser.add_argument('--query', metavar='FILE',
                         help='its query, in QL or XML; {{bbox}} in it becomes --bbox')
-    parser.add_argument('--from', dest='source', metavar='FILE',
+    parser.add_argument('--from', dest='from_file', metavar='FILE',
                         help='a file that osmium reads, such as country.osm.pbf')
     parser.add_argument('--polygon', metavar='FILE', help='cut out a polygon: .poly or .geojson')
     parser.add_argument('--strategy', choices=cutting.STRATEGIES, default='complete_ways',
@@ -52,7 +53,7 @@ def run(arguments: argparse.Namespace) -> int:
     """Gets the extract; answers with the exit code."""
     ways = {'--api': of_api, '--overpass': of_overpass, '--from': of_file}
     given = [name for name, value in zip(ways, (
-        arguments.api, arguments.overpass, arguments.source)) if value]
+        arguments.api, arguments.overpass, arguments.from_file)) if value]
     if len(given) != 1:
         raise Usage('one of --api, --overpass and --from says where the data comes from')
     check_words(arguments, given[0])
@@ -67,6 +68,7 @@ def run(arguments: argparse.Namespace) -> int:
             else 'nothing was written')) from None
     finally:
         folder.remove_if_empty()
+    results.put(file=arguments.to)
     print(f'next: yoke start {arguments.to}')
     return 0
 
@@ -119,8 +121,7 @@ def of_api(arguments: argparse.Namespace, folder: Parts) -> None:
               'of each is in the file')
     if found.fetched_after:
         print(f'{found.fetched_after} nodes of ways were asked for after that')
-    tell_missing(found.whole.missing('r'))
-    tell_moment(found.first, found.whole.newest())
+    tell_whole(found.whole, found.first)
 
 
 def of_overpass(arguments: argparse.Namespace, folder: Parts) -> None:
@@ -145,8 +146,7 @@ def of_overpass(arguments: argparse.Namespace, folder: Parts) -> None:
         whole.write(arguments.to, moment, address)
         folder.remove()
     print(f'{arguments.to}: {whole.counts()}')
-    tell_missing(whole.missing())
-    tell_moment(moment, whole.newest())
+    tell_whole(whole, moment)
 
 
 def of_file(arguments: argparse.Namespace, folder: Parts) -> None:
@@ -154,30 +154,43 @@ def of_file(arguments: argparse.Namespace, folder: Parts) -> None:
     wanted = box_of(arguments)
     if arguments.polygon and not pathlib.Path(arguments.polygon).is_file():
         raise Trouble(f'there is no file {arguments.polygon}')
-    moment = cutting.check_source(arguments.source, wanted, arguments.beyond)
+    moment = cutting.check_source(arguments.from_file, wanted, arguments.beyond)
     began = time.monotonic()
-    request = {'from': arguments.source, 'where': arguments.bbox or arguments.polygon}
+    request = {'from': arguments.from_file, 'where': arguments.bbox or arguments.polygon}
     with folder.held(request, arguments.anew):
         try:
-            place = cutting.cut(arguments.source, wanted, arguments.polygon, arguments.strategy,
+            place = cutting.cut(arguments.from_file, wanted, arguments.polygon, arguments.strategy,
                                 folder)
-            source = pathlib.Path(arguments.source).name
+            source = pathlib.Path(arguments.from_file).name
             counts, newest = cutting.copy(place, arguments.to, moment, source)
         finally:
             folder.remove()
     print(f'{arguments.to}: {counts["n"]} nodes, {counts["w"]} ways, {counts["r"]} relations, '
           f'by osmium in {time.monotonic() - began:.1f} s')
+    results.put(missing=None)       # osmium doesn't count them
+    tell_counts(counts)
     tell_moment(moment, newest)
 
 
-def tell_missing(missing: Set[str]) -> None:
-    """Says how many objects are only referred to."""
+def tell_whole(whole: Whole, moment: Optional[str]) -> None:
+    """Says how many objects are only referred to, and of which moment the rest is."""
+    missing = whole.missing()
     if missing:
         print(f'{len(missing)} objects are only referred to: they lie outside')
+    results.put(missing=len(missing))
+    tell_counts(whole.numbers())
+    tell_moment(moment, whole.newest())
+
+
+def tell_counts(counts: Dict[str, int]) -> None:
+    """Gives the number of objects of each kind as data."""
+    results.put(counts={name: counts.get(letter, 0) for letter, name in (
+        ('n', 'nodes'), ('w', 'ways'), ('r', 'relations'))})
 
 
 def tell_moment(moment: Optional[str], newest: Optional[str]) -> None:
     """Says of which moment the data is, and what that means."""
+    results.put(moment=moment)
     now = header.stamp(time.time())
     if newest and newest > now:
         note(f'an object was made at {newest}, and this machine\'s clock says {now}: set the clock')

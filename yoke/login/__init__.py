@@ -1,0 +1,1 @@
+"""Logging in to a server: profiles, tokens that are kept, and OAuth 2."""
