@@ -154,7 +154,8 @@ class OfApi(GetTest):
 
     def test_no_answer_keeps_the_parts_and_says_so(self):
         self.server = self.serve(map_nodes=20)
-        self.server.before('map', 4, self.server.__exit__)
+        self.server.before('map', 4, lambda: [
+            self.server.faults.once('500-before', 'map') for _ in range(9)])
         self.assertEqual(5, self.get(bbox='13,52,13.011,52.011'))
         self.assertRegex(self.err.splitlines()[-1], 'parts are kept: the same command goes on')
         self.assertFalse((self.folder / 'area.opl').exists())

@@ -389,7 +389,7 @@ class Refusals(LoginTest):
         held = threading.Event()
         self.addCleanup(held.set)
         self.site.faults['token'] = lambda: held.wait(3) and Reply(200) or Reply(200)
-        with mock.patch('yoke.web.READ', 0.3), mock.patch('yoke.login.oauth.web.post_form', quick):
+        with mock.patch('yoke.login.oauth.web.post_form', quick):
             self.assertEqual(5, self.login())
         self.assertIn('no answer', self.err)
 
