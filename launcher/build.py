@@ -17,8 +17,9 @@ DISK_OF_LINE, DISK_OF_WORK = 80e3, 0.5e9
 # With fewer bytes of free disk than these a proof that ended badly most likely had no room.
 FULL = 0.1e9
 # Of the free memory, what proofs side by side may take, and the most bytes that they are planned for. They take a fifth less,
-# since they don't all need most at once. By the seconds of a whole build played through, a GB more ends a minute or two sooner.
-PART_OF_MEMORY, MOST_MEMORY = 0.85, 7e9
+# since they don't all need most at once. With less, proofs that the top waits for begin late: by the seconds of a whole build played
+# through, 7 GB end three minutes later on four processors, and more than 8.5 end no sooner.
+PART_OF_MEMORY, MOST_MEMORY = 0.85, 8.5e9
 # Reckoned seconds that count as if they had been held against the clock, so that one small proof doesn't turn the time that
 # is told; and seconds after which something is said though nothing ended.
 PRIOR, SILENCE = 300.0, 120.0

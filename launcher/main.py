@@ -17,7 +17,7 @@ HOME = os.path.dirname(os.path.dirname(os.path.abspath(__file__)))
 # The name under which the program is started, as its messages have it, and the part of the store with programs that aren't proved.
 PROGRAM, PLAIN = 'editor', 'plain-programs'
 # Bytes of memory that proofs side by side take at the most, where there is enough.
-USUAL_MEMORY = 6e9
+USUAL_MEMORY = 7e9
 
 
 def main(arguments):
@@ -100,34 +100,43 @@ def run(arguments: list[str]) -> NoReturn:
 def unproved(store: Store, found: sources.Sources, arguments: list[str]) -> str:
     """A program of these sources that isn't proved, built where it has to be: its path."""
     kept = store.program(found.plain, None, PLAIN)
-    if not kept:
-        words.hold_to_script(arguments)
-        kept = built_plain(store, found)
-    path, record = kept
-    if record.get('kind') == 'look':
+    path, is_look = (kept[0], False) if kept else built_now(store, found, arguments)
+    if is_look:
         say('running the program as the toolkit compiles it before any proof: nothing of it is proved. ./editor --prove proves it')
     else:
         say('running a plain Rust build of these sources: nothing of it is proved. ./editor --prove proves it, with the toolkit')
     return path
 
 
-def built_plain(store: Store, found: sources.Sources) -> tuple[str, dict[str, object]]:
-    """A plain build, or the toolkit's look where there is no cargo: its path and its record."""
+def built_now(store: Store, found: sources.Sources, arguments: list[str]) -> tuple[str, bool]:
+    """A plain build, or the toolkit's look where there is no cargo: its path, and whether it is a look."""
     from launcher import kept_look, plain_build
 
     cargo, why = plain_build.find()
+    look = None if cargo else store.program(kept_look.look_of(found.plain), None, PLAIN)
+    if look:
+        return look[0], True
+    words.hold_to_script(arguments)
     ends_by_signal()
     if cargo:
-        plain_build.build(HOME, store, cargo, found.plain, plain_version())
-    elif shutil.which('rt'):
+        return plain_build.build(HOME, store, cargo, found.plain, plain_version()), False
+    if shutil.which('rt'):
         say(f'{why}, so the toolkit compiles the program. For a build of half a minute, {plain_build.INSTALL}')
-        kept_look.build(HOME, store, found.plain)
-    else:
-        raise Stop(f'{why}, and no Rattle toolkit: {plain_build.INSTALL}', 127)
+        return kept_look.build(HOME, store, found.plain), True
+    raise Stop(f'{why}, and no Rattle toolkit: {plain_build.INSTALL}', 127)
+
+
+def plain_program(store: Store, found: sources.Sources) -> str:
+    """A plain build of these sources by cargo, made where it isn't kept: its path."""
+    from launcher import plain_build
+
     kept = store.program(found.plain, None, PLAIN)
-    if not kept:
-        raise Stop(f'{store.path(PLAIN)} was changed while the program was built: run ./editor again')
-    return kept
+    if kept:
+        return str(kept[0])
+    cargo, why = plain_build.find()
+    if not cargo:
+        raise Stop(f'{why}: {plain_build.INSTALL}', 127)
+    return plain_build.build(HOME, store, cargo, found.plain, plain_version())
 
 
 def ends_by_signal() -> None:
@@ -248,8 +257,7 @@ def version_text():
     else:
         lines.append('program: not proved yet from these {}: ./editor --prove does it'.format(count(len(crates), 'crate')))
     if plain:
-        lines.append('without proof: {}, {} of these sources'.format(
-            plain[0], 'the toolkit\'s look' if plain[1].get('kind') == 'look' else 'a plain build by ' + str(plain[1].get('rust'))))
+        lines.append('without proof: {}, a plain build of these sources by {}'.format(plain[0], plain[1].get('rust')))
     lines.append('release: ' + ('{}, commit {}'.format(release.version, release.commit) if release else 'none yet'))
     return '\n'.join(lines) + '\n'
 

@@ -21,9 +21,10 @@ MOST_JOBS = max(RATES)
 # A crate with fewer seconds to spare than these is taken for one of the longest chain.
 CLOSE = 30.0
 # The end hangs on the longest chain where that is so many times what each processor has to do; its crates then have so many
-# jobs at least. Played through with the measured seconds of this repository's crates, and with jobs that help much or little,
-# these two end first or nearly so on three, four and eight processors.
-HANGS, FAVOURED = 1.1, 2
+# jobs at least. A second job takes two fifths more of the processors for the same proof, which everything else waits for. So it
+# is only worth it where the others have time to spare: played through with the measured seconds of this repository's crates, and
+# with seconds that differ from those by a quarter, two and a half ends first on three and four processors, and nearly so on eight.
+HANGS, FAVOURED = 2.5, 2
 
 
 @dataclass(frozen=True)

@@ -1,8 +1,21 @@
 """Which proof is next, how many jobs it gets, and what time is reckoned."""
+import os
 import unittest
 
+from launcher import build
 from launcher.crates import Crate, all_below
-from launcher.schedule import CLOSE, FAVOURED, MOST_JOBS, Running, Schedule, Start
+from launcher.schedule import CLOSE, FAVOURED, MOST_JOBS, RATES, Running, Schedule, Start
+
+TOP = os.path.dirname(os.path.dirname(os.path.dirname(os.path.abspath(__file__))))
+# Seconds of one job that the proofs took on processors of 2.5 GHz with other proofs beside them. Those of editor_laws, job_laws,
+# edit_session and editor are reckoned. A crate that isn't here has the seconds that the schedule reckons.
+KNOWN = {'osm_base': 207, 'osm_outside': 60, 'command_line': 51, 'ref_index': 80, 'renamed_content': 45, 'opl_text': 93,
+         'closure': 40, 'osm_table': 230, 'merge_cases': 75, 'dataset': 290, 'opl_line': 265, 'sample_city': 153,
+         'tool_api': 210, 'map_search': 230, 'opl_file': 150, 'upload_order': 236, 'relation_upkeep': 130, 'merge_tool': 270,
+         'placeholder': 186, 'server_world': 205, 'edit_history': 155, 'way_split': 140, 'download': 176, 'edit_script': 330,
+         'saved_session': 370, 'map_checks': 310, 'many_editors': 405, 'conflict': 255, 'chunking': 85, 'import_tool': 145,
+         'answer_file': 105, 'tools_basic': 167, 'way_combine': 230, 'tools_delete': 329, 'edit_steps': 520,
+         'edit_session': 380, 'editor': 75, 'editor_laws': 220, 'job_laws': 90}
 
 PLENTY = 1e12
 
@@ -34,6 +47,57 @@ def played(schedule):
         running.remove(ended)
         proved.add(ended.start.name)
     return found
+
+
+def timed(schedule, seconds):
+    """When each proof begins and ends, by playing the schedule through where a proof takes other seconds than are reckoned."""
+    waiting, proved, running, clock = list(schedule.crates), set(), [], 0.0
+    begun, ended = {}, {}
+    while waiting or running:
+        start = schedule.next(waiting, proved, [Running(it.start, left_of(schedule, it.start, clock - begun[it.start.name]))
+                                                for it in running])
+        if start:
+            waiting.remove(start.name)
+            running.append(Running(start, seconds.get(start.name, schedule.seconds[start.name])))
+            begun[start.name] = clock
+            continue
+        rates = schedule.rates(running)
+        step = min(it.left / rate for it, rate in zip(running, rates))
+        clock += step
+        for it, rate in zip(running, rates):
+            it.left -= step * rate
+        for it in [it for it in running if it.left < 1e-6]:
+            running.remove(it)
+            proved.add(it.start.name)
+            ended[it.start.name] = clock
+    return begun, ended
+
+
+def left_of(schedule, start, seconds):
+    """What the launcher takes to be left of a proof that has run so long, as `Build.left_of_running` reckons it."""
+    done = RATES[start.jobs] * seconds
+    return max(10.0, build.MORE * done, schedule.seconds[start.name] - done)
+
+
+class Known(unittest.TestCase):
+    """This repository's crates, with the seconds that their proofs took."""
+
+    def times(self, processors, memory=build.MOST_MEMORY):
+        """Minutes at which each proof begins and ends."""
+        found = timed(Schedule(build.needed(TOP), processors, memory), KNOWN)
+        return [{name: at / 60 for name, at in it.items()} for it in found]
+
+    def test_what_the_top_stands_on_ends_in_time_on_four_processors(self):
+        begun, ended = self.times(4)
+        last = max(ended[it] for it in build.needed(TOP)['edit_session'].below if it != 'edit_steps')
+        self.assertLess(last, ended['edit_steps'] + 0.5)
+        self.assertLess(begun['edit_session'], ended['edit_steps'] + 0.5)
+        self.assertLess(ended['editor'], 39.0)
+
+    def test_it_ends_in_time_on_other_machines(self):
+        for processors, minutes in ((2, 68.0), (3, 49.5), (8, 33.0)):
+            self.assertLess(self.times(processors)[1]['editor'], minutes)
+        self.assertLess(self.times(2, 0.85 * 6.5e9)[1]['editor'], 68.0)
 
 
 class Order(unittest.TestCase):
