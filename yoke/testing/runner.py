@@ -5,7 +5,7 @@
         code = runner.wait(run, seconds=60)
 
 A process of Python with `yoke` in it stands by and forks for each run, so that none has to start anew. `line` is the number
-of the line before which it is killed, counted where a day is kept and a server is asked: in `sending.py`, `day.py`,
+of the line before which it is killed, counted where a day is kept and a server is asked: in `sending.py`, `parts.py`, `day.py`,
 `session.py`, `api.py` and the verbs; with 0 it isn't. Waiting for a server takes no time.
 """
 import json
@@ -19,7 +19,7 @@ import time
 import traceback
 from typing import Dict, List
 
-MODULES = ('sending.py', 'day.py', 'session.py', 'api.py')
+MODULES = ('sending.py', 'parts.py', 'day.py', 'session.py', 'api.py')
 
 
 class Runner:
