@@ -12,6 +12,7 @@
 | `forgotten` | the last of the sessions after the first that were removed: nothing is taken back beyond it |
 | `lock` | held by the `yoke` that works here |
 | `refresh.new` | what a `refresh` merges, while it does |
+| `extracts` | of which moment the extracts of `start` were, and how many objects each had |
 | `held` | keys of edits that are held back while others are sent, and the number of the session that has them (`yoke/parts.py`) |
 
 Each file appears whole or not at all: it is written under another name, brought to the disk, and then renamed, and the
@@ -29,7 +30,7 @@ from typing import Optional, Tuple
 from yoke.trouble import Busy, Refused, Trouble
 
 NAME = re.compile('([0-9]+)-([a-z-]+)\\.(saved|undone)')
-OWN = re.compile('[0-9]+-[a-z-]+\\.(saved|undone)|[0-9]+\\.(osc|answers?|refused)|josm-.*\\.start|changeset|server|account|forgotten|lock|refresh|held')
+OWN = re.compile('[0-9]+-[a-z-]+\\.(saved|undone)|[0-9]+\\.(osc|answers?|refused)|josm-.*\\.start|changeset|server|account|forgotten|lock|refresh|held|extracts')
 LAST = 3        # sessions that are kept of those that nothing goes back to any more
 FORGOTTEN = 'forgotten'
 HELD = 'held'

@@ -40,7 +40,8 @@ from dataclasses import dataclass, field
 from decimal import Decimal, InvalidOperation
 from typing import Any, Callable, Dict, FrozenSet, Iterable, List, Optional, Sequence, Set, Tuple
 
-from yoke import groups, opl, table
+from yoke import extent, fresh, groups, opl, table
+from yoke.api import Server
 from yoke.day import PART, WHOLE, Day, Held
 from yoke.groups import Group
 from yoke.program import Answer, BadLine
@@ -146,8 +147,7 @@ def choose(
     if smallest and not chosen.groups and not sent:
         raise Refused(
             f'nothing is sent: the smallest group of edits that hang together has {smallest} '
-            f'changes, '
-            f'and --at-most is {wanted.at_most}'
+            f'changes, and --at-most is {wanted.at_most}'
         )
     return chosen
 
@@ -304,7 +304,7 @@ class Parts:
         divided: List[Group] = []
 
         def is_whole(chunk: List[Change]) -> bool:
-            if len(chunk) < self.sending.room():
+            if len(chunk) < self.sending.room() and self.sending.max_extent is None:
                 return True  # it is all that is left
             if not divided:
                 divided.extend(groups.divide(table.read(self.day.last().text())))
@@ -315,22 +315,94 @@ class Parts:
 
     def _send_groups(self, found: Table, text: str, order: List[Group]) -> bool:
         """Sends groups in their order, as many at a time as fit a document; all other edits wait.
+
+        Answers no where a document came out smaller than its groups: they have to be fewer then.
         """
-        size, waiting = size_in(found), set(groups.edits(found))
-        most = min(self.sending.size, self.sending.limits.changes)
-        for batch in groups.packed(order, most, size):
-            count = sum(map(size, batch))
-            if count > most and batch[0] not in self._told:
-                self._told.add(batch[0])
-                self.note(too_large(batch[0], count, most))
-            if self.sending.changeset and most >= count > self.sending.room():
-                self.sending.close()
+        waiting, spans = set(groups.edits(found)), Spans(found)
+        while order:
+            batch = self._batch(order, spans)
+            count = sum(map(spans.changes, batch))
+            anyway = len(batch) == 1 and (batch[0] in self._anyway or self._is_too_large(batch[0], spans))
+            self._make_room(batch, count, spans)
             waiting.difference_update(*batch)
             hold_back(self.session, text, waiting)
             self.sending.held = len(waiting)
-            if not self.sending.send_all(lambda chunk: count > most or len(chunk) >= count):
+            if not self.sending.send_all(lambda chunk: anyway or len(chunk) >= count):
+                if len(batch) == 1:
+                    self._anyway.add(batch[0])
+                self._most = max(1, count // 2)
                 return False
+            self._most, order = 0, order[len(batch) :]
         return True
+
+    def _batch(self, order: List[Group], spans: 'Spans') -> List[Group]:
+        """The first groups, as many as fit a document and the extent of a changeset; one at least."""
+        most, widest = self.sending.largest(), self.sending.max_extent
+        most = min(most, self._most) if self._most else most
+        batch: List[Group] = []
+        count, box = 0, None
+        for group in order:
+            count, box = count + spans.changes(group), extent.joined(box, spans.box(group))
+            is_wide = widest is not None and box is not None and box.extent > widest
+            if batch and (count > most or is_wide):
+                break
+            batch.append(group)
+        return batch
+
+    def _is_too_large(self, group: Group, spans: 'Spans') -> bool:
+        """Whether a group doesn't fit a document or the extent of a changeset; that is told once."""
+        most, widest = self.sending.largest(), self.sending.max_extent
+        box, count = spans.box(group), spans.changes(group)
+        is_wide = widest is not None and box is not None and box.extent > widest
+        if count <= most and not is_wide:
+            return False
+        if group[0] not in self._told:
+            self._told.add(group[0])
+            self.note(too_large(group, count, most) if count > most else too_wide(group, box, widest))
+        return True
+
+    def _make_room(self, batch: List[Group], count: int, spans: 'Spans') -> None:
+        """Closes the changeset where a batch doesn't fit into it, and fits into one of its own."""
+        open_one, widest = self.sending.changeset, self.sending.max_extent
+        if open_one is None or not open_one.count:
+            return
+        box = open_one.box
+        for group in batch:
+            box = extent.joined(box, spans.box(group))
+        is_wide = widest is not None and box is not None and box.extent > widest
+        if is_wide or self.sending.largest() >= count > self.sending.room():
+            self.sending.close()
+
+
+class Spans:
+    """How many changes the groups of a session have, and how much of the map they span."""
+
+    def __init__(self, found: Table):
+        self._found, self._boxes = found, {}  # type: Table, Dict[str, Optional[extent.Box]]
+
+    def changes(self, group: Group) -> int:
+        """How many changes a group has."""
+        return sum(self._found.things[key].edit is not None for key in group)
+
+    def box(self, group: Group) -> Optional[extent.Box]:
+        """The box around a group, before and after its edits."""
+        box = None
+        for key in group:
+            box = extent.joined(box, self._of(key))
+        return box
+
+    def _of(self, key: str, depth: int = 2) -> Optional[extent.Box]:
+        if key in self._boxes:
+            return self._boxes[key]
+        known, box = self._found.things.get(key), None
+        for side in (known.mine, known.there) if known is not None else ():
+            if side is not None and side.lon is not None and side.lat is not None:
+                lon, lat = (int(degrees * extent.UNITS) for degrees in (side.lon, side.lat))
+                box = extent.joined(box, extent.Box(lon, lat, lon, lat))
+            for reference in side.references if side is not None and depth else ():
+                box = extent.joined(box, self._of(reference, depth - 1))
+        self._boxes[key] = box
+        return box
 
 
 def preview(session: Session, size: int, wanted: Wanted) -> Tuple[Answer, Dict[str, List[str]]]:
@@ -348,6 +420,27 @@ def preview(session: Session, size: int, wanted: Wanted) -> Tuple[Answer, Dict[s
     if answer.refused():
         raise_refused(answer)
     return answer, chosen.left
+
+
+def too_wide(group: Group, box: Optional[extent.Box], widest: Optional[int]) -> str:
+    """What to say of a group that spans more of the map than a changeset may."""
+    keys = ','.join(group[:5]) + (',...' if len(group) > 5 else '')
+    return (
+        f'{keys} hang together and span {extent.degrees(box.extent if box else 0)} degrees, and a '
+        f'changeset {extent.degrees(widest or 0)}: they go out in several'
+    )
+
+
+def look(
+    session: Session, text: str, wanted: Wanted, server: Server, note: Callable[[str], Any]
+) -> fresh.Look:
+    """What stands at the server where the new objects of a send are to go."""
+    found = table.read(text)
+    if wanted.is_all:
+        return fresh.look(server, found, note)
+    review = wanted.reviewed(session, found) if wanted.reviewed else None
+    chosen = choose(found, wanted, named_by(session, found, wanted.only), 0, review)
+    return fresh.look(server, found, note, {key for group in chosen.groups for key in group})
 
 
 def too_large(group: Group, count: int, most: int) -> str:

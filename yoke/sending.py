@@ -196,7 +196,11 @@ class Sending:
     def room(self):
         """How many changes the next chunk may have; where the changeset is full the chunk goes into another one."""
         left = self.limits.changes - (self.changeset.count if self.changeset else 0)
-        return min(self._small or self.size, left if left > 0 else self.limits.changes)
+        return min(self.largest(), left) if left > 0 else self.largest()
+
+    def largest(self) -> int:
+        """How many changes a chunk may have in a changeset of its own."""
+        return min(self._small or self.size, self.limits.changes)
 
     def _next_chunk(self):
         """The changes of the next chunk; none where nothing is left."""

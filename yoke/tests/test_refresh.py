@@ -44,7 +44,7 @@ class Refresh(ServerTest):
         self.write('day/fresh.opl', 'an extract of somebody\'s own')
         self.assertEqual(0, self.ask('refresh'), self.out + self.err)
         self.assertEqual('an extract of somebody\'s own', self.day.read('fresh.opl'))
-        self.assertEqual(['000001-start.saved', '000002-do.saved', '000003-refresh.saved', 'fresh.opl', 'lock', 'server'], sorted(os.listdir('day')))
+        self.assertEqual(['000001-start.saved', '000002-do.saved', '000003-refresh.saved', 'extracts', 'fresh.opl', 'lock', 'server'], sorted(os.listdir('day')))
 
     def test_conflicts_are_shown_and_asked_for_again(self):
         self.begin('tag n8 Tbackrest=yes')

@@ -40,7 +40,7 @@ class Start(FolderTest):
         self.write('day/lock', '')
         self.write('day/000001-start.saved.new', 'session')
         self.done('start', 'town.opl')
-        self.assertEqual(['000001-start.saved', 'lock'], sorted(os.listdir('day')))
+        self.assertEqual(['000001-start.saved', 'extracts', 'lock'], sorted(os.listdir('day')))
 
     def test_a_name_with_a_blank(self):
         self.write('my town,=.opl', TOWN)

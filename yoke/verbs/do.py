@@ -3,9 +3,10 @@ import pathlib
 import re
 import sys
 
-from yoke import opl, results, words
+from yoke import fresh, opl, results, words
 from yoke.formats.suspicions import Accepted
 from yoke.program import BadLine
+from yoke.progress import note
 from yoke.scripts import bound, lint
 from yoke.session import Session
 from yoke.trouble import Refused, Trouble
@@ -47,6 +48,8 @@ def run(arguments):
         session.check_settled()
         if not arguments.any_session:
             bound.check(name, lines, session.day.last())
+        for text in fresh.old_downloads(session.day, lines):
+            note(text)
         expanded = expand.over_session(name, lines, session, Accepted.of(arguments.accept))
         for number, text in expanded.notes:
             print('{}:{}: {}'.format(name, number, text))

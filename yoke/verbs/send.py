@@ -3,13 +3,13 @@ import argparse
 import re
 from decimal import Decimal
 
-from yoke import api, extent, opl, osc, parts, sending, words
+from yoke import api, extent, fresh, opl, osc, parts, results, sending, sides, words
 from yoke.parts import Parts, Wanted
 from yoke.progress import note
 from yoke.review import reviewing
 from yoke.sending import Sending
 from yoke.session import Session
-from yoke.trouble import Clash, NoAnswer, Usage
+from yoke.trouble import Clash, NoAnswer, Refused, Usage
 from yoke.verbs import refresh
 
 SUMMARY = 'send the edits, chunk by chunk; goes on where it ended'
@@ -42,6 +42,7 @@ def add_arguments(parser):
     parser.add_argument('--reviewed', action='store_true',
                         help='send only what yoke review accepted; refused where something is not reviewed')
     parser.add_argument('--decisions', metavar='FILE', default='review.decisions', help='with --reviewed: where the decisions are (%(default)s)')
+    parser.add_argument('--unseen', action='store_true', help='send new objects without a look at what stands there already')
     parser.add_argument('--dry', action='store_true', help='show what would be sent, and ask no server')
 
 
@@ -61,6 +62,8 @@ def run(arguments):
     part = Parts(one, wanted, note)
     with session.day.locked():
         try:
+            if not arguments.unseen:
+                look(session, server, wanted)
             deliver(part, MOST if arguments.refresh or arguments.skip_conflicts else 0)
         except NoAnswer as silence:
             raise NoAnswer('{}; the same command again goes on from here'.format(silence)) from None
@@ -71,8 +74,32 @@ def run(arguments):
     return 0
 
 
+def look(session, server, wanted):
+    """Looks at the server for what stands already where new objects are to go; Refused where there are candidates.
+
+    Where a send was stopped it was looked at before that.
+    """
+    text = session.day.last().text()
+    if session.day.pending() or session.day.held() or '\nmine n-' not in text and '\nmine w-' not in text:
+        return
+    sending.check_server(session.day, server)
+    area = parts.look(session, text, wanted, server, note)
+    for line in fresh.told(session.day, area):
+        note(line)
+    results.put(candidates=[{'key': one.key, 'there': one.there.key, 'why': one.why, 'metres': round(one.metres, 1)} for one in area.candidates])
+    for one in area.candidates[:SHOWN]:
+        by = ' by {}'.format(sides.plain(one.there.user)) if one.there.user else ''
+        print('{} may be {}: {}, {:.0f} m away; version {}{}'.format(one.key, sides.title(one.there), one.why, one.metres, one.there.version, by))
+    if len(area.candidates) > SHOWN:
+        print('and {} more'.format(len(area.candidates) - SHOWN))
+    if area.candidates:
+        raise Refused('nothing is sent: {} of {} new objects may be there already; look at them, take out what is (yoke do, purge KEYS), '
+                      'and send the rest by --unseen'.format(len(area.candidates), area.new))
+
+
 def show_left(left):
     """Names the edits that stay here, by the cause."""
+    results.put(left=[{'why': why, 'keys': sorted(keys, key=opl.rank)} for why, keys in left.items()])
     for why, keys in left.items():
         keys = sorted(keys, key=opl.rank)
         more = ' and {} more'.format(len(keys) - SHOWN) if len(keys) > SHOWN else ''

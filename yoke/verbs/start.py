@@ -4,10 +4,12 @@ import pathlib
 import shutil
 import subprocess
 import tempfile
+from dataclasses import asdict
 
-from yoke import opl, results, session, words
+from yoke import fresh, opl, results, session, words
 from yoke.program import Program
 from yoke.day import Day
+from yoke.progress import note
 from yoke.trouble import Refused, Trouble
 
 SUMMARY = 'begin a day from extracts: OPL, or what osmium reads (PBF, XML, compressed)'
@@ -18,6 +20,7 @@ LEFT = ('lock', '000001-start.saved.new')       # what a start that came to noth
 
 def add_arguments(parser):
     parser.add_argument('extracts', metavar='EXTRACT', nargs='+', help='a file; what doesn\'t end in .opl goes through osmium')
+    parser.add_argument('--as-it-is', action='store_true', help='begin also where an extract seems cut off, or has fewer objects than before')
 
 
 def run(arguments):
@@ -26,6 +29,8 @@ def run(arguments):
         check_folder(day)       # before a lock is put into it
     with tempfile.TemporaryDirectory(prefix='yoke-') as folder:
         files = [as_opl(extract, os.path.join(folder, '{}.opl'.format(number))) for number, extract in enumerate(arguments.extracts)]
+        extracts = {extract: fresh.scan(extract, file) for extract, file in zip(arguments.extracts, files)}
+        check_extracts(day, dict(zip(arguments.extracts, files)), extracts, arguments.as_it_is)
         lines = ['download ' + opl.escape(os.path.abspath(file)) for file in files]
         with day.locked(make=True):
             check_folder(day)
@@ -33,11 +38,25 @@ def run(arguments):
             for reply in answer.refused():
                 raise Refused('{}: {}'.format(arguments.extracts[reply.line - 1], words.refusal(reply.rest)))
             state = day.keep('start', answer.saved())
+            fresh.note_extracts(day, extracts)
     counts = answer.counts()
-    results.put(counts=counts, session=results.of_state(state))
+    results.put(counts=counts, session=results.of_state(state), extracts=[{'path': path, **asdict(extract)} for path, extract in extracts.items()])
     print('{nodes} nodes, {ways} ways, {relations} relations'.format(**counts))
     print('kept as {}'.format(state.path))
     return 0
+
+
+def check_extracts(day, files, extracts, as_it_is):
+    """Refused where an extract seems cut off, or is less or older than it was for the last day, unless it is to be taken as it is."""
+    found = ['{} ends in the middle of a line, as a file that is cut off'.format(extract) for extract, file in files.items() if fresh.is_cut(file)]
+    for extract, what in extracts.items():
+        found += fresh.suspicions(day.folder, extract, what)
+        for text in fresh.warnings(day.folder, extract, what):
+            note(text)
+    for text in found if as_it_is else []:
+        note(text)
+    if found and not as_it_is:
+        raise Refused('{}: get it anew; --as-it-is begins all the same'.format('; '.join(found)))
 
 
 def check_folder(day):
