@@ -247,9 +247,9 @@ class Parts:
     wanted: Wanted
     note: Callable[[str], Any]
     left: Dict[str, List[str]] = field(default_factory=dict)
-    _told: Set[Group] = field(
-        default_factory=set
-    )  # groups of which was said that they are too large
+    _told: Set[str] = field(default_factory=set)  # first keys of groups that are too large
+    _anyway: Set[Group] = field(default_factory=set)  # groups that go out in several documents
+    _most: int = 0  # how many changes the next batch may have, where one came out smaller; else 0
 
     @property
     def session(self) -> Session:
