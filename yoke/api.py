@@ -63,6 +63,13 @@ class Account:
     name: str
 
 
+def link(address: str, number: str) -> str:
+    """Where a changeset is shown on the website of a server, by the address of its API."""
+    parts = urllib.parse.urlsplit(address)
+    host = WEBSITES.get(parts.netloc, parts.netloc)
+    return f'{parts.scheme}://{host}{parts.path[:-len("/api/0.6")]}/changeset/{number}'
+
+
 def pause(seconds: float) -> None:
     """Waits."""
     time.sleep(seconds)
@@ -215,9 +222,7 @@ class Server:
 
     def link(self, number: str) -> str:
         """Where a changeset is shown on the website."""
-        parts = urllib.parse.urlsplit(self.address)
-        host = WEBSITES.get(parts.netloc, parts.netloc)
-        return f'{parts.scheme}://{host}{parts.path[:-len("/api/0.6")]}/changeset/{number}'
+        return link(self.address, number)
 
     def open_changeset(self, tags: Mapping[str, str]) -> str:
         """Opens a changeset; answers with its id, a text."""

@@ -9,6 +9,7 @@
 | `changeset` | the changeset that is open |
 | `server` | the address of the server that this day belongs to |
 | `account` | the account that sends the edits of this day (`yoke/accounts.py`) |
+| `log` | each changeset that was opened, and how each send ended (`yoke/journal.py`) |
 | `forgotten` | the last of the sessions after the first that were removed: nothing is taken back beyond it |
 | `lock` | held by the `yoke` that works here |
 | `refresh.new` | what a `refresh` merges, while it does |
@@ -30,7 +31,7 @@ from typing import Optional, Tuple
 from yoke.trouble import Busy, Refused, Trouble
 
 NAME = re.compile('([0-9]+)-([a-z-]+)\\.(saved|undone)')
-OWN = re.compile('[0-9]+-[a-z-]+\\.(saved|undone)|[0-9]+\\.(osc|answers?|refused)|josm-.*\\.start|changeset|server|account|forgotten|lock|refresh|held|extracts')
+OWN = re.compile('[0-9]+-[a-z-]+\\.(saved|undone)|[0-9]+\\.(osc|answers?|refused)|josm-.*\\.start|changeset|server|account|log|forgotten|lock|refresh|held|extracts')
 LAST = 3        # sessions that are kept of those that nothing goes back to any more
 FORGOTTEN = 'forgotten'
 HELD = 'held'

@@ -44,7 +44,7 @@ import re
 from dataclasses import dataclass, field
 from typing import Dict, List, Optional, Tuple
 
-from yoke import accounts, api, extent, opl, osc, words
+from yoke import accounts, api, extent, journal, opl, osc, words
 from yoke.api import Account, Limits, Server
 from yoke.day import State
 from yoke.session import Session
@@ -239,6 +239,7 @@ class Sending:
         accounts.note_account(self.day, self.sender)
         self.day.write('changeset', json.dumps({'number': number, 'tags': self.tags}) + '\n')
         self.changeset = Open(number, self.tags)
+        journal.note(self.day, changeset=number, tags=self.tags)
 
     def close(self):
         """Closes the changeset, if one is open, and forgets it."""

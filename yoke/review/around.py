@@ -8,7 +8,8 @@ from yoke import opl
 from yoke.table import Table
 
 CELL = 0.005  # degrees of the side of a cell
-MOST = 4000  # objects that are given for one box
+MOST = 4000  # objects that are given for one box: of more the nodes go first, then what says least
+RANKS = {'highway': 0, 'water': 1, 'building': 2, 'other': 3, 'node': 4}
 MOST_CELLS = 20000  # of a box; of a larger one nothing is given
 LONGEST = 50  # cells in each direction that one way is noted in
 
@@ -57,7 +58,7 @@ class Around:
         for column in _cells(west, east):
             for row in _cells(south, north):
                 found.update(self._cells.get((column, row), ()))
-        some = sorted(found)[:MOST]
+        some = sorted(found, key=lambda number: (RANKS[self.shapes[number][0]], number))[:MOST]
         return {'shapes': list(self._given(some)), 'cut': len(found) > len(some)}
 
     def _given(self, numbers: List[int]) -> Iterator[List[Any]]:

@@ -392,14 +392,20 @@ class Review:
         return next(filter(None, keys), '')
 
 
-def reviewed_by(path: str) -> Callable[[Session, Table], Reviewed]:
-    """How the edits of a session were reviewed, by a file of decisions, as `yoke.parts` asks for it."""
+class ReviewedBy:
+    """How the edits of a session were reviewed, by a file of decisions, as `yoke.parts` asks for it.
 
-    def look(session: Session, found: Table) -> Reviewed:
-        one = Review(session, path, there=found)
+    `counts` has how many items were accepted, rejected and not decided when it was asked last.
+    """
+
+    def __init__(self, path: str):
+        self.path = path
+        self.counts: Dict[str, int] = {}
+
+    def __call__(self, session: Session, found: Table) -> Reviewed:
+        one = Review(session, self.path, there=found)
+        self.counts = dict(one.counts())
         return Reviewed(frozenset(one.accepted()), frozenset(one.undecided()))
-
-    return look
 
 
 def check_resolve(how: str) -> None:

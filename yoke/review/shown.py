@@ -197,6 +197,18 @@ def kind_of(item: Item) -> str:
     return ', '.join(filter(None, [short, *(part for part in item['parts'] if part != 'tags')]))
 
 
+def kind_between(key: str, edit: str, before: Side, after: Side) -> str:
+    """The kind of an edit by the object before and after it."""
+    item: Item = {
+        'key': key,
+        'edit': edit,
+        'conflict': None,
+        'tags': _tags(before, after),
+        'parts': changed_parts(before, after),
+    }
+    return kind_of(item)
+
+
 def _value(text: Optional[str]) -> str:
     return sides.NOTHING if text is None else text
 

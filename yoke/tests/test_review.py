@@ -32,6 +32,7 @@ w5 v3 Thighway=residential,name=High%20%Street Nn1,n2,n3,n4
 w6 v1 Tbuilding=yes Nn1,n5,n6,n1
 r9 v1 Ttype=route Mw5@
 '''
+HOSTILE_NAME = '%3c%script%3e%alert%3c%/script%3e%%202e%x%7%'
 
 
 class ReviewTest(FolderTest):

@@ -43,6 +43,7 @@ NAMES = [
     'login',
     'whoami',
     'logout',
+    'log',
 ]
 
 

@@ -1,6 +1,10 @@
 """`yoke diff`: the edits of the session, each beside what it was made from."""
-from yoke import results, saved, sides
+from yoke import results, saved, sides, table
 from yoke.day import Day
+from yoke.files import check_outputs, write_own
+from yoke.review import picture
+from yoke.review.items import USERS, collect
+from yoke.session import Session
 
 SUMMARY = 'show what is edited: each object, and what became of it'
 DETAILS = 'It reads the saved session alone: what the server has by now is another question (yoke refresh).'
@@ -9,9 +13,13 @@ DETAILS = 'It reads the saved session alone: what the server has by now is anoth
 def add_arguments(parser):
     parser.add_argument('keys', metavar='KEY', nargs='*', help='only these objects')
     parser.add_argument('--short', action='store_true', help='a line for each object, without its parts')
+    parser.add_argument('--svg', metavar='FILE', help='draw the edits on a map, as one picture; - is standard output')
+    parser.add_argument('--force', action='store_true', help='with --svg: also over a file that yoke didn\'t write')
 
 
 def run(arguments):
+    if arguments.svg:
+        return draw(arguments)
     day, count = Day(arguments.day), 0
     for known in saved.read(day.last().text()).values():
         if known.edit is None or arguments.keys and known.key not in arguments.keys:
@@ -26,4 +34,19 @@ def run(arguments):
                 print('    ' + line)
     results.add('objects')
     print('{} edited'.format(count))
+    return 0
+
+
+def draw(arguments):
+    """Writes the picture of the edits; the exit code."""
+    session = Session.of(arguments)
+    last = session.day.last()
+    found = collect(table.read(last.text()), session.ask([USERS]).found())
+    if arguments.keys:
+        found.items = [key for key in found.items if not set(arguments.keys).isdisjoint([key, *found.parts_of(key)])]
+    check_outputs([arguments.svg] if arguments.svg != '-' else [], [], session.day.folder)
+    write_own(arguments.svg, picture.document(found, f'{last.path.stem}: {len(found.items)} edits'), picture.MARK, arguments.force)
+    results.add('objects', *(results.of_known(found.known(key)) for key in found.items if results.wanted()))
+    if arguments.svg != '-':
+        print(f'wrote {arguments.svg}: {len(found.items)} edits')
     return 0

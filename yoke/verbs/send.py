@@ -3,13 +3,13 @@ import argparse
 import re
 from decimal import Decimal
 
-from yoke import api, extent, fresh, opl, osc, parts, results, sending, sides, words
+from yoke import api, extent, fresh, journal, opl, osc, parts, results, sending, sides, words
 from yoke.parts import Parts, Wanted
 from yoke.progress import note
 from yoke.review import reviewing
 from yoke.sending import Sending
 from yoke.session import Session
-from yoke.trouble import Clash, NoAnswer, Refused, Usage
+from yoke.trouble import Clash, NoAnswer, Refused, Trouble, Usage
 from yoke.verbs import refresh
 
 SUMMARY = 'send the edits, chunk by chunk; goes on where it ended'
@@ -51,7 +51,7 @@ def run(arguments):
         raise Usage('--chunk wants a number from 1 to 10,000')
     if arguments.at_most is not None and arguments.at_most < 1:
         raise Usage('--at-most wants a number from 1 on')
-    reviewed = reviewing.reviewed_by(arguments.decisions) if arguments.reviewed else None
+    reviewed = reviewing.ReviewedBy(arguments.decisions) if arguments.reviewed else None
     wanted = Wanted(tuple(arguments.only), arguments.at_most, arguments.skip_conflicts, reviewed)
     if arguments.dry:
         return show(Session.of(arguments), arguments.chunk, wanted)
@@ -65,8 +65,13 @@ def run(arguments):
             if not arguments.unseen:
                 look(session, server, wanted)
             deliver(part, MOST if arguments.refresh or arguments.skip_conflicts else 0)
+            note_end(part, reviewed)
         except NoAnswer as silence:
+            note_end(part, reviewed, silence)
             raise NoAnswer('{}; the same command again goes on from here'.format(silence)) from None
+        except Trouble as trouble:
+            note_end(part, reviewed, trouble)
+            raise
     print('{} changes sent{}'.format(one.sent, ' in ' + ', '.join('changeset ' + number for number in one.used) if one.used else ''))
     for number in one.used:
         print(server.link(number))
@@ -95,6 +100,18 @@ def look(session, server, wanted):
     if area.candidates:
         raise Refused('nothing is sent: {} of {} new objects may be there already; look at them, take out what is (yoke do, purge KEYS), '
                       'and send the rest by --unseen'.format(len(area.candidates), area.new))
+
+
+def note_end(part, reviewed, trouble=None):
+    """Notes in the log of the day how a send ended: what went out, what is left and why, how it was reviewed."""
+    if trouble is not None and not part.sending.sent:
+        return
+    entry = {'sent': part.sending.sent, 'changesets': part.sending.used, 'left': {why: len(keys) for why, keys in part.left.items()}}
+    if reviewed is not None:
+        entry['reviewed'] = reviewed.counts
+    if trouble is not None:
+        entry['trouble'] = str(trouble)
+    journal.note(part.day, **entry)
 
 
 def show_left(left):
