@@ -26,7 +26,7 @@ class Explore(unittest.TestCase):
             return False
 
         with mock.patch.object(Sending, '_settle', forgets):
-            with self.assertRaisesRegex(explore.Finding, 'is at the server 2 times|ends with'):
+            with self.assertRaisesRegex(explore.Finding, 'is at the server 2 times|is left open'):
                 explore.walk('four', 1, support.program())
 
     def test_a_send_that_loses_what_is_held_back_is_found(self) -> None:
