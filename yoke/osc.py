@@ -5,6 +5,7 @@ A change is a pair of a verb (`create`, `modify` or `delete`) and an `opl.Object
 import re
 from decimal import Decimal, InvalidOperation
 from itertools import groupby
+from typing import Any, Container, Dict, Iterable, List, Optional, Tuple
 from xml.etree import ElementTree
 from xml.sax.saxutils import quoteattr
 
@@ -155,11 +156,18 @@ def answer(verb, one, result):
 
 def result(sent):
     """The diffResult of changes and deletions that were taken, made here where the server's own never came."""
-    lines = ['<diffResult version="0.6" generator="yoke">']
-    for verb, one in sent:
-        new = '' if verb == 'delete' else ' new_id="{}" new_version="{}"'.format(one.key[1:], one.version + 1)
-        lines.append('  <{} old_id="{}"{}/>'.format(one.kind, one.key[1:], new))
-    return '\n'.join(lines + ['</diffResult>']) + '\n'
+    return result_of('{} {} v{}'.format(verb, one.key, one.version + 1) for verb, one in sent)
+
+
+def result_of(lines: Iterable[str]) -> str:
+    """The diffResult that says the same as lines of an answer file."""
+    found = ['<diffResult version="0.6" generator="yoke">']
+    for line in lines:
+        verb, old, *_ = words = line.split(' ')
+        new = words[2] if verb == 'create' else old
+        rest = '' if verb == 'delete' else f' new_id="{new[1:]}" new_version="{words[-1][1:]}"'
+        found.append(f'  <{opl.KINDS[old[0]]} old_id="{old[1:]}"{rest}/>')
+    return '\n'.join(found + ['</diffResult>']) + '\n'
 
 
 def looked_up(sent, text, given=()):
@@ -169,14 +177,28 @@ def looked_up(sent, text, given=()):
     same tags and the same place, nodes or members; of several alike the first gets the first id. NotThere where the
     changeset has none of the changes, ValueError where it has some of them alone, which no server does.
     """
-    there, made = {}, {}
+    found = matched(sent, text, given)
+    lines = [line for line in found if line]
+    missing = [change for change, line in zip(sent, found) if line is None]
+    if missing and lines:
+        raise ValueError('it has some of the changes and not others: not {} {}, and {}'.format(missing[0][0], missing[0][1].key, lines[0]))
+    if missing:
+        raise NotThere('it has none of the changes')
+    return lines
+
+
+def matched(sent: Iterable[Tuple[str, opl.Object]], text: str, given: Container[str] = ()) -> List[Optional[str]]:
+    """The same line by line: None for each change that the changeset doesn't show."""
+    there: Dict[Tuple[str, str, int], opl.Object] = {}
+    made: Dict[Tuple[Any, ...], List[str]] = {}
     for verb, one in changes(text):
         if verb == 'create' and one.key not in given:
             made.setdefault(body(one, {}), []).append(one.key)
         there[verb, one.key, one.version] = one
     for keys in made.values():
         keys.sort(key=opl.rank, reverse=True)
-    lines, missing, names = [], [], {}
+    lines: List[Optional[str]] = []
+    names: Dict[str, str] = {}
     for verb, one in sent:
         if verb == 'create':
             keys = made.get(body(one, names))
@@ -187,11 +209,7 @@ def looked_up(sent, text, given=()):
             found = there.get((verb, one.key, one.version + 1))
             alike = found is not None and (verb == 'delete' or body(found, {}) == body(one, names))
             line = alike and '{} {} v{}'.format(verb, one.key, one.version + 1)
-        (lines if line else missing).append(line or '{} {}'.format(verb, one.key))
-    if missing and lines:
-        raise ValueError('it has some of the changes and not others: not {}, and {}'.format(missing[0], lines[0]))
-    if missing:
-        raise NotThere('it has none of the changes')
+        lines.append(line or None)
     return lines
 
 

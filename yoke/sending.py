@@ -49,7 +49,7 @@ from yoke.api import Account, Limits, Server
 from yoke.day import State
 from yoke.session import Session
 from yoke.stored import Stored
-from yoke.trouble import Clash, NoAnswer, Refused, ServerRefused, Trouble
+from yoke.trouble import Clash, NoAnswer, Redacted, Refused, ServerRefused, Trouble
 
 CHUNK = 1000                # changes in a document, unless --chunk names another number
 SILENCES = 3                # documents in a row that got no answer and weren't taken, before a send ends
@@ -305,7 +305,7 @@ class Sending:
         count, _ = self.server.changeset(self.changeset.number)
         if not self._counts(count):
             return False
-        if not self._found():
+        if not self._found() and not self._found_hidden():
             raise self._unseen()
         return True
 
@@ -358,7 +358,7 @@ class Sending:
         if self._look() is True:
             return True
         counted, found = self._fence(), self._look()
-        if found:
+        if found or counted and self._found_hidden():
             return True
         if counted:
             raise self._unseen()
@@ -431,10 +431,38 @@ class Sending:
         except osc.NoXml as fault:
             return self._found_by_version(sent, NoAnswer('the changeset {} can\'t be read: {}'.format(self.changeset.number, fault)))
         except ValueError as fault:
+            if self._counts(self.server.changeset(self.changeset.number)[0]) and self._found_hidden():
+                return True
             raise Trouble('the changeset {} isn\'t what API 0.6 makes of {}: {}'.format(
                 self.changeset.number, self.day.path(self.day.pending()), fault)) from None
         self._write('answer', text)
         return True
+
+    def _found_hidden(self) -> bool:
+        """Whether the document that is out was taken, and the changeset doesn't show some of it since these versions were redacted; keeps
+        what says so as the answer. A new object's id is nowhere else, so one that is hidden isn't found."""
+        sent, lines = self._sent(), []
+        try:
+            found = osc.matched(sent, self.server.download(self.changeset.number), self._given())
+        except (NoAnswer, ServerRefused, osc.NoXml) as silence:
+            self.note('{}'.format(silence))
+            return False
+        for (verb, one), line in zip(sent, found):
+            if line is None and not self._is_hidden(verb, one):
+                return False
+            lines.append(line or '{} {} v{}'.format(verb, one.key, one.version + 1))
+        self._write('answer', osc.result_of(lines))
+        return True
+
+    def _is_hidden(self, verb: str, one: opl.Object) -> bool:
+        """Whether the server has the version that a change made, and shows it to nobody."""
+        if verb == 'create':
+            return False
+        try:
+            self.server.version(one.key, one.version + 1)
+        except Redacted:
+            return True
+        return False
 
     def _found_by_version(self, sent, silence):
         """The same where the changeset itself can't be looked into, by the version that a change or deletion made.
