@@ -11,6 +11,7 @@ takes longer than the command may wait in all. Only `upload` doesn't wait, since
 (`sending.py`). Nothing else that writes is ever sent twice here, except the close of a changeset, which does no harm.
 """
 import argparse
+import contextlib
 import datetime
 import email.utils
 import os
@@ -21,7 +22,7 @@ import stat
 import time
 import urllib.parse
 from dataclasses import dataclass, field
-from typing import Any, Callable, FrozenSet, Iterable, List, Mapping, Optional, Sequence, Tuple
+from typing import Any, Callable, FrozenSet, Iterable, Iterator, List, Mapping, Optional, Sequence, Tuple
 from xml.etree import ElementTree
 
 from yoke import VERSION, opl, osc, transport, words
@@ -31,6 +32,8 @@ from yoke.trouble import Later, NoAnswer, Redacted, ServerRefused, Trouble, Usag
 AGENT = 'yokeorange-yoke/' + VERSION        # of each call
 CREATED_BY = 'yokeorange yoke ' + VERSION    # of each changeset
 TOKEN = re.compile('[!-~]+')
+VARIABLE = 'YOKE_TOKEN'     # of the environment
+_held: List[str] = []       # what it was, while `token_held` keeps it
 LONGEST_TOKEN = 4096        # bytes
 TOKEN_WAIT = 60             # seconds until a pipe has to give a token
 LOOPBACK = ('localhost', '127.0.0.1', '::1')
@@ -112,7 +115,7 @@ def token_of(arguments: argparse.Namespace) -> str:
     """The token that the words and the environment give: of --token-file, else of $YOKE_TOKEN, else an empty text. Usage or Trouble
     where it is none; no message has it."""
     name = getattr(arguments, 'token_file', None)
-    token = token_in(name) if name else os.environ.get('YOKE_TOKEN', '').strip()
+    token = token_in(name) if name else token_of_environment()
     if token and not TOKEN.fullmatch(token):
         where = name if name else '$YOKE_TOKEN'
         raise Usage(f'{where} has no token: there is a blank in it, or a sign that no token has')
@@ -157,6 +160,25 @@ def _first_bytes(path: pathlib.Path, most: int) -> bytes:
         return data
     finally:
         os.close(handle)
+
+
+@contextlib.contextmanager
+def token_held() -> Iterator[None]:
+    """Takes $YOKE_TOKEN out of the environment while the context lasts: `token_of` has it, and no program that is started."""
+    before = os.environ.pop(VARIABLE, None)
+    if before is not None:
+        _held.append(before)
+    try:
+        yield
+    finally:
+        if before is not None:
+            _held.pop()
+            os.environ[VARIABLE] = before
+
+
+def token_of_environment() -> str:
+    """The token of $YOKE_TOKEN; an empty text where there is none."""
+    return (os.environ.get(VARIABLE) or (_held[-1] if _held else '')).strip()
 
 
 # ---- the server ----

@@ -1,14 +1,22 @@
 """The command line: the words common to all verbs, the choice of a verb, and exit codes.
 
 A verb raises `Trouble` for whatever it can't do; here that becomes one line on the error stream and an exit code. The
-codes are those of `yoke/trouble.py`, with 0 for done, 130 where the user broke off, and 70 for a fault of `yoke` itself.
+codes are those of `yoke/trouble.py`, with 0 for done, 130 where the user broke off, 143 and 129 where the signals TERM and
+HUP did, and 70 for a fault of `yoke` itself.
+
+While a verb runs, all that it prints goes through `printing.Guard`, and the token isn't in the environment, so that no
+program that it starts can read it.
 """
 import argparse
+import contextlib
 import os
 import re
+import signal
 import sys
+import threading
+from typing import Any, Iterator, NoReturn
 
-from yoke import VERSION, results, verbs
+from yoke import VERSION, api, printing, results, verbs
 from yoke.login import profiles
 from yoke.progress import note
 from yoke.trouble import Trouble
@@ -16,19 +24,20 @@ from yoke.trouble import Trouble
 CODES = """exit codes:
   0 done   1 refused, nothing was kept   2 wrong words   3 a file, a folder or the program   4 somebody was faster, or a
   conflict stands   5 no answer of the server: run it again   6 the server refuses   7 another yoke works in the folder
+  75 the server asks to wait for longer than --wait: come back later
 docs/COMPANION.md tells of each verb, and what to do at each fault."""
 BOXES = ('--bbox', '--within')      # options with a box of degrees
 
 
 def parser():
     """The parser of all words: each verb adds its own."""
-    top = argparse.ArgumentParser(prog='yoke', description='A mapper\'s day with editor, from extracts to what is sent.',
+    top = argparse.ArgumentParser(prog='yoke', allow_abbrev=False, description='A mapper\'s day with editor, from extracts to what is sent.',
                                   epilog=CODES, formatter_class=argparse.RawDescriptionHelpFormatter)
     top.add_argument('--version', action='version', version='yoke ' + VERSION)
     chosen = top.add_subparsers(dest='verb', metavar='VERB', required=True)
     for name in verbs.NAMES:
         verb = verbs.load(name)
-        one = chosen.add_parser(name, help=verb.SUMMARY, description=verb.SUMMARY[0].upper() + verb.SUMMARY[1:] + '.',
+        one = chosen.add_parser(name, allow_abbrev=False, help=verb.SUMMARY, description=verb.SUMMARY[0].upper() + verb.SUMMARY[1:] + '.',
                                 epilog=getattr(verb, 'DETAILS', None), formatter_class=argparse.RawDescriptionHelpFormatter)
         common(one)
         verb.add_arguments(one)
@@ -75,7 +84,17 @@ def parsed(words):
 
 def main(words=None):
     """Runs a verb; answers with the exit code."""
-    arguments = parsed(with_boxes(sys.argv[1:] if words is None else words))
+    open_streams()
+    with printing.guarded(), api.token_held(), broken_off_by(signal.SIGTERM, signal.SIGHUP):
+        try:
+            return run(sys.argv[1:] if words is None else words)
+        except Ended as ended:      # before the verb began
+            return 128 + ended.number
+
+
+def run(words):
+    """The same, with all around it in order."""
+    arguments = parsed(with_boxes(words))
     if not arguments.json:
         return attempt(arguments)[0]
     with results.collected() as (found, printed):
@@ -104,12 +123,58 @@ def attempt(arguments):
         return 3, error
     except KeyboardInterrupt as error:
         complain('broken off; {}'.format(further(arguments.verb)))
-        return 130, error
+        return 128 + (error.number if isinstance(error, Ended) else signal.SIGINT), error
+    except UnicodeError as error:
+        complain('a word of the command line or a file isn\'t in the encoding that it should be in, which mostly is UTF-8: {}'.format(error))
+        return 3, error
+    except RecursionError as error:
+        complain('a file is nested too deeply; {}'.format(further(arguments.verb)))
+        return 3, error
+    except MemoryError as error:
+        complain('memory ran out; {}'.format(further(arguments.verb)))
+        return 3, error
     except Exception as fault:
         if os.environ.get('YOKE_TRACE'):
             raise
         complain('a fault of yoke itself, which you may report with what $YOKE_TRACE=1 shows: {}: {}'.format(type(fault).__name__, fault))
         return 70, fault
+
+
+class Ended(KeyboardInterrupt):
+    """A signal ends the program as Ctrl-C does: what is begun is left in order, and temporary files go."""
+
+    def __init__(self, number: int) -> None:
+        super().__init__()
+        self.number = number
+
+
+@contextlib.contextmanager
+def broken_off_by(*numbers: int) -> Iterator[None]:
+    """Lets signals end what runs in the context by Ended. One that is ignored, as HUP is under nohup, stays so."""
+    def end(number: int, frame: Any) -> NoReturn:
+        raise Ended(number)
+    if threading.current_thread() is not threading.main_thread():
+        yield
+        return
+    before = {number: signal.getsignal(number) for number in numbers}
+    for number in numbers:
+        if before[number] is signal.SIG_DFL:
+            signal.signal(number, end)
+    try:
+        yield
+    finally:
+        for number in numbers:
+            if before[number] is signal.SIG_DFL:
+                signal.signal(number, signal.SIG_DFL)
+
+
+def open_streams() -> None:
+    """Lets the places of closed standard streams be taken, so that no file that is opened gets one of their numbers."""
+    for number in range(3):
+        try:
+            os.fstat(number)
+        except OSError:
+            os.open(os.devnull, os.O_RDWR)
 
 
 def deaf():

@@ -26,7 +26,7 @@ import os
 import pathlib
 import re
 from dataclasses import dataclass
-from typing import Optional, Tuple
+from typing import IO, Optional, Tuple
 
 from yoke.trouble import Busy, Refused, Trouble
 
@@ -176,6 +176,16 @@ class Day:
     def _sync(self):
         sync_folder(self.folder)
 
+    def _lock_file(self) -> IO[str]:
+        """The file by which the folder is held, open; Trouble where it is a link, which would make a file elsewhere."""
+        path = self.path('lock')
+        try:
+            return open(os.open(path, os.O_RDWR | os.O_CREAT | os.O_NOFOLLOW | os.O_CLOEXEC | os.O_NONBLOCK, 0o666), 'a', encoding='ascii')
+        except OSError as error:
+            if path.is_symlink():
+                raise Trouble(f'{path} is a link, and has to be a file of the folder itself: remove it') from None
+            raise Trouble(f'{path} can\'t be opened: {error}') from None
+
     @contextlib.contextmanager
     def locked(self, make=False):
         """Holds the folder for this process alone; Busy where another one does. `make` makes the folder where it isn't there."""
@@ -183,7 +193,7 @@ class Day:
             make_folder(self.folder)
         if not self.folder.is_dir():
             raise Trouble('there is no folder {}: yoke start EXTRACT makes it'.format(self.folder))
-        with open(self.path('lock'), 'a') as lock:
+        with self._lock_file() as lock:
             try:
                 fcntl.flock(lock, fcntl.LOCK_EX | fcntl.LOCK_NB)
             except BlockingIOError:

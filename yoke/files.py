@@ -5,28 +5,65 @@ import gzip
 import lzma
 import os
 import pathlib
+import stat
 import sys
 import zlib
-from typing import Iterable
+from typing import IO, Callable, Dict, Iterable, Iterator
 
-from yoke import day
+from yoke import day, printing
 from yoke.trouble import Refused, Trouble
 
-UNPACK = {'.gz': gzip.decompress, '.bz2': bz2.decompress, '.xz': lzma.decompress}
+UNPACK: Dict[str, Callable[[IO[bytes]], IO[bytes]]] = {
+    '.gz': lambda file: gzip.GzipFile(fileobj=file), '.bz2': bz2.BZ2File, '.xz': lzma.LZMAFile}
+MOST = 1 << 30          # bytes of a file, unpacked: what `editor` takes
+PIECE = 1 << 20
 
 
-def data_of(name: str) -> bytes:
-    """The bytes of a file, unpacked where its name ends in .gz, .bz2 or .xz; of `-` those of standard input. Trouble where there are none."""
+def data_of(name: str, most: int = MOST) -> bytes:
+    """The bytes of a file, unpacked where its name ends in .gz, .bz2 or .xz; of `-` those of standard input. Trouble where there are
+    none, or more than `most`."""
     path = pathlib.Path(name)
     try:
-        data = sys.stdin.buffer.read() if name == '-' else path.read_bytes()
-        return UNPACK[path.suffix](data) if path.suffix in UNPACK else data
+        with contextlib.ExitStack() as stack:
+            file = _standard_input() if name == '-' else stack.enter_context(open(_no_device(path), 'rb'))
+            if path.suffix in UNPACK:
+                file = stack.enter_context(UNPACK[path.suffix](file))
+            return b''.join(_pieces(file, name, most))
     except FileNotFoundError:
         raise Trouble('there is no file {}'.format(name)) from None
     except IsADirectoryError:
         raise Trouble('{} is a folder'.format(name)) from None
     except (OSError, EOFError, lzma.LZMAError, zlib.error) as error:
         raise Trouble('{} can\'t be read: {}'.format(name, error)) from None
+
+
+def _standard_input() -> IO[bytes]:
+    if sys.stdin is None:
+        raise Trouble('standard input is closed, so - has nothing to read')
+    return sys.stdin.buffer
+
+
+def _no_device(path: pathlib.Path) -> pathlib.Path:
+    """The path itself; Trouble where it is a device without an end, as /dev/zero."""
+    mode = path.stat().st_mode
+    if (stat.S_ISCHR(mode) or stat.S_ISBLK(mode)) and str(path) not in (os.devnull, '/dev/stdin', '/dev/tty'):
+        raise Trouble(f'{path} is a device, and no file')
+    return path
+
+
+def _pieces(file: IO[bytes], name: str, most: int) -> Iterator[bytes]:
+    """What a file has; Trouble where it is more than so many bytes."""
+    count = 0
+    while piece := file.read(PIECE):
+        count += len(piece)
+        if count > most:
+            raise Trouble(f'{name} has more than {most} bytes when it is unpacked: split it, or take a part of it')
+        yield piece
+
+
+def named(name: str) -> str:
+    """The name of a file for another program's command line: one that begins with a dash is none of its options."""
+    return './' + name if name.startswith('-') else name
 
 
 def check_outputs(names, read, folder):
@@ -58,7 +95,7 @@ def write_own(name: str, text: str, mark: bytes, force: bool):
     """Writes a file whole or not at all, of `-` to standard output; Refused as by `check_own`."""
     check_own(name, mark, force)
     if name == '-':
-        sys.stdout.write(text)
+        printing.document(text)
     else:
         day.write_whole(name, text)
 

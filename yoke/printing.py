@@ -31,7 +31,7 @@ def _escape(found: 're.Match[str]') -> str:
 class Guard:
     """A text stream that shows what is invisible in each text that is written to it.
 
-    A character that the stream's encoding lacks is written as Python escapes it, such as `\\u2192`. Everything else is the
+    A character that the stream's encoding lacks is written so too, and a line of OPL stays one. Everything else is the
     stream's own, and `data` has the stream itself, for a document that is written byte by byte as it is.
     """
 
@@ -43,12 +43,22 @@ class Guard:
         safe = shown(text)
         encoding = getattr(self.data, 'encoding', None)
         if encoding and not safe.isascii():
-            safe = safe.encode(encoding, 'backslashreplace').decode(encoding)
+            safe = _in_encoding(safe, encoding)
         self.data.write(safe)
         return len(text)
 
     def __getattr__(self, name: str) -> Any:
         return getattr(self.data, name)
+
+
+def _in_encoding(text: str, encoding: str) -> str:
+    """A text without the characters that an encoding lacks: each as OPL writes it."""
+    try:
+        text.encode(encoding)
+        return text
+    except UnicodeEncodeError as error:
+        found, rest = text[error.start:error.end], text[error.end:]
+        return text[:error.start] + re.sub('(?s).', _escape, found) + _in_encoding(rest, encoding)
 
 
 class Nowhere:

@@ -68,7 +68,7 @@ class Answer:
     def __init__(self, output, lines):
         self.replies = []
         for text in output.split('\n')[:-1]:
-            found = REPLY.fullmatch(text) if text[:1].isdigit() else None
+            found = REPLY.fullmatch(text) if '0' <= text[:1] <= '9' else None
             if found:
                 self.replies.append(Reply(int(found[1]), found[2], found[3] or '', lines[int(found[1]) - 1]))
             else:

@@ -14,7 +14,7 @@ from contextvars import ContextVar
 from dataclasses import dataclass, field
 from typing import Any
 
-from yoke import VERSION, opl, saved
+from yoke import VERSION, opl, printing, saved
 from yoke.day import State
 from yoke.trouble import Trouble
 
@@ -77,8 +77,7 @@ def write(verb: str, code: int, found: Results, printed: str, trouble: BaseExcep
         'error': None if trouble is None else _error(trouble),
         'notes': found.notes, 'lines': printed.splitlines(), 'result': found.fields,
     }
-    json.dump(document, sys.stdout, ensure_ascii=False, default=str)
-    sys.stdout.write('\n')
+    printing.document(json.dumps(document, ensure_ascii=False, default=str) + '\n')
 
 
 def _error(trouble: BaseException) -> dict[str, Any]:

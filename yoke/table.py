@@ -52,6 +52,6 @@ def read(text) -> Table:
 def next_new(text) -> int:
     """The number of the next new object of a saved session; Trouble where the text is none."""
     header = text.split('\n', 1)[0].rstrip('\r').split(' ')
-    if len(header) != 3 or header[:2] != ['session', '1'] or not header[2].isdigit():
+    if len(header) != 3 or header[:2] != ['session', '1'] or not opl.is_digits(header[2]):
         raise Trouble('it is no saved session: it begins with {!r}'.format(' '.join(header)[:40]))
     return int(header[2])

@@ -1,13 +1,12 @@
 """A part of a file that is on this machine, cut out by osmium."""
 import json
-import os
 import pathlib
 import shutil
 import subprocess
 import sys
 from typing import Any, Dict, Iterator, List, Optional, Tuple
 
-from yoke import words
+from yoke import files, words
 from yoke.extracts import boxes, header
 from yoke.extracts.parts import Parts
 from yoke.files import write_new
@@ -30,7 +29,7 @@ def information(source: str) -> Dict[str, Any]:
     """What the header of a file says; Trouble if osmium can't read it."""
     if not pathlib.Path(source).is_file():
         raise Trouble(f'there is no file {source}')
-    done = subprocess.run([program(), 'fileinfo', '--json', named(source)], check=False,
+    done = subprocess.run([program(), 'fileinfo', '--json', files.named(source)], check=False,
                           stdout=subprocess.PIPE, stderr=subprocess.PIPE)
     try:
         found = json.loads(done.stdout.decode('utf-8')) if done.returncode == 0 else None
@@ -39,11 +38,6 @@ def information(source: str) -> Dict[str, Any]:
     if not isinstance(found, dict):
         raise Trouble(f'osmium doesn\'t read {source}: {said(done.stderr)}')
     return found
-
-
-def named(path: str) -> str:
-    """A path that no program takes for an option."""
-    return path if not path.startswith('-') else os.path.join('.', path)
 
 
 def said(output: Optional[bytes]) -> str:
@@ -76,7 +70,7 @@ def cut(source: str, wanted: List[Box], polygon: Optional[str], strategy: str,
     """Cuts boxes or a polygon out of a file; answers with the path of the OPL that comes."""
     place = parts.folder / 'cut.new'
     if polygon:
-        where = ['--polygon', named(polygon)]
+        where = ['--polygon', files.named(polygon)]
     elif len(wanted) == 1:
         where = ['--bbox', boxes.words(wanted[0])]
     else:
@@ -86,7 +80,7 @@ def cut(source: str, wanted: List[Box], polygon: Optional[str], strategy: str,
     is_seen = sys.stderr.isatty()
     done = subprocess.run(
         [program(), 'extract', '--progress' if is_seen else '--no-progress', '--strategy', strategy,
-         *where, named(source), '--output-format', 'opl', '--overwrite', '--output', str(place)],
+         *where, files.named(source), '--output-format', 'opl', '--overwrite', '--output', str(place)],
         check=False, stdout=subprocess.DEVNULL, stderr=None if is_seen else subprocess.PIPE)
     if done.returncode != 0:
         raise Trouble(f'osmium doesn\'t cut {source}: {said(done.stderr)}')

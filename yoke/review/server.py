@@ -54,7 +54,7 @@ class Handler(http.server.BaseHTTPRequestHandler):
     def do_POST(self) -> None:
         """A call."""
         length = self.headers.get('Content-Length', '')
-        if self.headers.get('Transfer-Encoding') or not length.isdigit() or int(length) > MOST:
+        if self.headers.get('Transfer-Encoding') or not (length.isascii() and length.isdigit()) or int(length) > MOST:
             return self.end_with(413)
         body = self.rfile.read(int(length))
         if not self.is_asked_here():

@@ -13,7 +13,7 @@ def insert_line(table: Table, node: str, way: str, after: Optional[str] = None) 
     `after` is a node of the way, of which the first place counts, or the number of a place: 1 is the first, 0 the front.
     Without it the node comes between the two neighbours whose segment lies nearest to it, the first of equally near ones.
     """
-    if node[0] != 'n' or way[0] != 'w':
+    if node[:1] != 'n' or way[:1] != 'w':
         raise Usage('a node and a way are wanted: yoke insert n7 w5')
     nodes = list(_mine(table, way).nodes)
     if not table.refers(node):
@@ -38,7 +38,7 @@ def _place(after: str, nodes: List[str], way: str) -> int:
     """The place after a node, or after so many."""
     if after in nodes:
         return nodes.index(after) + 1
-    if after.isdigit() and int(after) <= len(nodes):
+    if opl.is_digits(after) and int(after) <= len(nodes):
         return int(after)
     raise Refused('{} is no node of {}, and no number from 0 to {}'.format(after, way, len(nodes)))
 

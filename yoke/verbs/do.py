@@ -1,9 +1,8 @@
 """`yoke do`: the lines of a script over the session."""
 import pathlib
 import re
-import sys
 
-from yoke import fresh, opl, results, words
+from yoke import files, fresh, opl, results, words
 from yoke.formats.suspicions import Accepted
 from yoke.program import BadLine
 from yoke.progress import note
@@ -20,6 +19,7 @@ over what a query finds, a table of tags, one node more, one member more: yoke e
 A script that review, conflate, tag --to or expand --session wrote is for the session from which it was made, and refused over
 any other, unless by --any-session."""
 
+LONGEST = 1 << 26       # bytes of a script, unpacked
 OURS = {
     'save': 'the session is kept by itself', 'resume': 'the session is taken up by itself',
     'confirm': 'yoke send does that', 'serve': 'a meeting runs by editor itself',
@@ -115,10 +115,9 @@ def before(lines, number):
 def read(name):
     """The lines of a script, without a byte order mark or carriage returns; Trouble where there is no such text."""
     try:
-        text = sys.stdin.buffer.read() if name == '-' else pathlib.Path(name).read_bytes()
-        lines = text.decode('utf-8-sig').split('\n')
-    except FileNotFoundError:
-        raise Trouble('there is no script {}'.format(name)) from None
+        if name != '-' and not pathlib.Path(name).exists():
+            raise Trouble('there is no script {}'.format(name))
+        lines = files.data_of(name, LONGEST).decode('utf-8-sig').split('\n')
     except UnicodeDecodeError as error:
         raise Trouble('{} isn\'t UTF-8, from byte {} on'.format(name, error.start)) from None
     return [line[:-1] if line.endswith('\r') else line for line in (lines[:-1] if lines[-1] == '' else lines)]

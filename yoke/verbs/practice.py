@@ -11,6 +11,7 @@ import sys
 import threading
 import time
 
+from yoke import printing
 from yoke.progress import note
 from yoke.testing import server as strict
 from yoke.trouble import Refused, Trouble, Usage
@@ -138,5 +139,5 @@ def dump(port: int) -> int:
         connection.close()
     if answer.status != 200:
         raise Trouble(f'{address(port)} is no practice server')
-    sys.stdout.write(text)
+    printing.document(text)
     return 0

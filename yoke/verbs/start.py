@@ -6,7 +6,7 @@ import subprocess
 import tempfile
 from dataclasses import asdict
 
-from yoke import fresh, opl, results, session, words
+from yoke import files, fresh, opl, results, session, words
 from yoke.program import Program
 from yoke.day import Day
 from yoke.progress import note
@@ -28,10 +28,10 @@ def run(arguments):
     if not day.states():
         check_folder(day)       # before a lock is put into it
     with tempfile.TemporaryDirectory(prefix='yoke-') as folder:
-        files = [as_opl(extract, os.path.join(folder, '{}.opl'.format(number))) for number, extract in enumerate(arguments.extracts)]
-        extracts = {extract: fresh.scan(extract, file) for extract, file in zip(arguments.extracts, files)}
-        check_extracts(day, dict(zip(arguments.extracts, files)), extracts, arguments.as_it_is)
-        lines = ['download ' + opl.escape(os.path.abspath(file)) for file in files]
+        found = [as_opl(extract, os.path.join(folder, '{}.opl'.format(number))) for number, extract in enumerate(arguments.extracts)]
+        extracts = {extract: fresh.scan(extract, file) for extract, file in zip(arguments.extracts, found)}
+        check_extracts(day, dict(zip(arguments.extracts, found)), extracts, arguments.as_it_is)
+        lines = ['download ' + opl.escape(os.path.abspath(file)) for file in found]
         with day.locked(make=True):
             check_folder(day)
             answer = program.run(lines + ['count', 'save'])
@@ -78,7 +78,7 @@ def as_opl(extract, place):
     if path.suffix == '.opl' and path.is_file():
         place = str(path)
     elif path.suffix == '.opl' or not path.is_file():
-        shutil.copyfile(path, place) if path.is_file() else pathlib.Path(place).write_bytes(path.read_bytes())
+        shutil.copyfile(path, place) if path.is_file() else pathlib.Path(place).write_bytes(files.data_of(extract))
     else:
         convert(extract, place)
     if not has_objects(place):
@@ -91,7 +91,7 @@ def convert(extract, place):
     osmium = shutil.which('osmium')
     if osmium is None:
         raise Trouble('{} isn\'t OPL, and osmium, which reads it, isn\'t on the path (Debian: apt-get install osmium-tool)'.format(extract))
-    done = subprocess.run([osmium, 'cat', '--no-progress', extract, '-f', 'opl', '-O', '-o', place], stdout=subprocess.PIPE, stderr=subprocess.STDOUT)
+    done = subprocess.run([osmium, 'cat', '--no-progress', files.named(extract), '-f', 'opl', '-O', '-o', place], stdout=subprocess.PIPE, stderr=subprocess.STDOUT)
     if done.returncode != 0:
         raise Trouble('osmium doesn\'t read {}: {}'.format(extract, words.cut(done.stdout.decode('utf-8', 'replace').strip(), 300)))
 
