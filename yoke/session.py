@@ -7,8 +7,9 @@
 """
 import os
 from dataclasses import dataclass
+from typing import Dict
 
-from yoke import opl, saved, words
+from yoke import opl, saved, stored, words
 from yoke.day import Day
 from yoke.program import BadLine, Program
 from yoke.trouble import Clash, NoAnswer, Refused, Trouble
@@ -81,6 +82,11 @@ class Session:
         if not allow_refused and answer.refused():
             raise_refused(answer)
         return answer
+
+    def relations(self) -> Dict[str, saved.Known]:
+        """The relations of the last session alone: of a large one they are a small part, at its end."""
+        with stored.opened(self.day.last().path) as session:
+            return {known.key: known for known in session.of_kind('r')}
 
     def known(self):
         """The objects of the last session, `saved.Known` by key, read without the program."""

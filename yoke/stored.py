@@ -112,13 +112,11 @@ class Stored:
 
     def _from(self, wanted: Rank) -> Optional[int]:
         """Where the first object begins that is of this rank or a later one; None where there is none."""
-        low, high = 0, len(self.data)       # the object begins behind `low`, at `high` or before
+        low, high = 0, len(self.data)       # behind each place before `low` comes a lower rank first, and behind `high` none
         while low < high:
             middle = (low + high) // 2
             start = self._next(middle)
-            if start is None or start >= high:
-                high = middle
-            elif self._rank(start) < wanted:
+            if start is not None and self._rank(start) < wanted:
                 low = start
             else:
                 high = middle

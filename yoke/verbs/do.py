@@ -53,10 +53,10 @@ def run(arguments):
         expanded = expand.over_session(name, lines, session, Accepted.of(arguments.accept))
         for number, text in expanded.notes:
             print('{}:{}: {}'.format(name, number, text))
-        began = session.known()
+        began = session.relations()
         answer = perform(session, 'do', name, expanded, arguments.keep, arguments.strict)
         kept = arguments.keep or not answer.refused()
-        too = changed_too(began, session.known(), expanded.lines) if kept else []
+        too = changed_too(began, session.relations(), expanded.lines) if kept else []
     show(name, answer, kept)
     results.put(changed_too=too)
     if too:
