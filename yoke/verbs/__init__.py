@@ -44,6 +44,7 @@ NAMES = [
     'whoami',
     'logout',
     'log',
+    'conflate',
 ]
 
 
