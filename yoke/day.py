@@ -14,6 +14,7 @@
 | `lock` | held by the `yoke` that works here |
 | `refresh.new` | what a `refresh` merges, while it does |
 | `extracts` | of which moment the extracts of `start` were, and how many objects each had |
+| `ledger.csv`, `ledger.shared` | what was imported, and what became of it (`yoke/ledger.py`); the ledgers that the day shares |
 | `held` | keys of edits that are held back while others are sent, and the number of the session that has them (`yoke/parts.py`) |
 
 Each file appears whole or not at all: it is written under another name, brought to the disk, and then renamed, and the
@@ -31,7 +32,7 @@ from typing import IO, Optional, Tuple
 from yoke.trouble import Busy, Refused, Trouble
 
 NAME = re.compile('([0-9]+)-([a-z-]+)\\.(saved|undone)')
-OWN = re.compile('[0-9]+-[a-z-]+\\.(saved|undone)|[0-9]+\\.(osc|answers?|refused)|josm-.*\\.start|changeset|server|account|log|forgotten|lock|refresh|held|extracts')
+OWN = re.compile('[0-9]+-[a-z-]+\\.(saved|undone)|[0-9]+\\.(osc|answers?|refused)|josm-.*\\.start|changeset|server|account|log|forgotten|lock|refresh|held|extracts|ledger\\.(csv|shared)')
 LAST = 3        # sessions that are kept of those that nothing goes back to any more
 FORGOTTEN = 'forgotten'
 HELD = 'held'
@@ -83,11 +84,15 @@ class Day:
 
     def keep(self, verb, text):
         """Keeps a session as the last one; answers with its State."""
-        number = max((state.number for state in self.states() + self.states('undone')), default=0) + 1
-        state = State(number, verb, self.folder / '{:06}-{}.saved'.format(number, verb))
+        name = self.next_name(verb)
+        state = State(int(name.split('-')[0]), verb, self.folder / (name + '.saved'))
         self.write(state.path.name, text)
         self._forget()
         return state
+
+    def next_name(self, verb):
+        """The name, without its ending, of the session that is kept next, by a verb."""
+        return '{:06}-{}'.format(max((state.number for state in self.states() + self.states('undone')), default=0) + 1, verb)
 
     def take_back(self):
         """Takes the last session back; answers with it. Refused where nothing lies before, or no longer, or where it was sent."""

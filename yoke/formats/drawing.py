@@ -14,20 +14,25 @@ digits is rounded to the nearest.
 A MultiPoint, MultiPolygon or MultiLineString of one part is what the part is. Rings are closed where they aren't, and keep
 their direction and their first corner. A place that stands twice side by side is taken once.
 """
-from collections import Counter
+import math
+from collections import Counter, defaultdict
 from dataclasses import dataclass, field
 from decimal import Decimal
-from typing import Dict, Iterator, List, Mapping as MappingOf, Optional, Tuple
+from typing import Any, Callable, Dict, Iterator, List, Mapping as MappingOf, Optional, Tuple
 
 from yoke import opl
 from yoke.formats.features import Feature
 from yoke.formats.mapping import Left, Mapping
 from yoke.table import Table
+from yoke.trouble import Refused
 
 UNITS = 10 ** 7         # of a place in a degree
 MOST_NODES = 2000       # of a way
 MOST_MEMBERS = 32000    # of a relation
 WORLD = (-180 * UNITS, -90 * UNITS, 180 * UNITS, 90 * UNITS)
+NEAR = 1.0              # metres within which an object with the same tags is the same
+METRES = 111_319.49     # in a degree of latitude
+SESSION = '='           # before the key of a new object of the session, which a drawing has too
 SINGLE = {'MultiPoint': 'Point', 'MultiLineString': 'LineString', 'MultiPolygon': 'Polygon'}
 
 Place = Tuple[int, int]
@@ -41,8 +46,9 @@ class Drawing:
 
     `within` is the box in which all places lie; `latitude_first` tells that the file has latitudes before longitudes.
     `nodes_there` are the keys of nodes that the session has, by their places; corners there are these nodes. `there` are the
-    keys of objects that the session has, by their `Shape`: what is the same is left out. `left` has what was left out: where
-    it stands, and why. `notes` counts what else a reader ought to know.
+    keys of objects that the session has, by their `Shape`: what is the same is left out; so is what `near` finds. `known`
+    says of a feature why it was taken before, or nothing, and `taken_places` why nothing may be drawn at a place. `left` has
+    what was left out: where it stands, and why. `notes` counts what else a reader ought to know.
     """
 
     mapping: Mapping = field(default_factory=Mapping)
@@ -50,6 +56,9 @@ class Drawing:
     latitude_first: bool = False
     nodes_there: MappingOf[Place, str] = field(default_factory=dict)
     there: MappingOf[Shape, str] = field(default_factory=dict)
+    near: Optional['Near'] = None
+    known: Callable[[Feature], str] = lambda feature: ''
+    taken_places: MappingOf[Place, str] = field(default_factory=dict)
     read: int = 0
     left: List[Tuple[str, str]] = field(default_factory=list)
     notes: 'Counter[str]' = field(default_factory=Counter)
@@ -57,8 +66,10 @@ class Drawing:
     nodes: Dict[str, Tuple[Place, Dict[str, str]]] = field(default_factory=dict)
     ways: Dict[str, Tuple[List[str], Dict[str, str]]] = field(default_factory=dict)
     relations: Dict[str, Tuple[List[Tuple[str, str]], Dict[str, str]]] = field(default_factory=dict)
+    made: List['Made'] = field(default_factory=list)
     _corners: Dict[Place, str] = field(default_factory=dict)
-    _known: Dict = field(default_factory=dict)
+    _known: Dict[Shape, str] = field(default_factory=dict)
+    _used: List[str] = field(default_factory=list)                  # the corners of the feature that is being drawn
 
     def add(self, feature: Feature):
         """Takes a feature in whole, or leaves it out and keeps why."""
@@ -67,26 +78,37 @@ class Drawing:
         try:
             if feature.problem:
                 raise Left(feature.problem)
+            before = self.known(feature)
+            if before:
+                raise Left(before)
             tags = self.mapping.tags(feature.properties, notes)
             if not tags:
                 raise Left('it has no tags')
             kind, shape = self._shape(feature)
-            self._add_once(feature.where, kind, shape, tags)
+            self._add_once(feature, kind, shape, tags)
         except Left as why:
             self.left.append((feature.where, str(why)))
         else:
             self.notes += notes
             self.tags.append(tags)
 
-    def _add_once(self, where: str, kind: str, shape, tags: Dict[str, str]):
+    def _add_once(self, feature: Feature, kind: str, shape: Any, tags: Dict[str, str]) -> None:
         same = shape_of(kind, shape, tags)
         if same in self._known:
             raise Left('it is the same as {}'.format(self._known[same]))
         parts = [shape_of('LineString', line, tags) for line in shape] if kind == 'MultiLineString' else [same]
         if all(part in self.there for part in parts):
             raise Left('the session has it already, as {}'.format(','.join(self.there[part] for part in parts)))
-        {'Point': self._point, 'LineString': self._line, 'MultiLineString': self._lines, 'Polygon': self._area}[kind](shape, tags)
-        self._known[same] = where
+        found = self.near.find(kind, shape, tags) if self.near else None
+        if found:
+            raise Left('the session has it already, {:.1f} m away, as {}'.format(*found))
+        for place in places_in(shape):
+            if place in self.taken_places:
+                raise Left(self.taken_places[place])
+        self._used = []
+        keys = {'Point': self._point, 'LineString': self._line, 'MultiLineString': self._lines, 'Polygon': self._area}[kind](shape, tags)
+        self._known[same] = feature.where
+        self.made.append(Made(feature, tuple(keys.split(',')), tuple(dict.fromkeys(self._used))))
 
     # ---- shapes: all places of a feature are looked at before anything is made ----
 
@@ -145,21 +167,22 @@ class Drawing:
     def _key(self, letter: str) -> str:
         return '{}-{}'.format(letter, len(self.nodes) + len(self.ways) + len(self.relations) + 1)
 
-    def _point(self, place: Place, tags):
+    def _point(self, place: Place, tags: Dict[str, str]) -> str:
         """A node; where an untagged corner lies, that corner."""
         key = self._corners.get(place)
         if key in self.nodes and not self.nodes[key][1]:
             self.nodes[key] = place, tags
             self.notes['points that lie at a corner of another feature, and are that corner'] += 1
-            return
+            return key
         if key or place in self.nodes_there:
             self.notes['points that lie where another node lies, and stay apart'] += 1
         key = self._key('n')
         self.nodes[key] = place, tags
         self._corners.setdefault(place, key)
+        return key
 
     def _corner(self, place: Place) -> str:
-        key = self._corners.get(place) or self.nodes_there.get(place)
+        key = self._corners.get(place) or of_session(self.nodes_there.get(place))
         if key is None:
             key = self._key('n')
             self.nodes[key] = place, {}
@@ -168,29 +191,30 @@ class Drawing:
         else:
             self.notes['corners that are shared'] += 1
         self._corners[place] = key
+        self._used.append(key)
         return key
 
-    def _line(self, path: List[Place], tags):
+    def _line(self, path: List[Place], tags: Dict[str, str]) -> str:
         nodes = [self._corner(place) for place in path[:-1]]
         nodes.append(nodes[0] if path[-1] == path[0] else self._corner(path[-1]))
         key = self._key('w')
         self.ways[key] = nodes, tags
         return key
 
-    def _lines(self, paths, tags):
-        for path in paths:
-            self._line(path, tags)
+    def _lines(self, paths: List[List[Place]], tags: Dict[str, str]) -> str:
+        return ','.join(self._line(path, tags) for path in paths)
 
-    def _area(self, polygons, tags):
+    def _area(self, polygons: List[List[List[Place]]], tags: Dict[str, str]) -> str:
         if len(polygons) == 1 and len(polygons[0]) == 1:
-            self._line(polygons[0][0], tags)
-            return
+            return self._line(polygons[0][0], tags)
         if 'type' in tags:
             raise Left('the tag type={} is in the way of type=multipolygon'.format(tags['type']))
         if sum(map(len, polygons)) > MOST_MEMBERS:
             raise Left('it has {} rings, and a relation takes {} members'.format(sum(map(len, polygons)), MOST_MEMBERS))
         members = [(self._line(ring, {}), 'inner' if at else 'outer') for rings in polygons for at, ring in enumerate(rings)]
-        self.relations[self._key('r')] = members, {'type': 'multipolygon', **tags}
+        key = self._key('r')
+        self.relations[key] = members, {'type': 'multipolygon', **tags}
+        return key
 
     # ---- what comes of it ----
 
@@ -200,13 +224,39 @@ class Drawing:
         return self.read - len(self.left)
 
     def lines(self) -> Iterator[str]:
-        """The lines of a file for `import`: nodes, ways, relations, each with the keys of this drawing."""
+        """The lines of a file for `import`: nodes, ways, relations, each with the keys of this drawing.
+
+        Refused where a corner is a new object of the session, which such a file can't name: `steps` can.
+        """
+        if self.refers_to_new():
+            raise Refused('corners are nodes of the session that no server has yet, and a file can\'t name these: send them first')
         for key, (place, tags) in self.nodes.items():
             yield '{} T{} x{} y{}'.format(key, opl.tags(tags), *map(degrees, place))
         for key, (nodes, tags) in self.ways.items():
             yield '{} T{} N{}'.format(key, opl.tags(tags), ','.join(nodes))
         for key, (members, tags) in self.relations.items():
             yield '{} T{} M{}'.format(key, opl.tags(tags), opl.members(members))
+
+    def refers_to_new(self) -> bool:
+        """Whether a corner is a new object of the session."""
+        return any(node.startswith(SESSION) for nodes, _ in self.ways.values() for node in nodes)
+
+    def keys(self, next_new: int) -> Dict[str, str]:
+        """The keys that the objects get in a session, by those that they have here; `next_new` is the session's next number."""
+        found = [*self.nodes, *self.ways, *self.relations]
+        return {key: '{}-{}'.format(key[0], number) for number, key in enumerate(found, next_new)}
+
+    def steps(self, next_new: int) -> Iterator[str]:
+        """The lines of a script that makes the objects in a session, in one group."""
+        keys = self.keys(next_new)
+        yield 'begin'
+        for place, tags in self.nodes.values():
+            yield 'node x{} y{} T{}'.format(*map(degrees, place), opl.tags(tags))
+        for nodes, tags in self.ways.values():
+            yield 'way T{} N{}'.format(opl.tags(tags), ','.join(named(node, keys) for node in nodes))
+        for members, tags in self.relations.values():
+            yield 'relation T{} M{}'.format(opl.tags(tags), opl.members([(named(key, keys), role) for key, role in members]))
+        yield 'end'
 
     def report(self) -> Iterator[str]:
         """What was taken and made, what else there is to know, and of each feature that was left out why."""
@@ -216,6 +266,86 @@ class Drawing:
             yield 'note: {}: {}'.format(note, count)
         for where, why in self.left:
             yield 'left out: {}: {}'.format(where, why)
+
+
+@dataclass(frozen=True)
+class Made:
+    """What a feature became: the keys of its objects with tags, and those of its corners, as they are in the drawing."""
+
+    feature: Feature
+    keys: Tuple[str, ...]
+    corners: Tuple[str, ...]
+
+
+def of_session(key: Optional[str]) -> Optional[str]:
+    """The key of a node of the session, marked where it is new there, since a drawing has keys like it."""
+    return SESSION + key if key and key[1] == '-' else key
+
+
+def named(key: str, keys: MappingOf[str, str]) -> str:
+    """The key that an object of a drawing has in the session."""
+    return key[len(SESSION):] if key.startswith(SESSION) else keys.get(key, key)
+
+
+def places_in(shape: Any) -> Iterator[Place]:
+    """The places of a shape: one, a list, or lists of lists."""
+    if isinstance(shape, tuple):
+        yield shape
+    else:
+        for part in shape:
+            yield from places_in(part)
+
+
+class Near:
+    """Objects with tags by where they lie: nodes, and areas of one ring by the middle of their box."""
+
+    def __init__(self, found: Table):
+        self.cells: Dict[Place, List[Tuple[Box, str, Dict[str, str]]]] = defaultdict(list)
+        for key, known in found.things.items():
+            thing = known.mine
+            if thing is None or not thing.tags or key[0] == 'r':
+                continue
+            if key[0] == 'w':
+                nodes = [found.mine(node) for node in thing.nodes] if thing.nodes[:1] == thing.nodes[-1:] else []
+                places = [place_of(node) for node in nodes if node]
+            else:
+                places = [place_of(thing)]
+            whole = [place for place in places if place]
+            if whole and len(whole) == len(places):
+                box = box_round(whole)
+                self.cells[_cell(box)].append((box, key, thing.tags))
+
+    def find(self, kind: str, shape: Any, tags: MappingOf[str, str]) -> Optional[Tuple[float, str]]:
+        """An object that has these tags and others, at a point or an area but a metre away, and how many metres that is."""
+        if kind not in ('Point', 'Polygon'):
+            return None
+        box = box_round(list(places_in(shape)))
+        x, y = _cell(box)
+        for cell in ((x + across, y + up) for across in (-1, 0, 1) for up in (-1, 0, 1)):
+            for other, key, theirs in self.cells.get(cell, ()):
+                away = max(map(abs, _metres(box, other)))
+                if away <= NEAR and (key[0] == 'n') == (kind == 'Point') and all(theirs.get(name) == value for name, value in tags.items()):
+                    return away, key
+        return None
+
+
+def box_round(places: List[Place]) -> Box:
+    """The box round places."""
+    lons, lats = zip(*places)
+    return min(lons), min(lats), max(lons), max(lats)
+
+
+def _cell(box: Box) -> Place:
+    """The cell in which the middle of a box lies: its sides are longer than NEAR up to 85 degrees of latitude."""
+    high = int(NEAR / METRES * UNITS) + 1
+    return (box[0] + box[2]) // 2 // (12 * high), (box[1] + box[3]) // 2 // high
+
+
+def _metres(box: Box, other: Box) -> Tuple[float, float, float, float]:
+    """How far the sides of two boxes are from each other, west, south, east and north, in metres."""
+    scale = math.cos(math.radians(box[1] / UNITS))
+    west, south, east, north = ((one - two) / UNITS * METRES for one, two in zip(box, other))
+    return west * scale, south, east * scale, north
 
 
 def shape_of(kind: str, places, tags: MappingOf[str, str]) -> Shape:

@@ -12,12 +12,12 @@ from typing import Dict, Iterable, List, Mapping as MappingOf, Optional, Sequenc
 
 from yoke import opl
 from yoke.formats import features
+from yoke.formats.drawing import METRES
 from yoke.formats.mapping import Rule, rule_of
 from yoke.table import Table
 from yoke.trouble import Usage
 
 ANY = '*'
-METRES = 111_319.49     # in a degree of latitude, on the sphere of the map's projection
 Point = Tuple[float, float]     # longitude and latitude in degrees
 
 

@@ -5,6 +5,7 @@ from collections import Counter
 from dataclasses import dataclass, field, replace
 from typing import Dict, Iterator, List, Optional, Sequence, Tuple
 
+from yoke.choices import Choices
 from yoke.files import write_own
 from yoke.formats import suspicions
 from yoke.formats.mapping import Mapping
@@ -79,6 +80,11 @@ def guarded(plan: Plan, table: Table) -> Plan:
         else:
             rows.append(row)
     return replace(plan, rows=rows)
+
+
+def spared(plan: Plan, choices: Choices) -> Plan:
+    """The plan without the tags that would undo a choice."""
+    return replace(plan, rows=[row if row.problem else replace(row, tags=choices.without(row.key, row.tags)) for row in plan.rows])
 
 
 def shifted(plan: Plan, table: Table) -> Iterator[Suspicion]:

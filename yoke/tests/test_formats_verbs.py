@@ -152,7 +152,7 @@ class Verbs(FolderTest):
         self.write('town.rules', RULES)
         self.assertIn('features: 6 read, 3 taken, 3 left out', self.done('import', 'addresses.csv', '--within', '13,52,14,53', '--tags', 'town.rules'))
         self.assertEqual(self.table().mine('n-1').tags['addr:housenumber'], '12a')
-        self.done('import', 'addresses.csv', '--accept', 'columns', '--anywhere', '--to', 'new.opl')
+        self.done('import', 'addresses.csv', '--accept', 'columns', '--anywhere', '--again', '--to', 'new.opl')
         self.assertTrue(pathlib.Path('new.opl').read_text().startswith('n-1 THNR=12,STR=Hohe%20%Straße,'))
 
     def test_an_output_never_takes_the_place_of_what_is_read(self):

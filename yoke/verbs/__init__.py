@@ -35,6 +35,7 @@ NAMES = [
     'osc',
     'geojson',
     'import',
+    'ledger',
     'revert',
     'practice',
     'tiles',

@@ -2,7 +2,7 @@
 import pathlib
 import re
 
-from yoke import files, fresh, opl, results, words
+from yoke import choices, files, fresh, opl, results, words
 from yoke.formats.suspicions import Accepted
 from yoke.program import BadLine
 from yoke.progress import note
@@ -50,7 +50,9 @@ def run(arguments):
             bound.check(name, lines, session.day.last())
         for text in fresh.old_downloads(session.day, lines):
             note(text)
-        expanded = expand.over_session(name, lines, session, Accepted.of(arguments.accept))
+        accepted = Accepted.of(arguments.accept)
+        expanded = expand.over_session(name, lines, session, accepted)
+        expanded = spared(session, expanded, accepted)
         for number, text in expanded.notes:
             print('{}:{}: {}'.format(name, number, text))
         began = session.relations()
@@ -62,6 +64,20 @@ def run(arguments):
     if too:
         print('changed with it: {}'.format(','.join(too)))
     return end(session, answer, arguments.keep, arguments.strict)
+
+
+def spared(session, expanded, accepted):
+    """A script without what would undo choices of `yoke resolve`; Refused where nothing is left of it."""
+    found = choices.of_day(session.day)
+    if not found:
+        return expanded
+    holding = choices.Choices(found, session.known(), accepted)
+    done = holding.spare(expanded)
+    if holding.left and not any(line and not line.startswith('#') for line in done.lines):
+        for line in choices.lines_of(holding.left):
+            print(line)
+        raise Refused('nothing is kept: all that it sets you chose otherwise')
+    return done
 
 
 def end(session, answer, keep, strict=False):

@@ -6,25 +6,27 @@ import pathlib
 import re
 import tempfile
 from collections import Counter
-from dataclasses import dataclass
-from typing import Dict, List, Optional, Tuple
+from dataclasses import dataclass, replace
+from typing import Any, Dict, List, Optional, Tuple
 
-from yoke import day, opl, table
+from yoke import day, imports, ledger, opl, table
 from yoke.files import check_outputs, data_of
 from yoke.formats import columns, drawing, features, mapping, suspicions, tag_table
 from yoke.formats.features import Feature
 from yoke.formats.mapping import Mapping, scalar
 from yoke.formats.suspicions import Accepted, Suspicion
 from yoke.formats.tag_table import Sheet
+from yoke.ledger import Desk, Identity
 from yoke.session import Session
 from yoke.trouble import Refused, Trouble, Usage
 from yoke.verbs import do
 
 SUMMARY = 'make new objects of the features of a GeoJSON or CSV file'
 DETAILS = """A feature comes whole or not at all; corners at one place are one node. Each feature that is left out is named with the cause.
-What the session has already, at the same places and with the same tags, is left out, so the same file again does nothing.
+What was imported before is left out, whatever others did to it since: the day's ledger knows it, and so does one that a team
+shares (--ledger). So is what the session has already, with the same tags and within a metre.
 Without --within the bounds are those of the session's nodes, and on each side a tenth more, 0.01 degree at least; where it
-has no node there are none. docs/COMPANION-FORMATS.md has the form of the file of --tags. Before you import into
+has no node there are none. docs/TABLES.md has the form of the file of --tags, and of a ledger. Before you import into
 OpenStreetMap: https://wiki.openstreetmap.org/wiki/Import/Guidelines"""
 LEAST = 10 ** 5     # by how much the session's own box is widened at least, in units of 10^-7 degree
 
@@ -34,18 +36,39 @@ def add_arguments(parser: argparse.ArgumentParser) -> None:
     parser.add_argument('--within', metavar='W,S,E,N', help='the bounds in degrees: what lies outside is left out')
     parser.add_argument('--anywhere', action='store_true', help='no bounds')
     parser.add_argument('--tags', metavar='RULES', help='a file of rules by which properties become tags')
-    parser.add_argument('--columns', metavar='NAMES', action='append', help='the properties that become tags under their own names, with commas between them')
+    parser.add_argument('--columns', metavar='NAMES', action='append',
+                        help='the properties that become tags under their own names, with commas between them')
     do.add_accept(parser)
     parser.add_argument('--encoding', metavar='NAME', help='the encoding of FILE, such as cp1252; else UTF-8')
     parser.add_argument('--latitude-first', action='store_true', help='in FILE the latitude stands before the longitude')
     parser.add_argument('--lon', metavar='COLUMN', help='the column of the longitude of a CSV')
     parser.add_argument('--lat', metavar='COLUMN', help='the column of the latitude of a CSV')
     parser.add_argument('--features', metavar='N-M', help='only the features N to M of the file, of which the first is 1')
-    parser.add_argument('--again', action='store_true', help='also features that the session has already')
+    parser.add_argument('--again', action='store_true', help='also features that the session or a ledger has already')
     parser.add_argument('--join', action='store_true', help='corners where the session has a node are that node')
     parser.add_argument('--all', action='store_true', help='do nothing where a feature is left out')
     parser.add_argument('--report', metavar='FILE', help='write what was left out into a file, and not to standard output')
     parser.add_argument('--to', metavar='FILE.opl', help='write the new objects for `import` into a file, and do nothing')
+    of_ledger = parser.add_argument_group('of the ledger')
+    add_ledger(of_ledger)
+    of_ledger.add_argument('--id', metavar='COLUMN', help='the property by which a feature is known again in other versions of FILE')
+    of_ledger.add_argument('--dataset', metavar='NAME', help='in which the ids of --id mean something; else the name of FILE')
+    of_ledger.add_argument('--apart', action='store_true', help='also features that touch some which others have taken and not sent')
+
+
+def add_ledger(parser: Any) -> None:
+    """The options of verbs that read or write ledgers."""
+    parser.add_argument('--ledger', metavar='FILE', action='append', default=None,
+                        help='a ledger that a team shares, made where it isn\'t there ($YOKE_LEDGER); the day goes on with it')
+    parser.add_argument('--who', metavar='NAME', help='the name under which you take features ($YOKE_WHO, else your account\'s)')
+
+
+def desk_of(arguments: argparse.Namespace, session: Session) -> Desk:
+    """The ledgers of a day, up to date; the folder of the day has to be locked."""
+    desk = Desk(session.day, ledger.name_of_user(arguments.who))
+    desk.share(arguments.ledger or filter(None, [os.environ.get('YOKE_LEDGER')]))
+    desk.settle()
+    return desk
 
 
 def run(arguments: argparse.Namespace) -> int:
@@ -56,28 +79,48 @@ def run(arguments: argparse.Namespace) -> int:
     named = rules(arguments.tags) if arguments.tags else None
     given_box(arguments)
     source = read(arguments)
+    identities = identities_of(arguments, source)
     chosen = tags_of(arguments, source, named, accepted)
     wanted = part(source.features, arguments.features)
     accepted.stop(of_source(source, wanted, chosen))
     with session.day.locked():
-        picture = draw(arguments, table.read(session.day.last().text()), wanted, chosen)
-        accepted.stop(list(suspicions.of_tags(picture.tags)))
-        report(picture, arguments.report)
-        if picture.left and arguments.all:
-            raise Refused('nothing is done: {} features were left out'.format(len(picture.left)))
-        if not picture.taken:
-            raise Refused('nothing is done: no feature was taken')
-        text = ''.join(line + '\n' for line in picture.lines())
-        if arguments.to:
-            day.write_whole(arguments.to, text)
-            print('wrote {}'.format(arguments.to))
-            return 0
-        with tempfile.TemporaryDirectory(prefix='yoke-') as folder:
-            path = pathlib.Path(folder, 'new.opl')
-            path.write_bytes(text.encode())
-            session.edit('import', ['import ' + opl.escape(str(path))])
+        session.check_settled()
+        desk = desk_of(arguments, session)
+        with desk.held() as book:
+            found = table.read(session.day.last().text())
+            plan = imports.Plan(desk, book, found, identities, arguments.again, arguments.apart)
+            picture = draw(arguments, found, wanted, chosen, plan)
+            accepted.stop(list(suspicions.of_tags(picture.tags)))
+            report(picture, plan, arguments.report)
+            if picture.left and arguments.all:
+                raise Refused('nothing is done: {} features were left out'.format(len(picture.left)))
+            if not picture.taken:
+                raise Refused('nothing is done: no feature was taken')
+            if arguments.to:
+                day.write_whole(arguments.to, ''.join(line + '\n' for line in picture.lines()))
+                print('wrote {}'.format(arguments.to))
+                return 0
+            claim = desk.claim(session.day.next_name('import'), plan.claimed(picture))
+        try:
+            perform(session, plan, picture)
+        except BaseException:
+            desk.settle()       # gives back what was claimed
+            raise
+        desk.keep(claim)
         print('kept as {}'.format(session.day.last().path))
     return 0
+
+
+def perform(session: Session, plan: imports.Plan, picture: drawing.Drawing) -> None:
+    """Makes the objects of a drawing in the session, and keeps it. The folder of the day has to be locked."""
+    with tempfile.TemporaryDirectory(prefix='yoke-') as folder:
+        steps = []
+        for name, lines in (('corners.opl', plan.downloads(picture)), ('new.opl', [] if picture.refers_to_new() else picture.lines())):
+            path = pathlib.Path(folder, name)
+            path.write_text(''.join(line + '\n' for line in lines), encoding='utf-8', newline='\n')
+            if path.stat().st_size:
+                steps.append('{} {}'.format('download' if name == 'corners.opl' else 'import', opl.escape(str(path))))
+        session.edit('import', steps + (list(picture.steps(plan.found.next_new)) if picture.refers_to_new() else []))
 
 
 @dataclass(frozen=True)
@@ -86,6 +129,7 @@ class Source:
 
     features: List[Feature]
     names: List[str]
+    digest: str
     sheet: Optional[Sheet] = None
 
     def values(self, wanted: List[Feature]) -> Dict[str, List[Tuple[str, str]]]:
@@ -98,11 +142,29 @@ class Source:
         return found
 
 
-def draw(arguments: argparse.Namespace, found: table.Table, wanted: List[Feature], chosen: Mapping) -> drawing.Drawing:
+def identities_of(arguments: argparse.Namespace, source: Source) -> Dict[int, Identity]:
+    """By what each feature of a file is known again, by its number; Usage where there is no such column, Trouble where an id stands twice."""
+    dataset = arguments.dataset or os.path.basename(arguments.file)
+    if arguments.id and arguments.id not in source.names:
+        raise Usage('--id: ' + columns.unknown(arguments.id, source.names))
+    found: Dict[int, Identity] = {}
+    places: Dict[str, str] = {}
+    for one in source.features:
+        text = scalar(one.properties.get(arguments.id), arguments.id, Counter()) if arguments.id else one.id
+        found[one.number] = Identity.of(one, dataset, source.digest, text)
+        if text and places.setdefault(text, one.where) != one.where and arguments.id:
+            raise Trouble('{}: the id {} stands in {} and in {}'.format(arguments.file, text, places[text], one.where))
+    twice = Counter(one.id for one in found.values())
+    return {number: replace(one, id='') if twice[one.id] > 1 else one for number, one in found.items()}
+
+
+def draw(arguments: argparse.Namespace, found: table.Table, wanted: List[Feature], chosen: Mapping, plan: imports.Plan) -> drawing.Drawing:
     """The new objects of features, over a session."""
     there = {drawing.place_of(known.mine): key for key, known in reversed(list(found.things.items())) if known.mine and key[0] == 'n'}
-    picture = drawing.Drawing(chosen, bounds(arguments, there), arguments.latitude_first, there if arguments.join else {},
-                              {} if arguments.again else drawing.shapes_of(found))
+    nodes = {**(there if arguments.join else {}), **plan.corners}
+    picture = drawing.Drawing(chosen, bounds(arguments, there), arguments.latitude_first, nodes,
+                              {} if arguments.again else drawing.shapes_of(found), None if arguments.again else drawing.Near(found),
+                              plan.before, plan.blocked)
     for feature in wanted:
         picture.add(feature)
     return picture
@@ -128,11 +190,11 @@ def read(arguments: argparse.Namespace) -> Source:
     try:
         if not is_table:
             found = features.read_geojson(data, arguments.encoding)
-            return Source(found, features.names_of(found))
+            return Source(found, features.names_of(found), ledger.digest_of(data))
         sheet = tag_table.sheet_of(data, arguments.encoding)
         places = features.place_columns(sheet.names, arguments.lon, arguments.lat)
         return Source(features.points(sheet.names, sheet.rows, sheet.sign, arguments.lon, arguments.lat),
-                      [one for at, one in enumerate(sheet.names) if one and at not in places], sheet)
+                      [one for at, one in enumerate(sheet.names) if one and at not in places], ledger.digest_of(data), sheet)
     except ValueError as error:
         raise Trouble('{}: {}'.format(arguments.file, error)) from None
 
@@ -185,9 +247,9 @@ def bounds(arguments: argparse.Namespace, there: Dict[drawing.Place, str]) -> dr
     return (max(min(lons) - wide, west), max(min(lats) - high, south), min(max(lons) + wide, east), min(max(lats) + high, north))
 
 
-def report(picture: drawing.Drawing, name: Optional[str]) -> None:
+def report(picture: drawing.Drawing, plan: imports.Plan, name: Optional[str]) -> None:
     """Prints the report, or writes it into a file and prints its counts."""
-    lines = list(picture.report())
+    lines = [*list(picture.report())[:2], *plan.report(), *list(picture.report())[2:]]
     if name:
         day.write_whole(os.path.abspath(name), ''.join(line + '\n' for line in lines))
         lines = [line for line in lines if not line.startswith('left out: ')]

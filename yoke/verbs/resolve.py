@@ -1,5 +1,5 @@
 """`yoke resolve`: ends the conflict of objects."""
-from yoke import opl, results, sides
+from yoke import choices, ledger, opl, results, sides
 from yoke.session import Session
 from yoke.trouble import Refused, Usage
 from yoke.verbs import conflicts
@@ -11,7 +11,8 @@ KEY mix TAGS BODY   the tags of one side, and the place, nodes or members of one
 KEY parts BODY [TAG..]
                     part by part: where both changed one, the tags named are theirs and the others mine; the place, nodes
                     or members are those of BODY, mine or theirs
-KEY may be several with commas between them, or `all`."""
+KEY may be several with commas between them, or `all`. A tag that becomes theirs is remembered: a table or a script that sets it
+again leaves it, and says so."""
 
 SIDES = ('mine', 'theirs')
 
@@ -39,6 +40,8 @@ def run(arguments):
                 conflicts.show(known[key])
         session.edit('resolve', ['resolve {} {}'.format(key, step) for key in keys])
         now = session.known()
+        chosen = choices.made(known, now, keys)
+        choices.keep(session.day, chosen, ledger.name_of_user(None))
     for key in keys:
         print('resolved {}: {}'.format(key, outcome(now.get(key))))
     results.put(resolved={key: outcome(now.get(key)) for key in keys}, left=[key for key, one in now.items() if one.conflict != 'none'])

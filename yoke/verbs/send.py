@@ -3,7 +3,7 @@ import argparse
 import re
 from decimal import Decimal
 
-from yoke import api, extent, fresh, journal, opl, osc, parts, results, sending, sides, words
+from yoke import api, extent, fresh, journal, ledger, opl, osc, parts, results, sending, sides, words
 from yoke.parts import Parts, Wanted
 from yoke.progress import note
 from yoke.review import reviewing
@@ -72,6 +72,8 @@ def run(arguments):
         except Trouble as trouble:
             note_end(part, reviewed, trouble)
             raise
+        finally:
+            ledger.settle(session.day)
     print('{} changes sent{}'.format(one.sent, ' in ' + ', '.join('changeset ' + number for number in one.used) if one.used else ''))
     for number in one.used:
         print(server.link(number))

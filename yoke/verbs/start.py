@@ -6,7 +6,7 @@ import subprocess
 import tempfile
 from dataclasses import asdict
 
-from yoke import files, fresh, opl, results, session, words
+from yoke import files, fresh, ledger, opl, results, session, words
 from yoke.program import Program
 from yoke.day import Day
 from yoke.progress import note
@@ -14,13 +14,15 @@ from yoke.trouble import Refused, Trouble
 
 SUMMARY = 'begin a day from extracts: OPL, or what osmium reads (PBF, XML, compressed)'
 DETAILS = """Several extracts are downloaded one after the other: the older first, where they are of two days. The day has a folder of its
-own, --day, which is made where it isn't there."""
-LEFT = ('lock', '000001-start.saved.new')       # what a start that came to nothing leaves
+own, --day, which is made where it isn't there. With --after what an earlier day imported isn't made again, and conflicts that
+were resolved there stay so."""
+LEFT = ('lock', '000001-start.saved.new', ledger.NAME, ledger.SHARED)       # what a start that came to nothing leaves
 
 
 def add_arguments(parser):
     parser.add_argument('extracts', metavar='EXTRACT', nargs='+', help='a file; what doesn\'t end in .opl goes through osmium')
     parser.add_argument('--as-it-is', action='store_true', help='begin also where an extract seems cut off, or has fewer objects than before')
+    parser.add_argument('--after', metavar='FOLDER', help='take over what an earlier day imported, and which conflicts it resolved')
 
 
 def run(arguments):
@@ -37,11 +39,14 @@ def run(arguments):
             answer = program.run(lines + ['count', 'save'])
             for reply in answer.refused():
                 raise Refused('{}: {}'.format(arguments.extracts[reply.line - 1], words.refusal(reply.rest)))
+            taken_over = ledger.take_over(day, Day(arguments.after)) if arguments.after else 0
             state = day.keep('start', answer.saved())
             fresh.note_extracts(day, extracts)
     counts = answer.counts()
     results.put(counts=counts, session=results.of_state(state), extracts=[{'path': path, **asdict(extract)} for path, extract in extracts.items()])
     print('{nodes} nodes, {ways} ways, {relations} relations'.format(**counts))
+    if arguments.after:
+        print('taken over from {}: {} lines of the ledger'.format(arguments.after, taken_over))
     print('kept as {}'.format(state.path))
     return 0
 

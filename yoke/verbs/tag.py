@@ -3,7 +3,7 @@ import argparse
 from collections import Counter
 from typing import Dict, List, Optional, Sequence, Tuple
 
-from yoke import opl, table
+from yoke import choices, opl, table
 from yoke.files import check_outputs, data_of
 from yoke.formats import columns, features, row_search, suspicions, tag_plan, tag_table
 from yoke.formats.mapping import Mapping
@@ -76,6 +76,11 @@ def run(arguments: argparse.Namespace) -> int:
         if arguments.find:
             accepted.stop(alike(session, keys, tags))
         lines = ['tag {} T{}'.format(','.join(keys), opl.tags(tags))] if keys else []
+        if keys and arguments.find:
+            script = do.spared(session, Expanded(lines, [0] * len(lines)), accepted)
+            lines = script.lines
+            for _, text in script.notes:
+                (note if arguments.to == '-' else print)(text)
         if arguments.to:
             return write(session, arguments, lines)
         if keys:
@@ -158,8 +163,12 @@ def tag_rows(session: Session, arguments: argparse.Namespace) -> int:
             index = row_search.Index(search, found_table, found(session, search.query(arguments.among or '')))
             plan = tag_plan.matched(rows, index, places, sheet.sign)
         plan = tag_plan.guarded(plan, found_table)
+        holding = choices.Choices(choices.of_day(session.day), found_table.things, accepted)
+        plan = tag_plan.spared(plan, holding)
         accepted.stop(list(tag_plan.shifted(plan, found_table)))
         tell(plan, sheet, arguments, found_table, notes)
+        for line in choices.lines_of(holding.left):
+            (note if arguments.to == '-' else print)(line)
         return perform(session, arguments, plan, len(sheet.rows))
 
 

@@ -1,5 +1,5 @@
 """`yoke undo`: back to the session that was kept before."""
-from yoke import results
+from yoke import ledger, results
 from yoke.day import Day
 
 SUMMARY = 'take the last verb back: the session kept before is the session again'
@@ -15,6 +15,7 @@ def run(arguments):
     with day.locked():
         gone = day.take_back()
         last = day.last()
+        ledger.settle(day)
     results.put(taken_back=results.of_state(gone), session=results.of_state(last))
     print('took back session {} by {}; session {} by {} is the last again'.format(gone.number, gone.verb, last.number, last.verb))
     return 0
