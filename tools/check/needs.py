@@ -15,6 +15,8 @@ TOP = pathlib.Path(__file__).resolve().parents[2]
 # What the tests want of an interpreter: the one that has most of these runs them.
 MODULES = ('urllib3', 'pytest', 'hypothesis', 'mypy', 'black', 'flake8')
 OTHER = '/usr/bin/python3'
+# Where Debian's packages put the sources of Rust's libraries (librust-clap-dev and the like).
+REGISTRY = '/usr/share/cargo/registry'
 
 
 @lru_cache(maxsize=None)

@@ -52,6 +52,8 @@ def listed() -> list[Step]:
         Step('session cases, release build', (PYTHON, '-m', 'tools.check.plain', 'cases'), ('command cargo', *program)),
         Step('session cases and unit tests, debug build with overflow checks',
              (PYTHON, '-m', 'tools.check.plain', 'debug'), ('command cargo', *program)),
+        Step('session cases and calls with the real libraries', (PYTHON, '-m', 'tools.check.plain', 'real', PROGRAM),
+             ('command cargo', f'file {needs.REGISTRY}', *program), FULL),
         Step('calls and statuses', (PYTHON, '-m', 'tools.check.calls', PROGRAM), program),
         Step('random sessions beside the second editor', (PYTHON, '-m', 'tools.check.sessions', PROGRAM, '4', '2'), program),
         Step('random sessions beside the second editor, more of them',
