@@ -86,7 +86,7 @@ def run(home, words):
     script = script_of(words)
     if not shutil.which('rt'):
         raise Stop('--look needs the Rattle toolkit: there is no command rt on the path. {} says which it is'
-                   .format(os.path.join(home, 'README.md')), 127)
+                   .format(os.path.join(home, 'docs', 'INSTALL.md')), 127)
     call = command(script, os.getcwd())
     if machine.free_memory() + machine.free_swap() < MEMORY:
         say('this may take {}, and {} are free'.format(gigabytes(MEMORY), gigabytes(machine.free_memory())))

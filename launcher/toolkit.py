@@ -35,8 +35,8 @@ class Toolkit:
 
 
 def logic_wanted(home):
-    """The sum of the logic that README.md names, '' where it names none."""
-    with open(os.path.join(home, 'README.md'), encoding='utf-8') as page:
+    """The sum of the logic that the file TOOLKIT names, '' where it names none."""
+    with open(os.path.join(home, 'TOOLKIT'), encoding='utf-8') as page:
         found = re.search(r'\blogic ([0-9a-f]{16})\b', page.read())
     return found[1] if found else ''
 
@@ -102,7 +102,7 @@ def misfits(toolkit, home):
     found = ['it has no {}'.format(it) for it in PARTS if not os.path.exists(os.path.join(toolkit.folder, it))]
     wanted = logic_wanted(home)
     if wanted and toolkit.logic != wanted:
-        found.append('its logic is {}, and README names {}'.format(toolkit.logic or 'not told', wanted))
+        found.append('its logic is {}, and TOOLKIT names {}'.format(toolkit.logic or 'not told', wanted))
     if not found:
         said = answer([os.path.join(toolkit.folder, 'bin', 'rattle'), 'build', '--help'])
         found = ['its rattle build has no {}'.format(it) for it in WORDS if it not in said]
@@ -120,4 +120,4 @@ def demand(toolkit, home):
         return toolkit
     raise Stop('there is no proved program of these sources yet, and what proves and builds it is missing:\n'
                'there is no command rt, the Rattle toolkit\'s, on the path. {} says which toolkit it is'
-               .format(os.path.join(home, 'README.md')), 127)
+               .format(os.path.join(home, 'docs', 'INSTALL.md')), 127)

@@ -6,7 +6,7 @@
     bench/check/english.py PAGE..     the sentences of these pages that are too long, and the odd words, each with its line
 
 A page is plain where a sentence has at most 16 words on average and none more than 35, and where it has none of the odd
-phrases. Tables, code and headings don't count as sentences; an item of a list is one. Needs Python alone.
+phrases. Tables, code, quotes and headings don't count as sentences; an item of a list is one. Needs Python alone.
 """
 from __future__ import annotations
 
@@ -22,7 +22,7 @@ MEAN, LONGEST = 16, 35          # words of a sentence
 MOST_WORDS = 90_000             # of all pages: goes down as pages do, and up with no commit
 
 # Pages that are plain, and stay so. A page that is rewritten joins them.
-PLAIN = ['README.md', 'docs/JSON.md', 'docs/HOWTO/revert.md', 'docs/HOWTO/tiles.md']
+PLAIN = ['README.md', 'docs/INSTALL.md', 'docs/JSON.md', 'docs/PROVED.md', 'docs/HOWTO/revert.md', 'docs/HOWTO/tiles.md']
 
 # Phrases that read as if translated, and what to write in their place.
 ODD = {
@@ -62,7 +62,7 @@ def paragraphs(text: str) -> Iterator[tuple[int, str]]:
     for number, line in enumerate([*text.split('\n'), ''], 1):
         stripped = line.strip()
         fenced ^= stripped.startswith('```')
-        is_text = bool(stripped) and not fenced and not stripped.startswith(('```', '|', '#', '![', '<', '---'))
+        is_text = bool(stripped) and not fenced and not stripped.startswith(('```', '|', '#', '![', '<', '---', '>'))
         is_item = bool(re.match(r'(?:[-*]|\d+\.) ', stripped))
         if held and (not is_text or is_item):
             yield begun, ' '.join(held)

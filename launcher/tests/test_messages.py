@@ -109,7 +109,7 @@ class Toolkits(unittest.TestCase):
         self.addCleanup(holder.cleanup)
         self.home, self.kit = pathlib.Path(holder.name, 'home'), pathlib.Path(holder.name, 'kit')
         self.home.mkdir()
-        (self.home / 'README.md').write_text('whose `rt version` ends with `logic dac8208d650f15bf`')
+        (self.home / 'TOOLKIT').write_text('rattle-kit-13f logic dac8208d650f15bf\n')
         for part in toolkit.PARTS:
             (self.kit / part).parent.mkdir(parents=True, exist_ok=True)
             (self.kit / part).write_text('')
@@ -128,7 +128,7 @@ class Toolkits(unittest.TestCase):
 
     def test_others(self):
         self.assertIn('names no page', self.misfits(folder='')[0])
-        self.assertIn('its logic is 0123, and README names dac8208d650f15bf', self.misfits('kit logic 0123')[0])
+        self.assertIn('its logic is 0123, and TOOLKIT names dac8208d650f15bf', self.misfits('kit logic 0123')[0])
         self.assertIn('not told', self.misfits('kit')[0])
         self.rattle('--extern')
         self.assertIn('its rattle build has no --statements', self.misfits())

@@ -274,12 +274,14 @@ def manuals(_):
             expect((0, ''), (done.returncode, done.stderr))
 
 
-@case('the toolkit that README.md names is the one that is here')
+@case('the toolkit that TOOLKIT and docs/INSTALL.md name is the one that is here')
 def toolkit(_):
     if not shutil.which('rt'):
         return
-    kit, logic = subprocess.run(['rt', 'version'], stdout=subprocess.PIPE, text=True).stdout.strip().split(' ', 1)
-    if '`{}`'.format(logic) not in text_of(FRONT) or kit.rsplit('-', 1)[1] not in text_of(FRONT):
+    line = subprocess.run(['rt', 'version'], stdout=subprocess.PIPE, text=True).stdout.strip()
+    kit, logic = line.split(' ', 1)
+    expect(line, (TOP / 'TOOLKIT').read_text(encoding='utf-8').strip())
+    if '`{}`'.format(logic) not in text_of('docs/INSTALL.md'):
         raise Wrong('rt version says {} {}'.format(kit, logic))
 
 
