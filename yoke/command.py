@@ -21,18 +21,35 @@ from yoke.login import profiles
 from yoke.progress import note
 from yoke.trouble import Trouble
 
-CODES = """exit codes:
-  0 done   1 refused, nothing was kept   2 wrong words   3 a file, a folder or the program   4 somebody was faster, or a
-  conflict stands   5 no answer of the server: run it again   6 the server refuses   7 another yoke works in the folder
-  75 the server asks to wait for longer than --wait: come back later
-docs/COMPANION.md tells of each verb, and what to do at each fault."""
+MAP = """the way of an edit, each verb on the folder of --day:
+  get an extract         get
+  begin                  start, or revert to take changesets back
+  edit                   do, tag, import, conflate, josm, osc, tiles
+  look                   diff, review, status; undo takes the last verb back
+  merge what is new      refresh, then conflicts and resolve
+  send                   login once, then send
+  see what was done      log, ledger
+
+exit codes:
+  0   done
+  1   refused: nothing was kept
+  2   the words of the command line are wrong
+  3   a file, a folder or the program
+  4   somebody was faster, or something is in conflict
+  5   no answer of the server: run the same command again
+  6   the server refuses
+  7   another yoke works in the folder
+  75  the server asks to wait for longer than --wait: come back later
+  70  a fault of yoke itself
+
+docs/COMPANION.md explains each verb, and what to do at each fault."""
 BOXES = ('--bbox', '--within')      # options with a box of degrees
 
 
 def parser():
     """The parser of all words: each verb adds its own."""
-    top = argparse.ArgumentParser(prog='yoke', allow_abbrev=False, description='A mapper\'s day with editor, from extracts to what is sent.',
-                                  epilog=CODES, formatter_class=argparse.RawDescriptionHelpFormatter)
+    top = argparse.ArgumentParser(prog='yoke', allow_abbrev=False, description='Edit OpenStreetMap data in a folder, merge what others did, and send it.',
+                                  epilog=MAP, formatter_class=argparse.RawDescriptionHelpFormatter)
     top.add_argument('--version', action='version', version='yoke ' + VERSION)
     chosen = top.add_subparsers(dest='verb', metavar='VERB', required=True)
     for name in verbs.NAMES:

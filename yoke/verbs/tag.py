@@ -28,7 +28,7 @@ yoke tag --csv shops.csv --columns phone --where name={Shop} --where addr:street
 A tag is KEY=VALUE; without a value it is taken away. QUERY is that of `find`; of what it finds only what is there counts.
 A column `key` of the CSV names the object, as w5 or way/5, or `@type` and `@id` do; or --where finds it. An empty field says
 nothing. A column `old:KEY` has what the tag KEY has to be still: where it is something else, the row is left out and listed.
-Rows that find no object, or several, are listed too. docs/COMPANION-FORMATS.md has what is taken for suspicious.
+Rows that find no object, or several, are listed too. docs/TABLES.md lists what is taken for suspicious.
 
 With --to FILE nothing is tagged: FILE becomes a script for `yoke do`, which takes it over this session alone."""
 OF_TABLE = ('key', 'rules', 'columns', 'where', 'within', 'among', 'only_if_still', 'lists', 'encoding', 'lon', 'lat', 'keep')
