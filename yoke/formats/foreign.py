@@ -10,7 +10,7 @@ The steps are to run as one group, directly after the session was taken up: the 
 number that the session gives next.
 """
 from collections import Counter
-from dataclasses import dataclass, field
+from dataclasses import dataclass, field, replace
 from typing import Dict, List, Optional, Set, Tuple
 
 from yoke import opl
@@ -217,8 +217,8 @@ class _Planner:
 
     def _translated(self, thing: opl.Object) -> opl.Object:
         """The object with the session's keys in the place of the document's."""
-        return opl.Object(**{**vars(thing), 'nodes': self._named(thing.nodes),
-                             'members': tuple((self.names.get(key, key), role) for key, role in thing.members)})
+        return replace(thing, nodes=self._named(thing.nodes),
+                       members=tuple((self.names.get(key, key), role) for key, role in thing.members))
 
     def _change_tags(self, key: str, began, told, mine):
         changes = {}

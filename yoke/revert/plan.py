@@ -11,7 +11,7 @@ over it, is then a conflict that is resolved for mine; the mark goes, and an upl
 from __future__ import annotations
 
 from collections import Counter
-from dataclasses import dataclass, field
+from dataclasses import dataclass, field, replace
 from typing import Iterable
 
 from yoke import opl
@@ -126,12 +126,12 @@ def _restore(plan: Plan, was: opl.Object, now: opl.Object) -> None:
 
 def with_version(thing: opl.Object, version: int) -> opl.Object:
     """The object with another version."""
-    return opl.Object(**{**vars(thing), 'version': version})
+    return replace(thing, version=version)
 
 
 def with_members(thing: opl.Object, members: Iterable[tuple[str, str]]) -> opl.Object:
     """The relation with other members."""
-    return opl.Object(**{**vars(thing), 'members': tuple(members)})
+    return replace(thing, members=tuple(members))
 
 
 # ---- what can't go back ----
