@@ -12,8 +12,6 @@ from yoke.trouble import Clash, Refused
 
 # verbs whose documents have no data of their own: they serve, or ask a person
 WITHOUT = {'practice'}
-# verbs whose result isn't described yet: docs/JSON.md gets a row for each, and this set goes
-NOT_YET = {'import', 'send', 'show', 'tag'}
 
 
 def documented() -> dict[str, set[str]]:
@@ -83,6 +81,73 @@ class Documents(ServerTest):
         self.json('osc', 'a.osc')
         self.json('geojson', 'day.geojson')
 
+    def test_tags(self) -> None:
+        self.begin()
+        tagged = self.json('tag', 'surface=asphalt', '--keys', 'w5')['result']
+        self.assertEqual((['w5'], None, [], 2), (tagged['keys'], tagged['rows'], tagged['listed'], tagged['session']['number']))
+        self.assertEqual([], self.json('tag', 'surface=', '--find', 'Tsurface=gravel')['result']['keys'])
+        script = self.json('tag', 'lit=yes', '--keys', 'w5', '--to', 'lit.script')['result']
+        self.assertEqual(('lit.script', None), (script['file'], script['session']))
+        self.write('rows.csv', 'key,lit\nw5,yes\nn8,no\n')
+        self.assertEqual(['tag w5 Tlit=yes', 'tag n8 Tlit=no'],
+                         [step['step'] for step in self.json('tag', '--csv', 'rows.csv', '--columns', 'lit')['result']['steps']])
+
+    def test_rows_of_a_table(self) -> None:
+        self.begin()
+        self.write('kinds.csv', 'kind,backrest\nbench,yes\nshelter,no\n')
+        found = self.json('tag', '--csv', 'kinds.csv', '--where', 'amenity={kind}', '--columns', 'backrest')['result']
+        self.assertEqual({'read': 2, 'taken': 1, 'refused': 0, 'one': 1, 'none': 1, 'several': 0, 'changed': 0}, found['rows'])
+        self.assertEqual((['n8'], [('none', 3)]), (found['keys'], [(row['list'], row['line']) for row in found['listed']]))
+
+    def test_an_import(self) -> None:
+        self.begin()
+        self.write('trees.csv', 'lon,lat,natural\n13.0011,52.0002,tree\n52.0002,13.0011,tree\n')
+        found = self.json('import', 'trees.csv', '--columns', 'natural')['result']
+        self.assertEqual({'read': 2, 'taken': 1, 'nodes': 1, 'ways': 0, 'relations': 0}, found['counts'])
+        self.assertEqual((['line 3'], None, 'import'), ([one['feature'] for one in found['left_out']], found['file'], found['session']['verb']))
+        self.write('more.csv', 'lon,lat,natural\n13.0013,52.0002,tree\n')
+        self.assertEqual('more.opl', self.json('import', 'more.csv', '--columns', 'natural', '--to', 'more.opl')['result']['file'])
+        self.assertEqual(1, len(self.json('ledger', 'trees.csv')['result']['features']))
+
+    def test_a_send(self) -> None:
+        self.begin('tag n8 Tbackrest=yes')
+        dry = self.json('send', '--dry')['result']
+        self.assertEqual((0, [], {'create': 0, 'modify': 1, 'delete': 0}), (dry['sent'], dry['changesets'], dry['changes']))
+        sent = self.json('send', '--api', self.server.api, '-m', 'a test')['result']
+        number = sent['changesets'][0]['number']
+        self.assertEqual((1, [], None), (sent['sent'], sent['left'], sent['changes']))
+        self.assertTrue(sent['changesets'][0]['link'].endswith('/changeset/' + number))
+        self.assertEqual([number], [one['number'] for one in self.json('log')['result']['changesets']])
+
+    def test_a_part_of_a_send(self) -> None:
+        self.begin('tag n8 Tbackrest=yes', 'tag w5 Tsurface=asphalt')
+        sent = self.json('send', '--api', self.server.api, '-m', 'a test', '--only', 'n8')['result']
+        self.assertEqual((1, [['w5']]), (sent['sent'], [one['keys'] for one in sent['left']]))
+
+    def test_a_send_that_is_refused_says_what_went_out(self) -> None:
+        self.begin('tag n8 Tbackrest=yes')
+        self.server.edit('modify', 'n8', tags={'amenity': 'bench', 'backrest': 'no'})
+        found = self.json('send', '--api', self.server.api, '-m', 'a test', code=Clash.code)
+        self.assertEqual((0, 'Clash'), (found['result']['sent'], found['error']['kind']))
+
+    def test_objects(self) -> None:
+        self.begin('tag w5 Tsurface=asphalt')
+        found = {one['key']: one for one in self.json('show', 'w5', 'n1')['result']['objects']}
+        self.assertEqual(('changed', 'asphalt'), (found['w5']['edit'], found['w5']['mine']['tags']['surface']))
+        self.assertEqual((None, ['w5']), (found['n1']['edit'], found['n1']['used_by']))
+        self.json('diff', '--svg', 'edits.svg')
+        self.json('review', '--list')
+
+    def test_a_match(self) -> None:
+        self.begin()
+        self.write('benches.csv', 'lon,lat,amenity,backrest\n13.002,52.001,bench,yes\n')
+        self.write('benches.rules', 'against Tamenity=bench\nwithin 30\nsame amenity\ntake backrest\n')
+        found = self.json('conflate', 'benches.csv', '--rules', 'benches.rules', '--columns', 'amenity,backrest', '--to', 'matched')['result']
+        self.assertIn('matched.script', found['files'])
+
+    def test_an_account(self) -> None:
+        self.assertEqual('mapper', self.json('whoami', '--api', self.server.api)['result']['account'])
+
     def test_a_revert(self) -> None:
         number = self.server.edit('modify', 'n8', tags={'amenity': 'bench', 'material': 'wood'}) and max(self.server.database.changesets)
         self.json('revert', str(number), '--api', self.server.api)
@@ -105,4 +170,4 @@ class Documents(ServerTest):
         self.done('diff')
 
     def test_the_page_has_each_verb(self) -> None:
-        self.assertEqual(set(), set(verbs.NAMES) - set(documented()) - WITHOUT - NOT_YET)
+        self.assertEqual(set(), set(verbs.NAMES) - set(documented()) - WITHOUT)

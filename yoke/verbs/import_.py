@@ -9,7 +9,7 @@ from collections import Counter
 from dataclasses import dataclass, replace
 from typing import Any, Dict, List, Optional, Tuple
 
-from yoke import day, imports, ledger, opl, table
+from yoke import day, imports, ledger, opl, results, table
 from yoke.files import check_outputs, data_of
 from yoke.formats import columns, drawing, features, mapping, suspicions, tag_table
 from yoke.formats.features import Feature
@@ -92,12 +92,16 @@ def run(arguments: argparse.Namespace) -> int:
             picture = draw(arguments, found, wanted, chosen, plan)
             accepted.stop(list(suspicions.of_tags(picture.tags)))
             report(picture, plan, arguments.report)
+            results.put(file=None, session=None, left_out=[{'feature': where, 'why': why} for where, why in picture.left], counts={
+                'read': picture.read, 'taken': picture.taken, 'nodes': len(picture.nodes), 'ways': len(picture.ways),
+                'relations': len(picture.relations)})
             if picture.left and arguments.all:
                 raise Refused('nothing is done: {} features were left out'.format(len(picture.left)))
             if not picture.taken:
                 raise Refused('nothing is done: no feature was taken')
             if arguments.to:
                 day.write_whole(arguments.to, ''.join(line + '\n' for line in picture.lines()))
+                results.put(file=arguments.to)
                 print('wrote {}'.format(arguments.to))
                 return 0
             claim = desk.claim(session.day.next_name('import'), plan.claimed(picture))
@@ -107,6 +111,7 @@ def run(arguments: argparse.Namespace) -> int:
             desk.settle()       # gives back what was claimed
             raise
         desk.keep(claim)
+        results.put(session=results.of_state(session.day.last()))
         print('kept as {}'.format(session.day.last().path))
     return 0
 

@@ -53,6 +53,7 @@ def run(arguments):
         raise Usage('--at-most wants a number from 1 on')
     reviewed = reviewing.ReviewedBy(arguments.decisions) if arguments.reviewed else None
     wanted = Wanted(tuple(arguments.only), arguments.at_most, arguments.skip_conflicts, reviewed)
+    results.put(sent=0, changesets=[], left=[], candidates=[], changes=None)
     if arguments.dry:
         return show(Session.of(arguments), arguments.chunk, wanted)
     tags = tags_of(arguments)
@@ -73,6 +74,7 @@ def run(arguments):
             note_end(part, reviewed, trouble)
             raise
         finally:
+            results.put(sent=one.sent, changesets=[{'number': number, 'link': server.link(number)} for number in one.used])
             ledger.settle(session.day)
     print('{} changes sent{}'.format(one.sent, ' in ' + ', '.join('changeset ' + number for number in one.used) if one.used else ''))
     for number in one.used:
@@ -198,6 +200,7 @@ def show(session, size, wanted):
         if not text.startswith('chunk '):
             print(text)
     counts = {verb: sum(text.startswith(verb + ' ') for text in changes) for verb in ('create', 'modify', 'delete')}
+    results.put(changes=counts)
     print('{} changes would be sent: {create} new, {modify} changed, {delete} deleted'.format(answer.upload_size(), **counts))
     if left:
         show_left(left)

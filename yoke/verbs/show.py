@@ -1,5 +1,5 @@
 """`yoke show`: one object."""
-from yoke import table
+from yoke import results, table
 from yoke.day import Day
 from yoke.scripts import show
 from yoke.trouble import Refused
@@ -18,4 +18,13 @@ def run(arguments):
         if not lines:
             raise Refused('there is no {} in the session'.format(key))
         print('\n'.join(lines))
+        if results.wanted():
+            results.add('objects', of_object(found, key))
     return 0
+
+
+def of_object(found, key):
+    """An object with its sides and the keys of its users; one that is only referred to has no side."""
+    known = found.things.get(key)
+    sides = results.of_known(known) if known else {'key': key, 'edit': None, 'conflict': None, 'base': None, 'mine': None, 'theirs': None}
+    return {**sides, 'used_by': list(found.users(key))}

@@ -3,7 +3,7 @@ import argparse
 from collections import Counter
 from typing import Dict, List, Optional, Sequence, Tuple
 
-from yoke import choices, opl, table
+from yoke import choices, opl, results, table
 from yoke.files import check_outputs, data_of
 from yoke.formats import columns, features, row_search, suspicions, tag_plan, tag_table
 from yoke.formats.mapping import Mapping
@@ -75,6 +75,7 @@ def run(arguments: argparse.Namespace) -> int:
         keys = arguments.keys.split(',') if arguments.keys else found(session, arguments.find)
         if arguments.find:
             accepted.stop(alike(session, keys, tags))
+        results.put(keys=keys, rows=None, listed=[], steps=[], file=None, session=None)
         lines = ['tag {} T{}'.format(','.join(keys), opl.tags(tags))] if keys else []
         if keys and arguments.find:
             script = do.spared(session, Expanded(lines, [0] * len(lines)), accepted)
@@ -85,6 +86,7 @@ def run(arguments: argparse.Namespace) -> int:
             return write(session, arguments, lines)
         if keys:
             session.edit('tag', lines)
+            results.put(session=results.of_state(session.day.last()))
     print('{} object{} tagged'.format(len(keys), '' if len(keys) == 1 else 's'))
     if keys:
         print('kept as {}'.format(session.day.last().path))
@@ -94,6 +96,7 @@ def run(arguments: argparse.Namespace) -> int:
 def write(session: Session, arguments: argparse.Namespace, lines: List[str]) -> int:
     """Writes the lines as a script for this session alone; the exit code."""
     bound.write(arguments.to, lines, session.day.last(), arguments.force)
+    results.put(file=arguments.to)
     if arguments.to != '-':
         print('wrote {}: yoke do {} tags'.format(arguments.to, arguments.to))
     return 0
@@ -217,6 +220,8 @@ def tell(plan: tag_plan.Plan, sheet: Sheet, arguments: argparse.Namespace, found
 def perform(session: Session, arguments: argparse.Namespace, plan: tag_plan.Plan, count: int) -> int:
     """Does the edits of a plan; the exit code. The folder of the day has to be locked."""
     bad, good = [row for row in plan.rows if row.problem], [row for row in plan.rows if row.tags and not row.problem]
+    rows = {'read': count, 'taken': 0, 'refused': len(bad), **{name: len(plan.listed(name)) for name in tag_plan.LISTS}}
+    results.put(keys=[row.key for row in good], rows=rows, listed=listed(plan, bad), steps=[], file=None, session=None)
     for row in bad:
         print('{}:{}: refused: {}'.format(arguments.csv, row.line, plain(row.problem)))
     if bad and not arguments.keep:
@@ -229,5 +234,14 @@ def perform(session: Session, arguments: argparse.Namespace, plan: tag_plan.Plan
     answer = do.perform(session, 'tag', arguments.csv, steps, arguments.keep)
     do.show(arguments.csv, answer, kept=True)
     code = do.end(session, answer, arguments.keep)
+    rows['taken'] = len(good) - len(answer.refused())
     print('{} of {} rows taken'.format(len(good) - len(answer.refused()), count))
     return 1 if code or bad else 0
+
+
+def listed(plan: tag_plan.Plan, bad: Sequence[tag_table.Row]) -> List[Dict[str, object]]:
+    """The rows that aren't taken as data: the list that has each, its line, and what was found, such as several keys."""
+    found: List[Dict[str, object]] = [{'list': 'refused', 'line': row.line, 'found': row.problem} for row in bad]
+    for name in tag_plan.LISTS[1:]:
+        found += [{'list': name, 'line': row.line, 'found': text} for row, text in plan.listed(name)]
+    return found
