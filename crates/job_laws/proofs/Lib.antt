@@ -6,6 +6,7 @@ pub mod MergePlaces
 pub mod MergeSounds
 pub mod MergeUntold
 pub mod MergeConflicts
+pub mod MergeContents
 pub mod MergeEdits
 pub mod MergeChains
 pub mod ResolveTags

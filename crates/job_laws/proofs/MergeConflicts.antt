@@ -26,7 +26,7 @@ use Rattle.job_laws.proofs.MergeOutcome.{merged_at}
 use Rattle.job_laws.proofs.MergePlaces.{SoundAt}
 use Rattle.job_laws.proofs.MergeSounds.{stage_sound}
 
-held_conflict : (b : Base) (o : Option Entry) → is_some (mine_at o) ≡ true → in_conflict (option_map (against Held b) o) ≡ true
+pub held_conflict : (b : Base) (o : Option Entry) → is_some (mine_at o) ≡ true → in_conflict (option_map (against Held b) o) ≡ true
 held_conflict b None h = h
 held_conflict b (Some Incomplete) h = h
 held_conflict b (Some (Known a m f)) h = refl
@@ -58,14 +58,14 @@ dead_conflict named b None h = by (named && not (is_some (held_by b)))
 dead_conflict true b (Some c) h = ap (λ (a : Bool). in_conflict (cond (not a) (Some Incomplete) (Some (Known b None (Some c))))) (why_lost c.why c.theirs b h)
 dead_conflict false b (Some c) h = refl
 
-bared_conflict : (named : Bool) (o : Option Entry) → HasFits o → in_conflict (bared named o) ≡ in_conflict o
+pub bared_conflict : (named : Bool) (o : Option Entry) → HasFits o → in_conflict (bared named o) ≡ in_conflict o
 bared_conflict true None h = refl
 bared_conflict false None h = refl
 bared_conflict named (Some Incomplete) h = refl
 bared_conflict named (Some (Known b None f)) h = dead_conflict named b f h
 bared_conflict named (Some (Known b (Some c) f)) h = refl
 
-sound_fits : (n : ℕ) (k : Key) (o : Option Entry) → SoundAt n k o → HasFits o
+pub sound_fits : (n : ℕ) (k : Key) (o : Option Entry) → SoundAt n k o → HasFits o
 sound_fits n k None s = tt
 sound_fits n k (Some e) s = s.conflict
 

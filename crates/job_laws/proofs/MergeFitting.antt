@@ -40,7 +40,7 @@ module _ (t : TableValue) (s : ToldEntries) where
   there sound j k None e h = absurd (true≢false (sym h))
   there sound j k (Some x) e h = sound.closed j x e k h
 
-  has_fits : IsSound t → (k : Key) (o : Option Entry) → entry_of t k ≡ o → HasFits o
+  pub has_fits : IsSound t → (k : Key) (o : Option Entry) → entry_of t k ≡ o → HasFits o
   has_fits sound k None e = tt
   has_fits sound k (Some x) e = (sound.entries k x e).conflict
 

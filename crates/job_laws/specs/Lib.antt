@@ -1,4 +1,5 @@
 pub mod MergeChains
+pub mod MergeConflicts
 pub mod MergeLaws
 pub mod MergeOutcomes
 pub mod ResolveParts

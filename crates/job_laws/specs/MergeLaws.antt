@@ -2,7 +2,7 @@
 --
 -- For example where w1 was changed here and is told changed too, `KeepsChanges` lets it have mine as before, or what is
 -- joined of both.
-use Rattle.std.specs.Prelude.{◌≡◌, ◌⊎◌, ◌||◌, Bool, true, if◌then◌else◌, Option, Some, None}
+use Rattle.std.specs.Prelude.{◌≡◌, ◌⊎◌, true, Option, Some, None}
 use Rattle.std.specs.FinMap as fin
 use Rattle.osm_base.specs.declared.key.Key.{Key}
 use Rattle.osm_base.specs.declared.content.Content.{Content}
@@ -15,9 +15,8 @@ use Rattle.osm_table.specs.Told.{ToldEntries}
 use Rattle.dataset.specs.Exact.{mine_at}
 use Rattle.merge_cases.specs.declared.verdict.Verdict.TheVariants.{Join}
 use Rattle.tool_api.specs.Closing.{in_conflict}
-use Rattle.tool_api.specs.Staged.{stage_of, verdict_at, theirs_at, all_joined}
+use Rattle.tool_api.specs.Staged.{verdict_at, theirs_at, all_joined}
 use Rattle.tool_api.specs.Merged.{merged}
-use Rattle.job_laws.specs.MergeOutcomes.{is_wanted, is_held}
 
 -- nothing is told of the key
 abbrev pub IsUntold : ToldEntries → Key → Type 0
@@ -26,10 +25,6 @@ IsUntold m k = fin.get m k ≡ None
 -- the merged table has under the key what the table had
 abbrev pub Stays : TableValue → ToldEntries → Key → Type 0
 Stays t m k = entry_of (merged t m) k ≡ entry_of t k
-
--- whether it is a candidate that is held, or is wanted, or is left in conflict by its case
-abbrev pub ends_in_conflict : TableValue → ToldEntries → Key → Bool
-ends_in_conflict t m k = if (stage_of t m k).candidate then is_held t m k else (is_wanted t m k || in_conflict (stage_of t m k).entry)
 
 -- the table has this entry under the key, and it was changed here
 pub record WasChanged (t : TableValue) (k : Key) (e : Entry) : Type 0 where

@@ -1,5 +1,6 @@
 //! What holds of merged tables.
 ghost use Rattle.std.specs.Prelude.{◌≡◌, ◌↔◌, false, true};
+ghost use Rattle.std.specs.FinMap as fin;
 ghost use Rattle.osm_base.specs.declared.key.Key.{Key};
 ghost use Rattle.osm_table.specs.Table.{TableValue, entry_of, IsThere};
 ghost use Rattle.osm_table.specs.Told.{ToldEntries, IsToldMap};
@@ -7,7 +8,8 @@ ghost use Rattle.dataset.specs.Sound.{IsSound};
 ghost use Rattle.tool_api.specs.Closing.{in_conflict};
 ghost use Rattle.tool_api.specs.Merged.{merged};
 ghost use Rattle.job_laws.specs.MergeChains.{EndsCandidates, EndsLost};
-ghost use Rattle.job_laws.specs.MergeLaws.{IsUntold, KeepsChanges, KeepsDeletions, Stays, ends_in_conflict};
+ghost use Rattle.job_laws.specs.MergeConflicts.{ends_in_conflict};
+ghost use Rattle.job_laws.specs.MergeLaws.{IsUntold, KeepsChanges, KeepsDeletions, Stays};
 ghost use Rattle.job_laws.specs.MergeOutcomes.{final_at, is_held, is_named, is_wanted};
 
 /// Law: a sound table with a download merged into it is sound, and has what is said of each key.
@@ -29,10 +31,10 @@ pub fn wanted_and_held_end_chains()
     ensures held { (t : TableValue) (m : ToldEntries) (k : Key) → IsSound t → (is_held t m k ≡ true) ↔ EndsCandidates t m k }
 {}
 
-/// Law: after a merge just those objects are in conflict that were about to go and are held, that are wanted, or that
-/// their case leaves in conflict.
+/// Law: after a merge just those objects are in conflict that were told gone unchanged and live all the same, against which
+/// theirs stands, or that were deleted here and live again. No case of the merge is asked for: what is here and what is told are.
 pub fn conflicts_of_merges()
-    ensures { (t : TableValue) (m : ToldEntries) (k : Key) → IsSound t → IsToldMap m → in_conflict (entry_of (merged t m) k) ≡ ends_in_conflict t m k }
+    ensures { (t : TableValue) (m : ToldEntries) (k : Key) → IsSound t → IsToldMap m → in_conflict (entry_of (merged t m) k) ≡ ends_in_conflict (entry_of t k) (fin.get m k) (entry_of (merged t m) k) }
 {}
 
 /// Law: a download never takes the place of an edit. An object that was changed here and lives keeps its content, or has
