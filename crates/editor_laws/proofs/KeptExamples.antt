@@ -11,12 +11,13 @@ use Rattle.osm_base.specs.declared.content.Content.{Content}
 use Rattle.osm_base.specs.declared.content.Content.TheVariants as content
 use Rattle.osm_base.specs.declared.key.Key.{Key}
 use Rattle.osm_base.specs.declared.key.Kind.TheVariants as kind
-use Rattle.osm_table.specs.declared.entry.Base.TheVariants.{Live}
+use Rattle.osm_table.specs.declared.entry.Base.TheVariants.{Live, New}
+use Rattle.osm_table.specs.declared.entry.Conflict.{Conflict}
 use Rattle.osm_table.specs.declared.entry.Why.TheVariants.{Changed, Held, Withdrawn}
 use Rattle.osm_table.specs.declared.entry.Entry.{Entry}
 use Rattle.osm_table.specs.declared.entry.Entry.TheVariants.{Incomplete, Known}
 use Rattle.osm_table.specs.declared.told.Told.TheVariants as told
-use Rattle.osm_table.specs.Table.{TableValue}
+use Rattle.osm_table.specs.Table.{TableValue, held_by}
 use Rattle.tool_api.specs.declared.job.Job.TheVariants as job
 use Rattle.tool_api.specs.declared.refusal.Refusal.{Refusal}
 use Rattle.tool_api.specs.declared.reply.Reply.TheVariants as reply
@@ -42,13 +43,19 @@ to_the_north = content.Node [] (record { lon = pos 0; lat = pos 5; on_map = refl
 abbrev moved : Entry
 moved = Known (Live 1 first_place empty_meta) (Some to_the_east) None
 
--- Both sides made that move: the base is newer, and the content stays.
-both_moved : Keeps None moved (Some (Known (Live 2 to_the_east empty_meta) (Some to_the_east) None))
-both_moved = inl (refl, refl)
+-- Both sides made that move, as is told: the base is newer, and the content stays.
+both_moved : Keeps (Some (told.Live 2 to_the_east empty_meta)) moved (Some (Known (Live 2 to_the_east empty_meta) (Some to_the_east) None))
+both_moved = inr (inr (refl, refl, refl))
 
 -- The server moved it to the north, and it is in conflict: the edit is kept.
-in_conflict : Keeps None moved (Some (Known (Live 1 first_place empty_meta) (Some to_the_east) (Some (record { why = Changed; theirs = Live 2 to_the_north empty_meta }))))
-in_conflict = inl (refl, refl)
+abbrev north_conflict : Conflict
+north_conflict = record { why = Changed; theirs = Live 2 to_the_north empty_meta }
+
+abbrev disputed : Entry
+disputed = Known (Live 1 first_place empty_meta) (Some to_the_east) (Some north_conflict)
+
+in_conflict : Keeps (Some (told.Live 2 to_the_north empty_meta)) moved (Some disputed)
+in_conflict = inl (refl, refl, (inl refl, inr refl))
 
 -- What the server has in the place of mine keeps nothing, and neither does an object that isn't there any more.
 abbrev is_east : Option Content → Bool
@@ -58,22 +65,52 @@ is_east (Some c) = same_content to_the_east c
 not_east : Some to_the_north ≡ Some to_the_east → ⊥
 not_east same = true≢false (sym (ap is_east same))
 
-taken_over : Keeps None moved (Some (Known (Live 2 to_the_north empty_meta) (Some to_the_north) None)) → ⊥
-taken_over (inl kept) = not_east kept.1
-taken_over (inr (inl joined)) = let none : Some to_the_north ≡ None = joined.1 in cc
-taken_over (inr (inr same)) = not_east same
+taken_over : Keeps (Some (told.Live 2 to_the_north empty_meta)) moved (Some (Known (Live 2 to_the_north empty_meta) (Some to_the_north) None)) → ⊥
+taken_over (inl kept) = true≢false (sym kept.0)
+taken_over (inr (inl joined)) = let none : Some to_the_north ≡ None = joined.2 in cc
+taken_over (inr (inr same)) = not_east same.1
 
 thrown_away : Keeps None moved None → ⊥
 thrown_away (inl kept) = kept
 thrown_away (inr (inl joined)) = joined
 thrown_away (inr (inr there)) = there
 
+-- Where another step, of which nothing is told, makes mine the base, no upload sends it: that keeps nothing.
+made_the_base : Keeps None moved (Some (Known (Live 1 to_the_east empty_meta) (Some to_the_east) None)) → ⊥
+made_the_base (inl kept) = true≢false (sym kept.0)
+made_the_base (inr (inl joined)) = joined.0
+made_the_base (inr (inr there)) = there.0
+
+-- So it is where a download tells something else of it, of the very version,
+made_the_told_base : Keeps (Some (told.Live 2 to_the_north empty_meta)) moved (Some (Known (Live 2 to_the_east empty_meta) (Some to_the_east) None)) → ⊥
+made_the_told_base (inl kept) = true≢false (sym kept.0)
+made_the_told_base (inr (inl joined)) = not_east (ap held_by joined.0)
+made_the_told_base (inr (inr there)) = not_east (ap held_by there.0)
+
+-- where both made the move and the table says that it is deleted,
+deleted_after_all : Keeps (Some (told.Live 2 to_the_east empty_meta)) moved (Some (Known (Live 2 to_the_east empty_meta) None None)) → ⊥
+deleted_after_all (inl kept) = let none : None ≡ Some to_the_east = kept.1 in cc
+deleted_after_all (inr (inl joined)) = true≢false (sym joined.1)
+deleted_after_all (inr (inr there)) = let none : None ≡ Some to_the_east = there.2 in cc
+
+-- where it has no base any more, so that it would be made anew,
+made_anew : Keeps None moved (Some (Known New (Some to_the_east) None)) → ⊥
+made_anew (inl kept) = let other : Some (Live 1 first_place empty_meta) ≡ Some New = kept.2.0 in cc
+made_anew (inr (inl joined)) = joined.0
+made_anew (inr (inr there)) = there.0
+
+-- and where a conflict is gone with the base of theirs, so that an upload would take their move back.
+settled_unasked : Keeps None disputed (Some (Known (Live 2 to_the_north empty_meta) (Some to_the_east) None)) → ⊥
+settled_unasked (inl kept) = let other : Some north_conflict ≡ None = kept.2.1 in cc
+settled_unasked (inr (inl joined)) = joined.0
+settled_unasked (inr (inr there)) = there.0
+
 -- Deleted here. Where it is known by its name alone it is forgotten, unless it is told of as deleted.
 abbrev deleted : Entry
 deleted = Known (Live 1 first_place empty_meta) None None
 
 forgotten : Keeps None deleted (Some Incomplete) → ⊥
-forgotten (inl kept) = true≢false (sym kept.0)
+forgotten (inl kept) = kept
 forgotten (inr (inl joined)) = joined
 forgotten (inr (inr there)) = true≢false (sym there.1)
 

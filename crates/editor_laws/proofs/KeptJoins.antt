@@ -19,19 +19,19 @@ mine_stands m t v false false true e h = cc
 mine_stands m t v false false false e h = cc
 
 -- what a joined content is made of
-record Made (o : Option (List Pair)) (p : Option Content) (c : Content) : Type 0 where
-  tags : List Pair
-  body : Content
-  by_tags : o ≡ Some tags
-  by_body : p ≡ Some body
-  is : c ≡ with_body tags body
+pub record Made (o : Option (List Pair)) (p : Option Content) (c : Content) : Type 0 where
+  pub tags : List Pair
+  pub body : Content
+  pub by_tags : o ≡ Some tags
+  pub by_body : p ≡ Some body
+  pub is : c ≡ with_body tags body
 
-made : (o : Option (List Pair)) (p : Option Content) (c : Content) → both_of o p ≡ Some c → Made o p c
+pub made : (o : Option (List Pair)) (p : Option Content) (c : Content) → both_of o p ≡ Some c → Made o p c
 made o None c h = cc
 made None (Some body) c h = cc
 made (Some tags) (Some body) c h = record { tags = tags; body = body; by_tags = refl; by_body = refl; is = (let e : with_body tags body ≡ c = cc in sym e) }
 
-tags_with : (tags : List Pair) (c : Content) → tags_of (with_body tags c) ≡ tags
+pub tags_with : (tags : List Pair) (c : Content) → tags_of (with_body tags c) ≡ tags
 tags_with tags (Node others at) = refl
 tags_with tags (Way others refs) = refl
 tags_with tags (Relation others members) = refl

@@ -32,8 +32,9 @@ use Rattle.tool_api.specs.Plain.{answered, plain}
 use Rattle.job_laws.proofs.MergeRows.{theirs_by, verdict_by, joined_some}
 use Rattle.job_laws.proofs.MergeStand.{settled, wanted_lost}
 use Rattle.job_laws.proofs.MergeOutcome.{outcome, merged_at}
-use Rattle.editor_laws.specs.Kept.{wish, is_edited, is_told_gone, is_gone_there, Keeps}
-use Rattle.editor_laws.proofs.KeptConfirming.{edited_known}
+use Rattle.editor_laws.specs.Bases.{HasSide}
+use Rattle.editor_laws.specs.Kept.{wish, is_edited, is_told_gone, is_gone_there, IsSeenSide, IsToSend, Keeps, StandsOn}
+use Rattle.editor_laws.specs.Telling.{IsToldSide}
 
 -- What a case makes of a changed object that didn't come back.
 abbrev Spares : Verdict → Option Content → Option Content → Option Content → Type 0
@@ -134,19 +135,37 @@ living_stays : (P : Option Entry → Type 0) (h w n : Bool) (theirs b : Base) (c
 living_stays P h true n theirs b c f lost p = absurd (true≢false (sym (lost refl)))
 living_stays P h false n theirs b c f lost p = p
 
+-- Sides of an entry, and what stays as it is.
+
+own_side : (b : Base) (m : Option Content) (f : Option Conflict) → HasSide (Some (Known b m f)) b
+own_side b m None = refl
+own_side b m (Some x) = inl refl
+
+last_side : (b : Base) (m : Option Content) (f : Option Conflict) → HasSide (Some (Known b m f)) (known_base b f)
+last_side b m None = refl
+last_side b m (Some x) = inr refl
+
+stands_still : (told : Option Told) (b : Base) (m : Option Content) (f : Option Conflict) → StandsOn told (Known b m f) b f
+stands_still told b m None = (refl, refl)
+stands_still told b m (Some x) = (inl (inl refl), inl (inr refl))
+
+still_to_send : (told : Option Told) (e : Entry) → is_edited e ≡ true → IsToSend told e (Some e)
+still_to_send told Incomplete edited = absurd (true≢false (sym edited))
+still_to_send told (Known b m f) edited = (edited, refl, stands_still told b m f)
+
 -- and what is wanted gone is so after it; its name alone is left where the server holds nothing either
 abbrev HoldsNone : Base → Option Conflict → Type 0
 HoldsNone b f = not (is_some (held_by (known_base b f))) ≡ true
 
 module _ (told : Option Told) (e : Entry) (gone : wish (Some e) ≡ None) where
-  stays_gone : (h w n : Bool) (theirs b : Base) (m : Option Content) (f : Option Conflict) → wish (Some (Known b m f)) ≡ None → (HoldsNone b f → is_gone_there told e ≡ true) → Keeps told e (settled false h w n theirs (Some (Known b m f)))
-  stays_gone h true n theirs b m f is there = inl (refl, sym gone)
-  stays_gone h false n theirs b (Some c) f is there = inl (refl, is ∙ sym gone)
-  stays_gone h false n theirs b None f is there = by (n && not (is_some (held_by (known_base b f)))) refl
+  stays_gone : (h w n : Bool) (theirs b : Base) (m : Option Content) (f : Option Conflict) → Keeps told e (Some (Known b m f)) → IsSeenSide told e (known_base b f) → (HoldsNone b f → is_gone_there told e ≡ true) → Keeps told e (settled false h w n theirs (Some (Known b m f)))
+  stays_gone h true n theirs b m f kept seen there = inl (refl, sym gone, (seen, seen))
+  stays_gone h false n theirs b (Some c) f kept seen there = kept
+  stays_gone h false n theirs b None f kept seen there = by (n && not (is_some (held_by (known_base b f)))) refl
     where
       by : (bare : Bool) → (n && not (is_some (held_by (known_base b f)))) ≡ bare → Keeps told e (cond bare (Some Incomplete) (Some (Known b None f)))
       by true h = inr (inr (gone, there (and_parts n (not (is_some (held_by (known_base b f)))) h).1))
-      by false h = inl (refl, is ∙ sym gone)
+      by false h = kept
 
 -- Where a case comes of what the server is told to hold, and that is nothing, the object is told of as deleted.
 told_gone : (e : Entry) (told : Option Told) (v : Verdict) → verdict_by (Some e) told ≡ v → (v ≡ Stay → ⊥) → not (is_some (held_by (theirs_by told))) ≡ true → is_told_gone told ≡ true
@@ -154,6 +173,13 @@ told_gone e None v is other none = absurd (other (sym is))
 told_gone e (Some told.Mentioned) v is other none = absurd (other (sym is))
 told_gone e (Some (told.Live version content meta)) v is other none = absurd (true≢false (sym none))
 told_gone e (Some (told.Gone version meta)) v is other none = refl
+
+-- and what it holds is told
+told_there : (e : Entry) (told : Option Told) (v : Verdict) → verdict_by (Some e) told ≡ v → (v ≡ Stay → ⊥) → IsToldSide told (theirs_by told)
+told_there e None v is other = absurd (other (sym is))
+told_there e (Some told.Mentioned) v is other = absurd (other (sym is))
+told_there e (Some (told.Live version content meta)) v is other = refl
+told_there e (Some (told.Gone version meta)) v is other = refl
 
 wish_is : (b : Base) (m : Option Content) (f : Option Conflict) → is_withdrawn f ≡ false → wish (Some (Known b m f)) ≡ m
 wish_is b m f w = ap (λ r. cond r None m) w
@@ -169,84 +195,110 @@ LostAfter v e theirs w = w ≡ true → is_some (cond (is_candidate v) None (los
 abbrev ends : Verdict → Entry → Base → Bool → Bool → Bool → Option Entry
 ends v e theirs h w n = settled (is_candidate v) h w n theirs (staged v (Some e) theirs)
 
-module _ (told : Option Told) (b : Base) (c : Content) (f : Option Conflict) (theirs : Base) (h w n : Bool) (free : is_withdrawn f ≡ false) where
+not_stay_settle : Settle ≡ Stay → ⊥
+not_stay_settle x = let other : Settle ≡ Stay = x in absurd cc
+
+not_stay_join : Join ≡ Stay → ⊥
+not_stay_join x = let other : Join ≡ Stay = x in absurd cc
+
+not_stay_dispute : Dispute ≡ Stay → ⊥
+not_stay_dispute x = let other : Dispute ≡ Stay = x in absurd cc
+
+not_stay_keep : Keep ≡ Stay → ⊥
+not_stay_keep x = let other : Keep ≡ Stay = x in absurd cc
+
+not_stay_candidate : Candidate ≡ Stay → ⊥
+not_stay_candidate x = let other : Candidate ≡ Stay = x in absurd cc
+
+module _ (told : Option Told) (b : Base) (c : Content) (f : Option Conflict) (h w n : Bool) (free : is_withdrawn f ≡ false) (edited : is_edited (Known b (Some c) f) ≡ true) (changes : is_changed (Known b (Some c) f) ≡ true) where
   abbrev e : Entry
   e = Known b (Some c) f
 
-  same_content : (d : Base) (g : Option Conflict) → wish (Some (Known d (Some c) g)) ≡ Some c → IfLost w (Some (Known d (Some c) g)) → Keeps told e (settled false h w n theirs (Some (Known d (Some c) g)))
-  same_content d g is lost = living_stays (Keeps told e) h w n theirs d c g lost (inl (refl, is ∙ sym (wish_is b (Some c) f free)))
+  abbrev theirs : Base
+  theirs = theirs_by told
 
-  settled_content : (x : Option Content) → Some c ≡ x → IfLost w (Some (Known theirs x None)) → Keeps told e (settled false h w n theirs (Some (Known theirs x None)))
-  settled_content x is = subst (λ (x : Option Content). IfLost w (Some (Known theirs x None)) → Keeps told e (settled false h w n theirs (Some (Known theirs x None)))) is (same_content theirs None refl)
+  same_content : (d : Base) (g : Option Conflict) → Keeps told e (Some (Known d (Some c) g)) → IfLost w (Some (Known d (Some c) g)) → Keeps told e (settled false h w n theirs (Some (Known d (Some c) g)))
+  same_content d g kept lost = living_stays (Keeps told e) h w n theirs d c g lost kept
 
-  joined_content : (x : Option Content) → x ≡ all_joined (held_by b) (Some c) (held_by theirs) → is_some x ≡ true → IfLost w (Some (Known theirs x None)) → Keeps told e (settled false h w n theirs (Some (Known theirs x None)))
-  joined_content None is some lost = absurd (true≢false (sym some))
-  joined_content (Some d) is some lost = living_stays (Keeps told e) h w n theirs theirs d None lost (inr (inl (refl, is)))
+  settled_content : IsToldSide told theirs → (x : Option Content) → Some c ≡ x → x ≡ held_by theirs → IfLost w (Some (Known theirs x None)) → Keeps told e (settled false h w n theirs (Some (Known theirs x None)))
+  settled_content side x is = subst (λ (x : Option Content). x ≡ held_by theirs → IfLost w (Some (Known theirs x None)) → Keeps told e (settled false h w n theirs (Some (Known theirs x None)))) is
+      (λ same. same_content theirs None (inr (inr (side, sym same ∙ sym (wish_is b (Some c) f free), same))))
 
-  keeps_living : (v : Verdict) → Spares v (held_by b) (Some c) (held_by theirs) → LostAfter v e theirs w → Keeps told e (ends v e theirs h w n)
-  keeps_living Stay s lost = same_content b f (wish_is b (Some c) f free) lost
-  keeps_living Mention s lost = absurd s
-  keeps_living Take s lost = absurd s
-  keeps_living Clash s lost = same_content b f (wish_is b (Some c) f free) lost
-  keeps_living Keep s lost = absurd s
-  keeps_living Candidate s lost = absurd s
-  keeps_living Settle s lost = settled_content (held_by theirs) s lost
-  keeps_living Join s lost = joined_content (all_joined (held_by b) (Some c) (held_by theirs)) refl (joined_some (held_by b) (Some c) (held_by theirs) s) lost
-  keeps_living Dispute s lost = same_content b (Some (record { why = Changed; theirs = theirs })) refl lost
+  joined_content : IsToldSide told theirs → (x : Option Content) → x ≡ all_joined (held_by b) (Some c) (held_by theirs) → is_some x ≡ true → IfLost w (Some (Known theirs x None)) → Keeps told e (settled false h w n theirs (Some (Known theirs x None)))
+  joined_content side None is some lost = absurd (true≢false (sym some))
+  joined_content side (Some d) is some lost = living_stays (Keeps told e) h w n theirs theirs d None lost (inr (inl (side, refl, is)))
 
-joined_none : (b theirs : Option Content) → all_joined b None theirs ≡ None
-joined_none None theirs = refl
-joined_none (Some b) theirs = refl
+  keeps_living : (v : Verdict) → verdict_by (Some e) told ≡ v → Spares v (held_by b) (Some c) (held_by theirs) → LostAfter v e theirs w → Keeps told e (ends v e theirs h w n)
+  keeps_living Stay is s lost = same_content b f (inl (still_to_send told e edited)) lost
+  keeps_living Mention is s lost = absurd s
+  keeps_living Take is s lost = absurd s
+  keeps_living Clash is s lost = same_content b f (inl (still_to_send told e edited)) lost
+  keeps_living Keep is s lost = absurd s
+  keeps_living Candidate is s lost = absurd s
+  keeps_living Settle is s lost = settled_content (told_there e told Settle is not_stay_settle) (held_by theirs) s refl lost
+  keeps_living Join is s lost = joined_content (told_there e told Join is not_stay_join) (all_joined (held_by b) (Some c) (held_by theirs)) refl (joined_some (held_by b) (Some c) (held_by theirs) s) lost
+  keeps_living Dispute is s lost =
+      same_content b (Some (record { why = Changed; theirs = theirs })) (inl (changes, sym (wish_is b (Some c) f free), (inl (own_side b (Some c) f), inr (told_there e told Dispute is not_stay_dispute)))) lost
+
+joins_none : (b t : Option Content) → all_join b None t ≡ true → ⊥
+joins_none None t h = true≢false (sym h)
+joins_none (Some b) t h = true≢false (sym h)
 
 -- what one that doesn't live, or came back, has in the end
 module _ (told : Option Told) (b : Base) (m : Option Content) (f : Option Conflict) (h w n : Bool) (gone : wish (Some (Known b m f)) ≡ None) where
   -- it stays,
-  as_it_is : Keeps told (Known b m f) (settled false h w n (theirs_by told) (Some (Known b m f)))
-  as_it_is = stays_gone told (Known b m f) gone h w n (theirs_by told) b m f gone (or_right (is_told_gone told) (not (is_some (held_by (known_base b f)))))
+  as_it_is : is_edited (Known b m f) ≡ true → Keeps told (Known b m f) (settled false h w n (theirs_by told) (Some (Known b m f)))
+  as_it_is edited =
+      stays_gone told (Known b m f) gone h w n (theirs_by told) b m f (inl (still_to_send told (Known b m f) edited)) (inl (last_side b m f)) (or_right (is_told_gone told) (not (is_some (held_by (known_base b f)))))
 
   -- or the server's side is what is told
-  by_told : (d : Base) (x : Option Content) (g : Option Conflict) (v : Verdict) → verdict_by (Some (Known b m f)) told ≡ v → (v ≡ Stay → ⊥) → known_base d g ≡ theirs_by told → wish (Some (Known d x g)) ≡ None
+  by_told : (d : Base) (x : Option Content) (g : Option Conflict) (v : Verdict) → verdict_by (Some (Known b m f)) told ≡ v → (v ≡ Stay → ⊥) → known_base d g ≡ theirs_by told → (IsToldSide told (theirs_by told) → Keeps told (Known b m f) (Some (Known d x g)))
       → Keeps told (Known b m f) (settled false h w n (theirs_by told) (Some (Known d x g)))
-  by_told d x g v is other same wished =
-      stays_gone told (Known b m f) gone h w n (theirs_by told) d x g wished
+  by_told d x g v is other same kept =
+      let side = told_there (Known b m f) told v is other in
+      stays_gone told (Known b m f) gone h w n (theirs_by told) d x g (kept side) (inr (subst (IsToldSide told) (sym same) side))
       (λ none. or_left (is_told_gone told) (not (is_some (held_by (known_base b f)))) (told_gone (Known b m f) told v is other (ap (λ (y : Base). not (is_some (held_by y))) (sym same) ∙ none)))
 
-keeps_deleted : (told : Option Told) (b : Base) (f : Option Conflict) (h w n : Bool) → is_withdrawn f ≡ false → (v : Verdict) → verdict_by (Some (Known b None f)) told ≡ v → Spares v (held_by b) None (held_by (theirs_by told))
-    → Keeps told (Known b None f) (ends v (Known b None f) (theirs_by told) h w n)
-keeps_deleted told b f h w n free = by
+keeps_deleted : (told : Option Told) (b : Base) (f : Option Conflict) (h w n : Bool) → is_withdrawn f ≡ false → is_edited (Known b None f) ≡ true → is_changed (Known b None f) ≡ true
+    → (v : Verdict) → verdict_by (Some (Known b None f)) told ≡ v → Spares v (held_by b) None (held_by (theirs_by told)) → Keeps told (Known b None f) (ends v (Known b None f) (theirs_by told) h w n)
+keeps_deleted told b f h w n free edited changes = by
   where
     gone : wish (Some (Known b None f)) ≡ None
     gone = wish_is b None f free
 
     by : (v : Verdict) → verdict_by (Some (Known b None f)) told ≡ v → Spares v (held_by b) None (held_by (theirs_by told)) → Keeps told (Known b None f) (ends v (Known b None f) (theirs_by told) h w n)
-    by Stay is s = as_it_is told b None f h w n gone
+    by Stay is s = as_it_is told b None f h w n gone edited
     by Mention is s = absurd s
     by Take is s = absurd s
-    by Clash is s = as_it_is told b None f h w n gone
+    by Clash is s = as_it_is told b None f h w n gone edited
     by Keep is s = absurd s
     by Candidate is s = absurd s
-    by Settle is s = by_told told b None f h w n gone (theirs_by told) (held_by (theirs_by told)) None Settle is (λ x. let other : Settle ≡ Stay = x in absurd cc) refl (sym s)
-    by Join is s = by_told told b None f h w n gone (theirs_by told) (all_joined (held_by b) None (held_by (theirs_by told))) None Join is (λ x. let other : Join ≡ Stay = x in absurd cc) refl (joined_none (held_by b) (held_by (theirs_by told)))
-    by Dispute is s = by_told told b None f h w n gone b None (Some (record { why = Changed; theirs = theirs_by told })) Dispute is (λ x. let other : Dispute ≡ Stay = x in absurd cc) refl refl
+    by Settle is s = by_told told b None f h w n gone (theirs_by told) (held_by (theirs_by told)) None Settle is not_stay_settle refl (λ side. inr (inr (side, sym s ∙ sym gone, refl)))
+    by Join is s = absurd (joins_none (held_by b) (held_by (theirs_by told)) s)
+    by Dispute is s =
+        by_told told b None f h w n gone b None (Some (record { why = Changed; theirs = theirs_by told })) Dispute is not_stay_dispute refl
+        (λ side. inl (changes, sym gone, (inl (own_side b None f), inr side)))
 
-keeps_withdrawn : (told : Option Told) (b : Base) (m : Option Content) (f : Option Conflict) (h w n : Bool) → is_withdrawn f ≡ true → (v : Verdict) → verdict_by (Some (Known b m f)) told ≡ v → Withdraws v (held_by (theirs_by told))
-    → Keeps told (Known b m f) (ends v (Known b m f) (theirs_by told) h w n)
-keeps_withdrawn told b m f h w n came = by
+keeps_withdrawn : (told : Option Told) (b : Base) (m : Option Content) (f : Option Conflict) (h w n : Bool) → is_withdrawn f ≡ true → is_edited (Known b m f) ≡ true
+    → (v : Verdict) → verdict_by (Some (Known b m f)) told ≡ v → Withdraws v (held_by (theirs_by told)) → Keeps told (Known b m f) (ends v (Known b m f) (theirs_by told) h w n)
+keeps_withdrawn told b m f h w n came edited = by
   where
     gone : wish (Some (Known b m f)) ≡ None
     gone = wish_gone b m f came
 
-    candidate : (h : Bool) → held_by (theirs_by told) ≡ None → Keeps told (Known b m f) (settled true h w n (theirs_by told) (Some (Known b m f)))
-    candidate true s = inr (inr (s ∙ sym gone))
-    candidate false s = inl (refl, sym gone)
+    candidate : (h : Bool) → IsToldSide told (theirs_by told) → held_by (theirs_by told) ≡ None → Keeps told (Known b m f) (settled true h w n (theirs_by told) (Some (Known b m f)))
+    candidate true side s = inr (inr (side, s ∙ sym gone, own_side b m f))
+    candidate false side s = inr (inr (side, s ∙ sym gone, sym s))
 
     by : (v : Verdict) → verdict_by (Some (Known b m f)) told ≡ v → Withdraws v (held_by (theirs_by told)) → Keeps told (Known b m f) (ends v (Known b m f) (theirs_by told) h w n)
-    by Stay is s = as_it_is told b m f h w n gone
+    by Stay is s = as_it_is told b m f h w n gone edited
     by Mention is s = absurd s
     by Take is s = absurd s
-    by Clash is s = as_it_is told b m f h w n gone
-    by Keep is s = by_told told b m f h w n gone (theirs_by told) (held_by (theirs_by told)) (Some (record { why = Withdrawn; theirs = theirs_by told })) Keep is (λ x. let other : Keep ≡ Stay = x in absurd cc) refl refl
-    by Candidate is s = candidate h s
+    by Clash is s = as_it_is told b m f h w n gone edited
+    by Keep is s =
+        by_told told b m f h w n gone (theirs_by told) (held_by (theirs_by told)) (Some (record { why = Withdrawn; theirs = theirs_by told })) Keep is not_stay_keep refl
+        (λ side. inl (refl, sym gone, (inr side, inr side)))
+    by Candidate is s = candidate h (told_there (Known b m f) told Candidate is not_stay_candidate) s
     by Settle is s = absurd s
     by Join is s = absurd s
     by Dispute is s = absurd s
@@ -276,17 +328,18 @@ pub merged_keeps : (t : TableValue) (m : ToldEntries) (k : Key) (e : Entry) → 
 merged_keeps t m k Incomplete is edited = absurd (true≢false (sym edited))
 merged_keeps t m k (Known b mine f) is edited =
     subst (Keeps (fin.get m k) (Known b mine f)) (sym (at_end t m k (Known b mine f) is)) (by_bool (is_withdrawn f)
-    (λ came. keeps_withdrawn (fin.get m k) b mine f _ _ _ came (verdict t m k (Known b mine f) is) refl (withdraws b mine f (fin.get m k) came))
-    (λ free. changed mine is free (sym (ap (λ r. r || is_changed (Known b mine f)) free) ∙ edited)))
+    (λ came. keeps_withdrawn (fin.get m k) b mine f _ _ _ came edited (verdict t m k (Known b mine f) is) refl (withdraws b mine f (fin.get m k) came))
+    (λ free. changed mine is free edited (sym (ap (λ r. r || is_changed (Known b mine f)) free) ∙ edited)))
   where
-    changed : (mine : Option Content) (is : entry_of t k ≡ Some (Known b mine f)) → is_withdrawn f ≡ false → is_changed (Known b mine f) ≡ true
+    changed : (mine : Option Content) (is : entry_of t k ≡ Some (Known b mine f)) → is_withdrawn f ≡ false → is_edited (Known b mine f) ≡ true → is_changed (Known b mine f) ≡ true
         → Keeps (fin.get m k) (Known b mine f) (ends (verdict t m k (Known b mine f) is) (Known b mine f) (theirs_at m k) (is_held t m k (Known b mine f) is) (is_wanted t m k (Known b mine f) is) (is_named t m k (Known b mine f) is))
-    changed None is free changes = keeps_deleted (fin.get m k) b f _ _ _ free (verdict t m k (Known b None f) is) refl (spares b None f (fin.get m k) free changes)
-    changed (Some c) is free changes = keeps_living (fin.get m k) b c f (theirs_at m k) _ _ _ free (verdict t m k (Known b (Some c) f) is) (spares b (Some c) f (fin.get m k) free changes) (lost t m k (Known b (Some c) f) is)
+    changed None is free edited changes = keeps_deleted (fin.get m k) b f _ _ _ free edited changes (verdict t m k (Known b None f) is) refl (spares b None f (fin.get m k) free changes)
+    changed (Some c) is free edited changes =
+        keeps_living (fin.get m k) b c f _ _ _ free edited changes (verdict t m k (Known b (Some c) f) is) refl (spares b (Some c) f (fin.get m k) free changes) (lost t m k (Known b (Some c) f) is)
 
 -- what stays is kept
 pub same_kept : (told : Option Told) (e : Entry) (after : Option Entry) → is_edited e ≡ true → after ≡ Some e → Keeps told e after
-same_kept told e after edited is = subst (Keeps told e) (sym is) (inl (edited_known e edited, refl))
+same_kept told e after edited is = subst (Keeps told e) (sym is) (inl (still_to_send told e edited))
 
 module _ (t : TableValue) (k : Key) (e : Entry) (is : entry_of t k ≡ Some e) where
   tested : (told : Option Told) (o : Option Refusal) (u : TableValue) (p : Option Refusal) → is_edited e ≡ true → Keeps told e (entry_of u k) → Keeps told e (entry_of (answered t (o >> (p >> Ok (done u)))).table k)

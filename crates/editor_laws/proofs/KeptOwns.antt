@@ -1,10 +1,10 @@
--- What a job doesn't name keeps its base, its conflict and its tags.
-use Rattle.std.proofs.Common.{◌≡◌, ◌≤◌, ℕ, ℤ, nat_lt, length, Bool, true, false, cond, not, List, [], ◌∷◌, map, Option, Some, None, Result, Ok, Err, refl, sym, ap, ◌∙◌, subst, arith}
+-- What a job doesn't retag keeps its base, its conflict and its tags, and so does what it doesn't name.
+use Rattle.std.proofs.Common.{◌≡◌, ◌≤◌, ℕ, ℤ, nat_lt, length, reverse, Bool, true, false, cond, not, List, [], ◌∷◌, map, Option, Some, None, Result, Ok, Err, refl, sym, ap, ◌∙◌, subst, arith}
 use Rattle.std.proofs.lemmas.Bool.{true≢false}
 use Rattle.std.specs.List.{filter}
 use Rattle.std.specs.Option.{option_map}
 use Rattle.osm_base.specs.Rank.{is_key}
-use Rattle.osm_base.specs.Content.{kind_of_content, tags_of}
+use Rattle.osm_base.specs.Content.{kind_of_content, refs_of, tags_of}
 use Rattle.osm_base.specs.Tags.{Pair}
 use Rattle.osm_base.specs.declared.key.Key.{Key}
 use Rattle.osm_base.specs.declared.coord.Coord.{Coord}
@@ -20,10 +20,10 @@ use Rattle.osm_table.specs.Table.{TableValue, entry_of, keys_by_rank}
 use Rattle.dataset.specs.Sound.{IsSound}
 use Rattle.tool_api.specs.declared.job.Job.{Job}
 use Rattle.tool_api.specs.declared.job.Job.TheVariants as job
-use Rattle.tool_api.specs.declared.kinds.Kinds.TheVariants.{Any, Nodes, Ways, NodesAndWays}
+use Rattle.tool_api.specs.declared.kinds.Kinds.TheVariants.{Any, Nodes, Ways, Relations, NodesAndWays}
 use Rattle.tool_api.specs.declared.refusal.Refusal.{Refusal}
-use Rattle.tool_api.specs.declared.refusal.Refusal.TheVariants.{NothingToSplit}
-use Rattle.tool_api.specs.Checks.{◌>>◌, is_named, first_of, when, target_test, list_tests}
+use Rattle.tool_api.specs.declared.refusal.Refusal.TheVariants.{NothingToSplit, NoFinding}
+use Rattle.tool_api.specs.Checks.{◌>>◌, is_named, first_of, when, target_test, list_tests, ref_tests}
 use Rattle.tool_api.specs.Changes.{Outcome, done, content_of, changed, with_mine, edit, delete, new_key, added, all_added}
 use Rattle.tool_api.specs.Closing.{closing, closing_tests}
 use Rattle.tool_api.specs.Basic.{with_tags, with_place, moved, move_entry_test, moved_nodes, with_refs, with_members}
@@ -31,6 +31,8 @@ use Rattle.tool_api.specs.Gone.{mended, goes, members_without, gone_keys, mended
 use Rattle.tool_api.specs.Split.{way_refs, tags_at, node_tests, complete_test, split_pieces, kept_number, keyed, piece_of, others, kept_refs, relations_of, split_table, split_into}
 use Rattle.tool_api.specs.Upkeep.{replaced}
 use Rattle.tool_api.specs.Combine.{way_test, joined, clash_test, member_test, kept_way, fold_runs, relations_among, combined_table, as_way, united, all_tags}
+use Rattle.tool_api.specs.Squeeze.{squeezed}
+use Rattle.tool_api.specs.Findings.{is_repeated}
 use Rattle.tool_api.specs.Fuse.{place_test, kept_node, fused_content, users_among, fused_table}
 use Rattle.tool_api.specs.Plain.{answered, outcome, plain}
 use Rattle.tool_api.proofs.Added.{added_at}
@@ -38,7 +40,7 @@ use Rattle.tool_api.proofs.Looks.{entry_changed, next_changed}
 use Rattle.tool_api.proofs.Named.{kept_named}
 use Rattle.editor_laws.specs.Editing.{is_merge}
 use Rattle.editor_laws.proofs.SeenContents.{IfOk}
-use Rattle.editor_laws.specs.Listed.{lists, names, IsOwn, KeepsOwn}
+use Rattle.editor_laws.specs.Listed.{lists, names, retags, IsOwn, KeepsOwn}
 use Rattle.editor_laws.proofs.KeptJobs.{filter_passes, filter_within, one_named, bound, not_new, job_leaves}
 
 -- Edits that keep the tags.
@@ -142,22 +144,52 @@ module _ (t : TableValue) (k : Key) (e : Entry) (is : entry_of t k ≡ Some e) (
   other : (j : Job) (limit : ℕ) → is_merge j ≡ false → lists j t k ≡ false → Has (plain j t limit).table
   other j limit n free = own (entry_of (plain j t limit).table k) (job_leaves t k e is sound j limit n free)
 
-  pub job_owns : (j : Job) (limit : ℕ) → is_merge j ≡ false → names j t k ≡ false → Has (plain j t limit).table
-  job_owns (job.Shift keys dx dy) limit n free = answered_has (outcome (job.Shift keys dx dy) t limit)
+  pub job_tags : (j : Job) (limit : ℕ) → is_merge j ≡ false → retags j t k ≡ false → Has (plain j t limit).table
+  job_tags (job.Shift keys dx dy) limit n free = answered_has (outcome (job.Shift keys dx dy) t limit)
       (tested (list_tests t NodesAndWays keys) _ (tested (first_of (λ m. move_entry_test dx dy m (entry_of t m)) (moved_nodes t keys)) _
       (closed limit keys (done (changed t (edit t (with_place (moved dx dy))) (moved_nodes t keys))) (edited_has t (with_place (moved dx dy)) (moved_nodes t keys) (tags_kept (with_place (moved dx dy)) (λ tags at. refl) (λ tags refs. refl) (λ tags members. refl)) (own (entry_of t k) is)))))
-  job_owns (job.Erase keys) limit n free = answered_has (outcome (job.Erase keys) t limit) (tested (list_tests t Any keys) _ (closed limit keys (done (erased t keys)) (erased_has keys free)))
-  job_owns (job.Split way nodes) limit n free =
+  job_tags (job.Place key at) limit n free = answered_has (outcome (job.Place key at) t limit)
+      (tested (target_test t Nodes key) _ (closed limit (key ∷ []) (done (changed t (edit t (with_place (λ _. at))) (key ∷ []))) (edited_has t (with_place (λ _. at)) (key ∷ []) (tags_kept (with_place (λ _. at)) (λ tags at. refl) (λ tags refs. refl) (λ tags members. refl)) (own (entry_of t k) is))))
+  job_tags (job.SetNodes key refs) limit n free = answered_has (outcome (job.SetNodes key refs) t limit)
+      (tested (target_test t Ways key) _ (tested (ref_tests t (refs_of (content.Way [] refs))) _
+      (closed limit (key ∷ []) (done (changed t (edit t (with_refs (λ _. refs))) (key ∷ []))) (edited_has t (with_refs (λ _. refs)) (key ∷ []) (tags_kept (with_refs (λ _. refs)) (λ tags at. refl) (λ tags refs. refl) (λ tags members. refl)) (own (entry_of t k) is)))))
+  job_tags (job.SetMembers key members) limit n free = answered_has (outcome (job.SetMembers key members) t limit)
+      (tested (target_test t Relations key) _ (tested (ref_tests t (refs_of (content.Relation [] members))) _
+      (closed limit (key ∷ []) (done (changed t (edit t (with_members (λ _. members))) (key ∷ []))) (edited_has t (with_members (λ _. members)) (key ∷ []) (tags_kept (with_members (λ _. members)) (λ tags at. refl) (λ tags refs. refl) (λ tags members. refl)) (own (entry_of t k) is)))))
+  job_tags (job.Erase keys) limit n free = answered_has (outcome (job.Erase keys) t limit) (tested (list_tests t Any keys) _ (closed limit keys (done (erased t keys)) (erased_has keys free)))
+  job_tags (job.Split way nodes) limit n free =
       let ps = keyed way (kept_number (split_pieces t way nodes)) 0 t.next (split_pieces t way nodes) in
       answered_has (outcome (job.Split way nodes) t limit)
       (tested (target_test t Ways way) _ (tested (node_tests (way_refs (content_of t way)) [] nodes) _ (tested (complete_test t (way_refs (content_of t way))) _
       (tested (when (nat_lt (length (split_pieces t way nodes)) 2) (NothingToSplit way)) _ (closed limit (way ∷ nodes) (split_into t way ps) (split_has way ps))))))
-  job_owns (job.Combine ways) limit n free = answered_has (outcome (job.Combine ways) t limit)
+  job_tags (job.Combine ways) limit n free = answered_has (outcome (job.Combine ways) t limit)
       (tested (list_tests t Ways ways) _ (tested (first_of (way_test t) ways) _ (bound (λ new. Has new.table) (joined t ways) _ (λ refs.
       tested (clash_test (all_tags t ways)) _ (tested (member_test t ways) _
       (closed limit ways (done (combined_table t ways refs (kept_way ways))) (combined_has ways refs (kept_way ways) (kept_named ways) free)))))))
-  job_owns (job.Merge told) limit n free = absurd (true≢false n)
-  job_owns (job.Fuse nodes) limit n free = answered_has (outcome (job.Fuse nodes) t limit)
+  job_tags (job.Reverse way) limit n free = answered_has (outcome (job.Reverse way) t limit)
+      (tested (target_test t Ways way) _ (closed limit (way ∷ []) (done (changed t (edit t (with_refs reverse)) (way ∷ []))) (edited_has t (with_refs reverse) (way ∷ []) (tags_kept (with_refs reverse) (λ tags at. refl) (λ tags refs. refl) (λ tags members. refl)) (own (entry_of t k) is))))
+  job_tags (job.Squeeze keys) limit n free = answered_has (outcome (job.Squeeze keys) t limit)
+      (tested (list_tests t Ways keys) _ (tested (first_of (λ j. when (not (is_repeated t j)) (NoFinding j)) keys) _
+      (closed limit keys (done (changed t (edit t (with_refs squeezed)) keys)) (edited_has t (with_refs squeezed) keys (tags_kept (with_refs squeezed) (λ tags at. refl) (λ tags refs. refl) (λ tags members. refl)) (own (entry_of t k) is)))))
+  job_tags (job.Merge told) limit n free = absurd (true≢false n)
+  job_tags (job.Fuse nodes) limit n free = answered_has (outcome (job.Fuse nodes) t limit)
       (tested (list_tests t Nodes nodes) _ (tested (place_test t nodes) _ (tested (clash_test (all_tags t nodes)) _
       (closed limit nodes (done (fused_table t nodes (kept_node nodes))) (fused_has nodes (kept_node nodes) (kept_named nodes) free)))))
-  job_owns j limit n free = other j limit n free
+  job_tags j limit n free = other j limit n free
+
+  -- what it doesn't name it doesn't retag
+  unnamed : (j : Job) → names j t k ≡ false → retags j t k ≡ false
+  unnamed (job.Shift keys dx dy) free = refl
+  unnamed (job.Place key at) free = refl
+  unnamed (job.SetNodes key refs) free = refl
+  unnamed (job.SetMembers key members) free = refl
+  unnamed (job.Erase keys) free = free
+  unnamed (job.Split way nodes) free = refl
+  unnamed (job.Combine ways) free = free
+  unnamed (job.Reverse way) free = refl
+  unnamed (job.Squeeze keys) free = refl
+  unnamed (job.Fuse nodes) free = free
+  unnamed j free = free
+
+  pub job_owns : (j : Job) (limit : ℕ) → is_merge j ≡ false → names j t k ≡ false → Has (plain j t limit).table
+  job_owns j limit n free = job_tags j limit n (unnamed j free)

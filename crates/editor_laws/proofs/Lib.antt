@@ -13,6 +13,7 @@ pub mod KeptJobs
 pub mod KeptJoins
 pub mod KeptMerges
 pub mod KeptOwns
+pub mod KeptShapes
 pub mod KeptRuns
 pub mod KeptSending
 pub mod TextTags
@@ -26,6 +27,13 @@ pub mod TextFiles
 pub mod TextResuming
 pub mod TextConfirming
 pub mod TextCity
+pub mod HeardJoins
+pub mod HeardMerges
+pub mod HeardSteps
+pub mod Invented
 mod SeenExamples
 mod KeptExamples
+mod HeardExamples
+mod Turned
+mod Refused
 mod TextExamples

@@ -25,7 +25,7 @@ use Rattle.editor_laws.proofs.TextContents.{held_kept, joined_of_kept}
 use Rattle.editor_laws.proofs.TextEntries.{IsTextAt, either_at, text_at, text_table}
 
 -- what is told of a key, as a base
-told_case : (s : Option Told) → ((x : Told) → s ≡ Some x → IsTextSide x) → IsTextBase (theirs_by s)
+pub told_case : (s : Option Told) → ((x : Told) → s ≡ Some x → IsTextSide x) → IsTextBase (theirs_by s)
 told_case None h = tt
 told_case (Some Mentioned) h = tt
 told_case (Some (Live version content meta)) h = h (Live version content meta) refl

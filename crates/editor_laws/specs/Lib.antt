@@ -5,6 +5,8 @@ pub mod Answered
 pub mod Kept
 pub mod Listed
 pub mod Parts
+pub mod Heard
+pub mod Invented
 pub mod Sent
 pub mod Steps
 pub mod Texts

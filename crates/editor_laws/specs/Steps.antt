@@ -7,7 +7,7 @@ use Rattle.std.specs.FinMap as fin
 use Rattle.osm_base.specs.declared.key.Key.{Key}
 use Rattle.osm_table.specs.declared.entry.Entry.{Entry}
 use Rattle.osm_table.specs.declared.told.Told.{Told}
-use Rattle.osm_table.specs.Table.{entry_of}
+use Rattle.osm_table.specs.Table.{TableValue, entry_of}
 use Rattle.dataset.specs.Sound.{IsSound}
 use Rattle.tool_api.specs.declared.job.Job.{Job}
 use Rattle.tool_api.specs.declared.job.Job.TheVariants as job
@@ -20,6 +20,7 @@ use Rattle.edit_history.specs.declared.edit_step.EditStep.{EditStep}
 use Rattle.edit_history.specs.declared.edit_step.EditStep.TheVariants.{Run, Begin, End}
 use Rattle.edit_history.specs.Machine.{State}
 use Rattle.edit_history.specs.Steps.{edited}
+use Rattle.editor_laws.specs.Heard.{HearsAll}
 use Rattle.editor_laws.specs.Kept.{is_edited, Keeps}
 use Rattle.editor_laws.specs.Listed.{lists}
 
@@ -63,3 +64,7 @@ EachStep P limit (step ∷ steps) s = P step s × EachStep P limit steps (edited
 -- the step begins with a sound table
 abbrev pub IsFromSound : EditStep → State → Type 0
 IsFromSound step s = IsSound s.now
+
+-- All news that a job tells is heard, where it is done.
+abbrev pub JobHears : ℕ → Job → TableValue → Type 0
+JobHears limit j t = (made : List Key) → (plain j t limit).reply ≡ reply.Done made → HearsAll (tells j) t (plain j t limit).table

@@ -1,12 +1,14 @@
 //! What each step leaves of what was edited here.
-ghost use Rattle.std.specs.Prelude.{◌≡◌, ℕ, List, [], false, None, Ok};
+ghost use Rattle.std.specs.Prelude.{◌≡◌, ℕ, List, [], false, true, None, Ok, Some};
 ghost use Rattle.osm_base.specs.declared.key.Key.{Key};
 ghost use Rattle.osm_base.specs.declared.content.Content.{Content};
-ghost use Rattle.osm_table.specs.Table.{TableValue};
+ghost use Rattle.osm_table.specs.declared.entry.Entry.{Entry};
+ghost use Rattle.osm_table.specs.Table.{TableValue, entry_of};
 ghost use Rattle.osm_table.specs.Told.{ToldEntries};
 ghost use Rattle.dataset.specs.Patch.{PatchValue, after_of};
 ghost use Rattle.dataset.specs.Sound.{IsSound};
 ghost use Rattle.tool_api.specs.declared.job.Job.{Job};
+ghost use Rattle.tool_api.specs.Plain.{plain};
 ghost use Rattle.tool_api.specs.Merged.{merged};
 ghost use Rattle.edit_history.specs.declared.edit_step.EditStep.{EditStep};
 ghost use Rattle.edit_history.specs.Machine.{State};
@@ -16,11 +18,13 @@ ghost use Rattle.placeholder.specs.declared.answer.Answer.{Answer};
 ghost use Rattle.placeholder.specs.Confirm.{confirm};
 ghost use Rattle.placeholder.specs.Laws.{FairAnswers};
 ghost use Rattle.editor_laws.specs.Answered.{AnswerKeeps, EachAnswer, KeepsAllCalled, names_told};
-ghost use Rattle.editor_laws.specs.Kept.{KeepsAllIn};
-ghost use Rattle.editor_laws.specs.Listed.{Leaves, LeavesOwn, lists, names};
+ghost use Rattle.editor_laws.specs.Invented.{JobInventsNone, WasEdited};
+ghost use Rattle.editor_laws.specs.Kept.{is_edited, KeepsAllIn};
+ghost use Rattle.editor_laws.specs.Listed.{Leaves, LeavesOwn, LeavesParts, lists, names};
 ghost use Rattle.editor_laws.specs.Parts.{JoinKeepsParts};
 ghost use Rattle.editor_laws.specs.Sent.{SendsEdits, SendsNoMore};
-ghost use Rattle.editor_laws.specs.Steps.{EachStep, IsFromSound, KeepsEdits};
+ghost use Rattle.editor_laws.specs.Steps.{EachStep, IsFromSound, JobHears, KeepsEdits};
+ghost use Rattle.editor_laws.specs.Texts.{BringsTexts, IsTextTable};
 
 use merge_cases::each_tag_is_picked;
 
@@ -34,9 +38,27 @@ pub fn jobs_leave_own()
     ensures { (j : Job) (t : TableValue) (limit : ℕ) (k : Key) → IsSound t → is_merge j ≡ false → names j t k ≡ false → LeavesOwn j t limit k }
 {}
 
+/// Law: of what a job names it leaves the parts that aren't asked for. A `tag` drops no geometry, and a `move` no tags; base and
+/// conflict stay with them.
+pub fn jobs_leave_parts()
+    ensures { (j : Job) (t : TableValue) (limit : ℕ) → IsSound t → is_merge j ≡ false → LeavesParts j t (plain j t limit).table }
+{}
+
 /// Law: what was edited in a table is kept in the table with a download merged into it.
 pub fn merges_keep_edits()
     ensures { (t : TableValue) (m : ToldEntries) → KeepsAllIn m t (merged t m) }
+{}
+
+/// Law: no job that is done leaves news unheard that it tells. So after a download each newer version that others made stands against
+/// mine in a conflict, or it is the base and what they changed is in mine.
+pub fn downloads_hear_others()
+    ensures { (j : Job) (t : TableValue) (limit : ℕ) → IsTextTable t → BringsTexts j → JobHears limit j t }
+{}
+
+/// Law: no job makes an edit that it doesn't list, but new objects. So a download makes none at all.
+pub fn jobs_invent_nothing()
+    ensures jobs { (j : Job) (t : TableValue) (limit : ℕ) → IsSound t → JobInventsNone limit j t }
+    ensures merges { (t : TableValue) (m : ToldEntries) → IsSound t → (k : Key) (e : Entry) → entry_of (merged t m) k ≡ Some e → is_edited e ≡ true → WasEdited (entry_of t k) }
 {}
 
 /// Law: no edit is lost in a run. Each step keeps each edited object, but those that it says it changes or forgets.

@@ -9,11 +9,16 @@
 //! what holds of all its tables.
 //!
 //! **Edits** (`edits`, files named `Kept..`). `specs/Kept` says what is wanted of an object here, which objects are edited, and
-//! when an edit is kept in what stands under its key later. A job changes or forgets what `specs/Listed` lists, and leaves all
-//! else as it is (`jobs_leave_others`); of what it lists and doesn't name it leaves the tags (`jobs_leave_own`). A download keeps
-//! all edits (`merges_keep_edits`), and so do the answers of a server, one by one (`answers_keep_edits`) and where they are
-//! taken (`confirmations_keep_edits`). So each step of an editor keeps each edited object, unless the step says that it changes
-//! or forgets it (`runs_keep_edits`), and an upload sends what is edited, and nothing else (`uploads_send_edits`).
+//! when an edit is kept in what stands under its key later: it is still to be sent, or the server is told to have it. A job changes
+//! or forgets what `specs/Listed` lists, and leaves all else as it is (`jobs_leave_others`); of what it lists and doesn't name it
+//! leaves the tags (`jobs_leave_own`), and of what it names the parts that aren't asked for (`jobs_leave_parts`). A download keeps
+//! all edits (`merges_keep_edits`), and so do the answers of a server, one by one (`answers_keep_edits`) and where they are taken
+//! (`confirmations_keep_edits`). So each step of an editor keeps each edited object, unless the step says that it changes or forgets
+//! it (`runs_keep_edits`), and an upload sends what is edited, and nothing else (`uploads_send_edits`).
+//!
+//! **Others** (`edits`, files named `Heard..` and `Invented`). A download leaves nothing unheard that others changed
+//! (`downloads_hear_others`, `specs/Heard`), and no job makes edits that nobody asked for (`jobs_invent_nothing`, `specs/Invented`).
+//! `proofs/Refused` has wrong definitions that these laws refuse, as a merge that takes theirs as the base and makes no conflict.
 //!
 //! **Texts** (`texts`, files named `Text..`). Texts come into a table by jobs, downloads and saved sessions, and all of these were
 //! read as lines. Whatever job is done with them, each text of the new table is one of the old table or of the job
@@ -25,7 +30,8 @@
 //! Advice for who changes it: a job that is added to `tool_api` gets its line in `proofs/SeenJobs`, which says that all its table
 //! has under a key is from the old table (`IsFrom` in `proofs/SeenKeeping`), and in `proofs/TextJobs`; what its contents refer to
 //! goes to `proofs/SeenContents`, which texts they have to `proofs/TextContents`. What it changes it lists in `specs/Listed`, and
-//! there, where it lists more than that, what it names; their proofs are lines of `proofs/KeptJobs` and `proofs/KeptOwns`.
+//! there, where it lists more than that, what it names; their proofs are lines of `proofs/KeptJobs` and `proofs/KeptOwns`. Whether it
+//! may give an object other tags or another shape stands there too.
 #![tactic(auto)]
 
 mod bases;
@@ -34,7 +40,8 @@ mod texts;
 
 pub use bases::{edits_keep_tables, jobs_keep_bases, merges_take_bases};
 pub use edits::{
-    answers_keep_edits, confirmations_keep_edits, jobs_leave_others, jobs_leave_own,
-    joins_keep_parts, merges_keep_edits, runs_keep_edits, uploads_send_edits,
+    answers_keep_edits, confirmations_keep_edits, downloads_hear_others, jobs_invent_nothing,
+    jobs_leave_others, jobs_leave_own, jobs_leave_parts, joins_keep_parts, merges_keep_edits,
+    runs_keep_edits, uploads_send_edits,
 };
 pub use texts::{edits_keep_texts, jobs_keep_texts, sound_tables_are_readable};

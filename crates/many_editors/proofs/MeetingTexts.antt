@@ -103,10 +103,10 @@ listed_texts : (m : Objects) → IsTextState m → (es : List (Key × WorldEntry
 listed_texts m h [] in_m = tt
 listed_texts m h (x ∷ xs) in_m = (side_texts x.1.version x.1.content (h.contents x.0 x.1 (in_m x (inl refl))), listed_texts m h xs (λ e i. in_m e (inr i)))
 
-told_texts : (m : Objects) (area : Option Area) (wanted : Option (List Pair)) → IsTextState m → IsTextTold (told_of_state m area wanted)
+pub told_texts : (m : Objects) (area : Option Area) (wanted : Option (List Pair)) → IsTextState m → IsTextTold (told_of_state m area wanted)
 told_texts m area wanted h = filtered_texts (told_objects m) area wanted (listed_texts m h (fin.entries m) (has_listed m))
 
-state_at : (ms : List Objects) (back : ℕ) (m : Objects) → AllByRecursion IsTextState ms → slice_get ms back ≡ Some m → IsTextState m
+pub state_at : (ms : List Objects) (back : ℕ) (m : Objects) → AllByRecursion IsTextState ms → slice_get ms back ≡ Some m → IsTextState m
 state_at [] back m h at = cc
 state_at (l ∷ ls) zero m h at = subst IsTextState (let same : l ≡ m = cc in same) h.0
 state_at (l ∷ ls) (suc n) m h at = state_at ls n m h.1 at
