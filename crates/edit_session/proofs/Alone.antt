@@ -18,10 +18,13 @@ use Rattle.edit_steps.specs.States.{states_before, texts, AreSound, StepsRan, St
 use Rattle.edit_steps.proofs.Gives.{none_yet, rest_given}
 use Rattle.edit_session.specs.Meet.{Seat, meet_texts}
 use Rattle.edit_session.specs.Met.{AreBegun, AreMet, IsBegun, IsMet}
+use Rattle.edit_session.specs.Parts.{StepLeavesParts}
 use Rattle.edit_session.specs.Runs.{Promised, Ran, Reached}
 use Rattle.edit_session.specs.SaidMet.{AreKeptMet, IsKeptMet}
 use Rattle.edit_session.specs.Session.{first_output, met, output, run}
 use Rattle.edit_session.specs.Uploads.{IsUpload}
+use Rattle.edit_session.proofs.Groups.{groups_first, groups_in}
+use Rattle.edit_session.proofs.Parts.{parts_first, parts_in}
 use Rattle.edit_session.proofs.Uploads.{alone_run, ends_sent, reached_sent}
 
 none_of : {X : Type 0} (P : X → Type 0) (n : ℕ) → All P (take n [])
@@ -35,6 +38,8 @@ module _ (limits : Limits) (given : List Given) (steps : List Step) (orderly : I
       record {
         tables = sound;
         uploads = ends_sent limits given steps orderly alone sound;
+        parts = parts_in limits given steps orderly (λ _. states);
+        groups = groups_in limits given steps orderly;
         keeps = subst (λ (test : Bool). AreKeptMet limits (if test then met limits given steps else [])) (sym alone) (All-nil (λ (at : Step × Given × Seat). IsKeptMet limits at.1 at.0 at.2));
         meetings = subst (λ (test : Bool). AreMet limits (if test then met limits given steps else [])) (sym alone) (All-nil (λ (at : Step × Given × Seat). IsMet limits at.1 at.0 at.2));
       }
@@ -49,6 +54,8 @@ module _ (limits : Limits) (given : List Given) (steps : List Step) (orderly : I
         text = subst (λ (meets : Bool). AppendsFront old new (if meets then meet_texts limits (take n (met limits given steps)) else texts limits (take n (states_before limits given steps first_state)))) (sym alone) reached.text;
         tables = sound;
         uploads = reached_sent limits n given steps orderly alone sound;
+        parts = parts_first limits given steps orderly n (λ _. reached.tables);
+        groups = groups_first limits given steps n orderly;
         keeps = subst (λ (test : Bool). AreKeptMet limits (take n (if test then met limits given steps else []))) (sym alone) (none_of (λ (at : Step × Given × Seat). IsKeptMet limits at.1 at.0 at.2) n);
         meetings = subst (λ (test : Bool). AreBegun limits (take n (if test then met limits given steps else []))) (sym alone) (none_of (λ (at : Step × Given × Seat). IsBegun limits at.1 at.0 at.2) n);
       }
@@ -83,6 +90,8 @@ reached_none limits old given steps front = record {
   text = front (first_output limits given steps 0);
   tables = All-nil (λ (at : Step × Given × State). IsSound at.2.now);
   uploads = All-nil (λ (at : Step × Given × State). (size : ℕ) → at.0.act ≡ Look (Upload size) → IsUpload limits at.1 at.0 size at.2);
+  parts = All-nil (λ (at : Step × Given × State). StepLeavesParts limits at.1 at.0 at.2);
+  groups = tt;
   keeps = All-nil (λ (at : Step × Given × Seat). IsKeptMet limits at.1 at.0 at.2);
   meetings = All-nil (λ (at : Step × Given × Seat). IsBegun limits at.1 at.0 at.2);
 }

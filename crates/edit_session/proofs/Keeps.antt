@@ -116,7 +116,7 @@ module _ (s : State) where
     given_kept limits given a true = nothing_kept limits a
     given_kept limits given a false = act_kept limits (act_found limits given a) a
 
-step_kept : (limits : Limits) (given : Given) (step : Step) (s : State) → IsSound s.now → IsKept limits given step s
+pub step_kept : (limits : Limits) (given : Given) (step : Step) (s : State) → IsSound s.now → IsKept limits given step s
 step_kept limits given step s sound = given_kept s sound limits given step.act (is_given_up s.group)
 
 all_kept : (limits : Limits) (steps : List (Step × Given × State)) → AreSound steps → AreKept limits steps

@@ -24,6 +24,7 @@ use Rattle.edit_script.specs.declared.step.Step.{Step}
 use Rattle.edit_history.specs.Machine.{State, refused_in}
 use Rattle.edit_history.specs.Steps.{job_move}
 use Rattle.editor_laws.specs.Answered.{KeepsAllBut, KeepsAllCalled, names_told}
+use Rattle.editor_laws.specs.Invented.{InventsNone}
 use Rattle.editor_laws.proofs.KeptAnswers.{confirm_keeps}
 use Rattle.editor_laws.proofs.KeptRuns.{job_step_keeps}
 use Rattle.many_editors.specs.Acts.{changes_met, fetch_met, send_met}
@@ -43,6 +44,7 @@ use Rattle.edit_session.specs.Meet.{Seat, found_by, meet_turn, met_turn, own, ow
 use Rattle.edit_session.specs.MeetAsked.{MayBelong}
 use Rattle.edit_session.specs.SaidMet.{answers_come, fetch_says, fetch_tells, seat_says, seat_tells, work_says, work_tells, IsKeptMet}
 use Rattle.edit_steps.specs.Turn.{reply_alone, turn}
+use Rattle.edit_session.proofs.InventsMet.{makes}
 use Rattle.edit_session.proofs.Keeps.{refused_kept, still_kept, turn_kept}
 use Rattle.edit_session.proofs.Seats.{Here, at_with, beside_with, own_at, with_kept}
 
@@ -142,8 +144,12 @@ kept_met limits given step seat here sound_meeting table belongs =
     let is_said : Key → Bool = seat_says limits f step.act seat in
     let told : Key → Option Told = seat_tells f step.act seat in
     let now = (own seat).state.now in
+    let m = makes limits f seat table step.act belongs in
     record {
       own = subst (λ (es : List Editor). KeepsAllBut answers is_said told now (get_or es seat.editor first_editor).state.now) (sym t.editors)
           (subst (λ (e : Editor). KeepsAllBut answers is_said told now e.state.now) (sym (at_with seat.editor t.change seat.meeting.editors here.within)) t.kept);
+      asked = λ none.
+          subst (λ (es : List Editor). InventsNone is_said now (get_or es seat.editor first_editor).state.now) (sym m.editors)
+          (subst (λ (e : Editor). InventsNone is_said now e.state.now) (sym (at_with seat.editor m.change seat.meeting.editors here.within)) (m.asked none));
       others = λ n other. ap (λ (es : List Editor). slice_get es n) t.editors ∙ beside_with seat.editor n t.change seat.meeting.editors other;
     }

@@ -1,5 +1,5 @@
 -- A session is right, whether it came to its end or stopped.
-use Rattle.std.proofs.Common.{◌≡◌, ◌⊎◌, inl, inr, ℕ, Bool, List, Option, None, Some, IfSome, Result, Ok, Err, refl, ap, subst}
+use Rattle.std.proofs.Common.{◌≡◌, ◌⊎◌, ◌<◌, ◌∙◌, inl, inr, ℕ, Bool, List, None, Result, Ok, Err, refl, sym, ap, subst}
 use Rattle.osm_outside.specs.Outside.{Rose}
 use Rattle.command_line.specs.Words.{command_of}
 use Rattle.tool_api.specs.declared.verb.Verb.{Verb}
@@ -7,13 +7,15 @@ use Rattle.edit_session.specs.declared.status.Status.{Status}
 use Rattle.edit_session.specs.declared.status.Status.TheVariants as status
 use Rattle.edit_steps.specs.declared.stop.Stop.{Stop}
 use Rattle.edit_steps.specs.declared.stop.Stop.TheVariants as stops
-use Rattle.edit_steps.specs.Needs.{Misses}
+use Rattle.edit_steps.specs.Needs.{count_verb}
 use Rattle.edit_session.specs.Moment.{Outside}
 use Rattle.edit_session.specs.Right.{IsRight, IsRightOfSome}
-use Rattle.edit_session.specs.Session.{outcome, IsAsked, IsEarly, IsEnd, IsStop}
+use Rattle.edit_session.specs.Session.{outcome_by, IsAsked, IsEarly, IsEnd, IsStop}
 use Rattle.edit_steps.specs.Stop.{StopCause}
 use Rattle.edit_session.specs.StopStatus.{status_of}
-use Rattle.edit_session.proofs.Words.{ComesTo, agrees_over, confirms_over, done_over, keeps_over, meetings_over, runs_ended, runs_stopped, saves_over, uploads_over}
+use Rattle.edit_session.proofs.Confirms.{confirmed_by}
+use Rattle.edit_session.proofs.Missing.{missed_by}
+use Rattle.edit_session.proofs.Words.{ComesTo, agrees_by, cut_short, keeps_by, meetings_by, no_stop, saves_by, stopped_by, tables_by, uploads_by}
 
 -- what words that ask for nothing come to
 abbrev IsBad : Result Status Stop → Type 0
@@ -66,23 +68,26 @@ by_memory stops.ReadFault R W read write no_read no_write = absurd (no_read (rea
 by_memory stops.WriteFault R W read write no_read no_write = absurd (no_write (write refl))
 by_memory stops.Memory R W read write no_read no_write = refl
 
-of_any : {T : Type 0} (o : Option T) (P : T → Type 0) → ((x : T) → P x) → IfSome o P
-of_any None P all = tt
-of_any (Some x) P all = all x
+not_done : (stop : Stop) → status_of stop ≡ status.Done → ⊥
+not_done stops.ReadFault is = cc
+not_done stops.WriteFault is = cc
+not_done stops.Memory is = cc
 
 module _ {S K : Type 0} (verbs : List Verb) (words : List (List ℕ)) (before after : Outside S K) where
   pub right_ended : (answer : Status) → IsEnd answer → ComesTo before.files verbs words before.text after.text (Ok answer)
       → StopCause {T = Status} before.read_faults after.read_faults before.write_faults after.write_faults (Ok answer)
       → after.files ≡ before.files → (IsEarly answer → after.sink ≡ before.sink) → IsAsked after.begun answer
-      → ((verb : Verb) → answer ≡ status.NoTool verb → Misses verbs verb) → (answer ≡ status.BadWords → command_of words ≡ None)
+      → ((verb : Verb) → answer ≡ status.NoTool verb → count_verb verbs verb < 4) → (answer ≡ status.BadWords → command_of words ≡ None)
       → (command_of words ≡ None → IsBad (Ok answer)) → (command_of words ≡ None → (after.shelf ≡ before.shelf) × (after.sink ≡ before.sink))
       → IsRight verbs words before after answer
   right_ended answer end comes cause told unwritten asked no_tool bad bad_is unread =
-      let ran = runs_ended before.files verbs words before.text after.text answer end comes in
+      let given = comes.given in
       record {
-        runs = ran;
-        outcome = agrees_over before.files verbs words before.text after.text answer ran;
-        complete = done_over (Rose before.read_faults after.read_faults → ⊥) (Rose before.write_faults after.write_faults → ⊥) before.files verbs words before.text after.text answer comes;
+        given = given;
+        by_files = comes.by_files;
+        outcome = agrees_by before.text after.text answer (outcome_by verbs words given) end comes.ok;
+        stopped = λ stop. absurd (no_stop answer end stop);
+        complete = λ done no_read no_write. inl (comes.ok.0 ∙ done);
         read = λ is. absurd (subst IsEnd is end);
         write = λ is. absurd (subst IsEnd is end);
         read_quiet = λ other. cause.read_quiet (λ is. cc);
@@ -94,12 +99,13 @@ module _ {S K : Type 0} (verbs : List Verb) (words : List (List ℕ)) (before af
         unwritten = unwritten;
         asked = asked;
         told = told;
-        no_tool = no_tool;
-        uploads = uploads_over before.files verbs words before.text after.text answer ran;
-        saves = saves_over before.files verbs words before.text after.text answer ran;
-        confirms = confirms_over before.files words;
-        meetings = meetings_over before.files verbs words before.text after.text answer ran;
-        keeps = keeps_over before.files verbs words before.text after.text answer ran;
+        no_tool = λ verb is. missed_by verbs verb (command_of words) given (no_tool verb is) (sym comes.ok.0 ∙ is);
+        tables = λ done. tables_by (command_of words) given (comes.done done);
+        uploads = λ done. uploads_by (command_of words) given (comes.done done);
+        saves = λ done. saves_by (command_of words) given (comes.done done);
+        confirms = confirmed_by (command_of words) given;
+        meetings = λ done. meetings_by (command_of words) given (comes.done done);
+        keeps = λ done. keeps_by (command_of words) given (comes.done done);
       }
 
   pub right_stopped : (stop : Stop) → ComesTo before.files verbs words before.text after.text (Err stop)
@@ -107,14 +113,14 @@ module _ {S K : Type 0} (verbs : List Verb) (words : List (List ℕ)) (before af
       → after.files ≡ before.files → (command_of words ≡ None → IsBad (Err stop)) → (command_of words ≡ None → (after.shelf ≡ before.shelf) × (after.sink ≡ before.sink))
       → IsRight verbs words before after (status_of stop)
   right_stopped stop comes cause told bad_is unread =
-      let ran = runs_stopped before.files verbs words before.text after.text stop comes in
+      let given = comes.given in
       record {
-        runs = ran;
-        outcome = agrees_over before.files verbs words before.text after.text (status_of stop) ran;
-        complete = of_any before.files (λ files. (outcome verbs words files).0 ≡ status.Done
-            → (Rose before.read_faults after.read_faults → ⊥) → (Rose before.write_faults after.write_faults → ⊥) → (status_of stop ≡ status.Done) ⊎ (status_of stop ≡ status.Memory))
-            (λ files done no_read no_write. inr (by_memory stop (Rose before.read_faults after.read_faults) (Rose before.write_faults after.write_faults)
-            (λ is. cause.read (ap Err is)) (λ is. cause.write (ap Err is)) no_read no_write));
+        given = given;
+        by_files = comes.by_files;
+        outcome = cut_short before.text after.text stop (outcome_by verbs words given) comes.err;
+        stopped = λ is. stopped_by (command_of words) before.text after.text given comes.stopped;
+        complete = λ done no_read no_write. inr (by_memory stop (Rose before.read_faults after.read_faults) (Rose before.write_faults after.write_faults)
+            (λ is. cause.read (ap Err is)) (λ is. cause.write (ap Err is)) no_read no_write);
         read = λ is. cause.read (ap Err (read_told stop is));
         write = λ is. cause.write (ap Err (write_told stop is));
         read_quiet = λ other. cause.read_quiet (λ is. other (ap status_of (same_stop stop stops.ReadFault is)));
@@ -127,11 +133,12 @@ module _ {S K : Type 0} (verbs : List Verb) (words : List (List ℕ)) (before af
         asked = nothing_asked after.begun stop;
         told = told;
         no_tool = λ verb is. absurd (subst IsStop is (is_stop stop));
-        uploads = uploads_over before.files verbs words before.text after.text (status_of stop) ran;
-        saves = saves_over before.files verbs words before.text after.text (status_of stop) ran;
-        confirms = confirms_over before.files words;
-        meetings = meetings_over before.files verbs words before.text after.text (status_of stop) ran;
-        keeps = keeps_over before.files verbs words before.text after.text (status_of stop) ran;
+        tables = λ done. absurd (not_done stop done);
+        uploads = λ done. absurd (not_done stop done);
+        saves = λ done. absurd (not_done stop done);
+        confirms = confirmed_by (command_of words) given;
+        meetings = λ done. absurd (not_done stop done);
+        keeps = λ done. absurd (not_done stop done);
       }
 
 -- The verbs are those of the tools, however they are told.
@@ -147,8 +154,10 @@ of_some verbs words before after answer right = (
   unnamed before,
   unnamed after,
   record {
-    runs = right.runs;
+    given = right.given;
+    by_files = right.by_files;
     outcome = right.outcome;
+    stopped = right.stopped;
     complete = right.complete;
     read = right.read;
     write = right.write;
@@ -162,6 +171,7 @@ of_some verbs words before after answer right = (
     asked = right.asked;
     told = right.told;
     no_tool = right.no_tool;
+    tables = right.tables;
     uploads = right.uploads;
     saves = right.saves;
     confirms = right.confirms;

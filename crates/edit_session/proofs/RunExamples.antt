@@ -79,7 +79,7 @@ use Rattle.edit_steps.specs.Planned.{on_plan, planned, upload_answer}
 use Rattle.edit_session.specs.Session.{line_given, run, steps_read}
 use Rattle.edit_steps.specs.States.{states_before}
 use Rattle.edit_steps.specs.Turn.{file_turn, job_turn, step_turn}
-use Rattle.edit_session.specs.Uploads.{AreUploads, AreUploadsOf, IsUpload, run_of}
+use Rattle.edit_session.specs.Uploads.{AreUploads, AreUploadsBy, IsUpload, run_of}
 
 -- ---- words on the objects
 
@@ -335,7 +335,7 @@ before_upload =
     ∙ after_delete
 
 -- What is promised of the uploads of this session is promised of its last step.
-upload_promised : AreUploadsOf (Some asked) files → IsUpload limits None uploading 100 ready
+upload_promised : AreUploadsBy (Some asked) (line_given (Some asked) files) → IsUpload limits None uploading 100 ready
 upload_promised promised =
     let over : AreUploads limits (states_before limits given steps first_state) = subst (AreUploads limits) run_is promised in
     let fifth : 4 < 5 = omega arith in
@@ -419,7 +419,7 @@ new_id : AreFresh server edited sent (pos 7 ∷ [])
 new_id = (refl, stands_is (node (pos 7)), entry_is (node (pos 7)), (λ among. among), tt)
 
 -- So it is promised that the server takes them, and has the edits then.
-is_taken : AreUploadsOf (Some asked) files → (v : World) × (run_from 1 server sent (pos 7 ∷ []) ≡ Ended v) × IsEdited edited server v
+is_taken : AreUploadsBy (Some asked) (line_given (Some asked) files) → (v : World) × (run_from 1 server sent (pos 7 ∷ []) ≡ Ended v) × IsEdited edited server v
 is_taken promised =
     let upload = (upload_promised promised).sent replies_ok in
     let both : Ok upload.changes ≡ Ok sent = sym upload.planned ∙ is_sent in

@@ -73,7 +73,7 @@ read_brings : (r : Result (List Step) ℕ) → IfSteps r → StepsBringTexts (st
 read_brings (Ok steps) h = h
 read_brings (Err line) h = tt
 
-in_brings : (f : Fetched) → StepsBringTexts (steps_in f)
+pub in_brings : (f : Fetched) → StepsBringTexts (steps_in f)
 in_brings Missing = tt
 in_brings TooLong = tt
 in_brings (Whole bytes) = read_brings (steps_of bytes) (script_brings bytes)

@@ -32,7 +32,7 @@ use Rattle.edit_steps.specs.Turn.{Turn, turn}
 use Rattle.edit_session.proofs.Texts.{AreTextTables, FoundBrings, HaveTexts, first_texts, found_brings, if_given, turn_texts}
 
 -- the editor with this number, or one that has done nothing
-own_texts : (es : List Editor) (n : ℕ) → AllByRecursion IsTextEditor es → IsTextEditor (get_or es n first_editor)
+pub own_texts : (es : List Editor) (n : ℕ) → AllByRecursion IsTextEditor es → IsTextEditor (get_or es n first_editor)
 own_texts [] n h = first_texts
 own_texts (e ∷ es) zero h = h.0
 own_texts (e ∷ es) (suc n) h = own_texts es n h.1
@@ -73,12 +73,12 @@ work_texts limits f (act.Meet meet.Lost) seat i j h = h
 work_texts limits f a seat i j h = own_turn_texts (turn limits f a (own seat).state) seat (turn_texts limits f a (own seat).state i j (own_texts seat.meeting.editors seat.editor h.editors)) h
 
 -- A step keeps it so,
-seat_texts : (limits : Limits) (f : Found) (a : Act) (seat : Seat) → FoundBrings f → ActBringsTexts a → IsTextMeeting seat.meeting → IsTextMeeting (meet_turn limits f a seat).seat.meeting
+pub seat_texts : (limits : Limits) (f : Found) (a : Act) (seat : Seat) → FoundBrings f → ActBringsTexts a → IsTextMeeting seat.meeting → IsTextMeeting (meet_turn limits f a seat).seat.meeting
 seat_texts limits f (act.Editor n) seat i j h = h
 seat_texts limits f (act.Serve name) seat i j h = serve_texts f seat i h
 seat_texts limits f a seat i j h = either_seat (is_some (own seat).waits) (wait_turn a seat) (work_turn limits f a seat) (wait_texts a seat h) (work_texts limits f a seat i j h)
 
-met_brings : (limits : Limits) (given : Given) (e : Editor) (a : Act) → FoundBrings (found_by limits given e a)
+pub met_brings : (limits : Limits) (given : Given) (e : Editor) (a : Act) → FoundBrings (found_by limits given e a)
 met_brings limits given e a = if_given (is_some e.waits) (found_in limits given e.state.group a) (if_given (is_given_up e.state.group) (act_found limits given a) (found_brings limits given a))
 
 -- and so it is before each step.

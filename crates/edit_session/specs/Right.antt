@@ -8,29 +8,32 @@ use Rattle.command_line.specs.Words.{command_of}
 use Rattle.tool_api.specs.declared.verb.Verb.{Verb}
 use Rattle.edit_session.specs.declared.status.Status.{Status}
 use Rattle.edit_session.specs.declared.status.Status.TheVariants as status
-use Rattle.edit_session.specs.Confirms.{AreConfirmedOf}
-use Rattle.edit_session.specs.Keeps.{AreKeptOf}
-use Rattle.edit_session.specs.Met.{AreMetOf}
+use Rattle.edit_session.specs.Confirms.{AreConfirmedBy}
+use Rattle.edit_session.specs.Keeps.{AreKeptBy}
+use Rattle.edit_session.specs.Met.{AreMetBy}
+use Rattle.edit_session.specs.Missed.{MissesBy}
 use Rattle.edit_session.specs.Moment.{Outside}
-use Rattle.edit_steps.specs.Needs.{Misses}
-use Rattle.edit_session.specs.Runs.{Runs}
-use Rattle.edit_session.specs.Saves.{AreSavesOf}
-use Rattle.edit_session.specs.Session.{outcome as outcome_of, Agrees, IsAsked, IsEarly}
-use Rattle.edit_session.specs.Uploads.{AreUploadsOf}
+use Rattle.edit_steps.specs.Given.{Given}
+use Rattle.edit_session.specs.Runs.{AreSoundBy, LineStopped}
+use Rattle.edit_session.specs.Saves.{AreSavesBy}
+use Rattle.edit_session.specs.Session.{outcome_by, line_given, Agrees, IsAsked, IsEarly, IsStop}
+use Rattle.edit_session.specs.Uploads.{AreUploadsBy}
 
 -- What is right of a session with tools of these verbs, asked for by these words, that found the shelf and the sink so, left them
--- so, and answered this status. Each field is a promise of its own.
+-- so, and answered this status. Each field but the first two is a promise of its own.
 pub record IsRight {S K : Type 0} (verbs : List Verb) (asked_for : List (List ℕ)) (before after : Outside S K) (answer : Status) : Type 0 where
-  -- There is a list of what the reads may have given, also if a file changed meanwhile, for which the status is that of the
-  -- outcome and the sink took its text; after a fault or want of memory it took a front of the text.
-  pub runs : Runs before.files verbs asked_for before.text after.text answer
-  -- Where the shelf tells its files, the status is that of the outcome and the sink took its text; after a fault
-  -- or want of memory it took a front of the text.
-  pub outcome : IfSome before.files (λ files. Agrees before.text after.text answer (outcome_of verbs asked_for files))
+  -- What the reads gave: the script's bytes first, and then those of the file of each step. A file may have changed meanwhile. All
+  -- that is said below of scripts and files is said of just this; where the shelf tells its files, it is what they hold.
+  pub given : List Given
+  pub by_files : IfSome before.files (λ files. given ≡ line_given (command_of asked_for) files)
+  -- The status is that of the outcome and the sink took its text; after a fault or want of memory it took a front of the text.
+  pub outcome : Agrees before.text after.text answer (outcome_by verbs asked_for given)
+  -- That front is one of the text of the steps that were reached, for which the promises hold.
+  pub stopped : IsStop answer → LineStopped (command_of asked_for) before.text after.text given
   -- It doesn't give up by itself, but for memory.
-  pub complete : IfSome before.files (λ files. (outcome_of verbs asked_for files).0 ≡ status.Done
+  pub complete : (outcome_by verbs asked_for given).0 ≡ status.Done
       → (Rose before.read_faults after.read_faults → ⊥) → (Rose before.write_faults after.write_faults → ⊥)
-      → (answer ≡ status.Done) ⊎ (answer ≡ status.Memory))
+      → (answer ≡ status.Done) ⊎ (answer ≡ status.Memory)
   -- A fault is told only where a call failed.
   pub read : answer ≡ status.ReadFault → Rose before.read_faults after.read_faults
   pub write : answer ≡ status.WriteFault → Rose before.write_faults after.write_faults
@@ -48,25 +51,30 @@ pub record IsRight {S K : Type 0} (verbs : List Verb) (asked_for : List (List �
   pub asked : IsAsked after.begun answer
   -- What the shelf tells of its files stays.
   pub told : after.files ≡ before.files
-  -- A tool is missed only where a script misses it: fewer boxes have its verb than the number of an editor that needs it.
-  pub no_tool : (verb : Verb) → answer ≡ status.NoTool verb → Misses verbs verb
+  -- A tool is missed only where the script's steps miss it: one of them needs it, and fewer boxes have its verb than there are editors.
+  pub no_tool : (verb : Verb) → answer ≡ status.NoTool verb → MissesBy (command_of asked_for) given verbs verb
+  -- Each table of the run is sound.
+  pub tables : answer ≡ status.Done → AreSoundBy (command_of asked_for) given
   -- Each upload of the run replies ok exactly where nothing refuses the plan of the table. Its text is then the changes in
   -- chunks, and each sound server that has the bases, and nothing else that refers to what is deleted, takes each prefix of
-  -- them whatever fresh ids it picks, and has the edited data after the last.
-  pub uploads : answer ≡ status.Done → IfSome before.files (AreUploadsOf (command_of asked_for))
+  -- them whatever fresh ids it picks, and has the edited data after the last. Whatever others did meanwhile, it overwrites nothing
+  -- unseen.
+  pub uploads : answer ≡ status.Done → AreUploadsBy (command_of asked_for) given
   -- Each save of the run writes a text that is read back as the very table, and from which a `resume` goes on with it.
-  pub saves : answer ≡ status.Done → IfSome before.files (AreSavesOf (command_of asked_for))
+  pub saves : answer ≡ status.Done → AreSavesBy (command_of asked_for) given
   -- Each confirmation of the run by which a server tells what it took of the plan is taken, and from the table after it the
-  -- upload goes on: its plan is what was left.
-  pub confirms : IfSome before.files (AreConfirmedOf (command_of asked_for))
+  -- upload goes on: its plan is what was left. It is taken after a refusal too, and the table is again from that server's states.
+  pub confirms : AreConfirmedBy (command_of asked_for) given
   -- In a meeting nothing is overwritten unseen: the server is sound before and after each step, each base in each table of each
   -- editor is what the server had in one of its states, each positive key of it stands at the server, each change of a send
   -- that the server accepts finds there what the editor's table has as base, and no fetch is refused as a version clash. What is
   -- written there by an upload, a save or another look at a table is what `uploads` and `saves` speak of.
-  pub meetings : answer ≡ status.Done → IfSome before.files (AreMetOf (command_of asked_for))
+  pub meetings : answer ≡ status.Done → AreMetBy (command_of asked_for) given
   -- No edit is lost: each step of the run keeps what is wanted of each edited object of which it doesn't say that it changes or
-  -- forgets it, under the id that it got where answers are taken. In a meeting no step touches another editor's table.
-  pub keeps : answer ≡ status.Done → IfSome before.files (AreKeptOf (command_of asked_for))
+  -- forgets it. It is still to be sent, or the server is told to have it, and it is there under the id that it got where answers are
+  -- taken. None is made up: what is edited after a step was so before, or is new, or the step says so. And what others changed is
+  -- heard: whatever a step tells in a newer version. In a meeting no step touches another editor's table.
+  pub keeps : answer ≡ status.Done → AreKeptBy (command_of asked_for) given
 
 -- It is right of some shelf and some sink. A function that makes its own and shows them to nobody can say no more: that they are
 -- the ones that it handed on stands in its body alone.

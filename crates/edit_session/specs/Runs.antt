@@ -2,47 +2,54 @@
 use Rattle.std.specs.Prelude.{◌≡◌, ℕ, List, drop, take, Option, None, Some, IfSome, Result, OnOk, OnErr}
 use Rattle.std.specs.Io.KnownBytes.{Appends}
 use Rattle.osm_outside.specs.Outside.{Shelved, AppendsFront}
-use Rattle.command_line.specs.Words.{CommandLineValue, command_of}
-use Rattle.tool_api.specs.declared.verb.Verb.{Verb}
+use Rattle.command_line.specs.Words.{CommandLineValue}
 use Rattle.edit_script.specs.declared.step.Step.{Step}
 use Rattle.edit_steps.specs.declared.limits.Limits.{Limits}
-use Rattle.edit_session.specs.declared.status.Status.{Status}
-use Rattle.edit_session.specs.declared.status.Status.TheVariants as status
-use Rattle.edit_session.specs.Confirms.{AreConfirmedBy}
 use Rattle.edit_steps.specs.Fetch.{reading}
 use Rattle.edit_steps.specs.Given.{Given, first_given, all_given}
 use Rattle.edit_steps.specs.Limits.{limits_of}
 use Rattle.edit_steps.specs.States.{AreSound}
-use Rattle.edit_session.specs.Keeps.{AreKeptBy}
-use Rattle.edit_session.specs.Met.{AreBegun, AreMet, AreMetBy}
+use Rattle.edit_session.specs.Heard.{AreHeard, AreHeardMet}
+use Rattle.edit_session.specs.Invents.{AreAsked}
+use Rattle.edit_session.specs.Groups.{AreTakenBack}
+use Rattle.edit_session.specs.Met.{AreBegun, AreMet}
+use Rattle.edit_session.specs.Parts.{LeaveParts}
 use Rattle.edit_session.specs.Said.{AreKept, alone}
 use Rattle.edit_session.specs.SaidMet.{AreKeptMet}
-use Rattle.edit_session.specs.Saves.{AreSaves, AreSavesBy}
-use Rattle.edit_session.specs.Session.{output, first_output, run, meetings, steps_in, IsStop, outcome_by, line_given, Agrees}
-use Rattle.edit_session.specs.Uploads.{AreUploads, AreUploadsBy}
+use Rattle.edit_session.specs.Saves.{AreSaves}
+use Rattle.edit_session.specs.Session.{output, first_output, run, meetings, steps_in}
+use Rattle.edit_session.specs.Uploads.{AreUploads, run_of}
 
 -- What holds of these steps where each of them ran and was given this.
 pub record Promised (limits : Limits) (given : List Given) (steps : List Step) : Type 0 where
   pub tables : AreSound (run limits given steps)
   pub uploads : AreUploads limits (run limits given steps)
+  pub parts : LeaveParts limits (alone limits given steps)
+  pub groups : AreTakenBack limits (alone limits given steps)
   pub keeps : AreKeptMet limits (meetings limits given steps)
   pub meetings : AreMet limits (meetings limits given steps)
 
 -- What holds where they stopped: what was written is a front of the text of the first of them, and the tables of these are
--- sound, their uploads sent, and what they do in a meeting is promised up to the last of them, which may have stopped midway.
+-- sound, their uploads sent, no job drops what it isn't asked for, a refusal takes back no more than its group, and what they do in a
+-- meeting is promised up to the last of them, which may have stopped midway.
 pub record Reached (limits : Limits) (old new : Option (List ℕ)) (given : List Given) (steps : List Step) : Type 0 where
   pub count : ℕ
   pub text : AppendsFront old new (first_output limits given steps count)
   pub tables : AreSound (take count (run limits given steps))
   pub uploads : AreUploads limits (take count (run limits given steps))
+  pub parts : LeaveParts limits (take count (alone limits given steps))
+  pub groups : AreTakenBack limits (take count (alone limits given steps))
   pub keeps : AreKeptMet limits (take count (meetings limits given steps))
   pub meetings : AreBegun limits (take count (meetings limits given steps))
 
--- And of the first steps of a script the saves are read back, and no edit is lost.
+-- And of the first steps of a script the saves are read back, no edit is lost or made up, and what others changed is heard.
 pub record Stopped (limits : Limits) (old new : Option (List ℕ)) (given : List Given) (steps : List Step) : Type 0 where
   pub reached : Reached limits old new given steps
   pub saves : AreSaves limits (take reached.count (run limits given steps))
   pub keeps : AreKept limits (take reached.count (alone limits given steps))
+  pub asked : AreAsked limits (take reached.count (alone limits given steps))
+  pub heard : AreHeard limits (take reached.count (alone limits given steps))
+  pub heard_met : AreHeardMet limits (take reached.count (meetings limits given steps))
 
 -- and of those of the script that was given first,
 abbrev pub NamePromised : Limits → List Given → Type 0
@@ -73,17 +80,7 @@ pub record Ran {T E : Type 0} (limits : Limits) (told : Option Shelved) (old new
   pub promised : OnOk result (Promised limits given steps)
   pub reached : OnErr result (Reached limits old new given steps)
 
--- What the reads of a session gave: the script's name first, and then the file of each step, which may have changed meanwhile.
--- The status is that of the outcome of just this, and the sink took its text, or after a fault or want of memory a front of
--- it: of the text of the steps that were reached, for which the promises hold. Where the shelf tells its files, it is what they
--- hold.
-pub record Runs (told : Option Shelved) (verbs : List Verb) (words : List (List ℕ)) (old new : Option (List ℕ)) (result : Status) : Type 0 where
-  pub given : List Given
-  pub by_files : IfSome told (λ files. given ≡ line_given (command_of words) files)
-  pub agrees : Agrees old new result (outcome_by verbs words given)
-  pub stopped : IsStop result → LineStopped (command_of words) old new given
-  pub uploads : result ≡ status.Done → AreUploadsBy (command_of words) given
-  pub saves : result ≡ status.Done → AreSavesBy (command_of words) given
-  pub confirms : AreConfirmedBy (command_of words) given
-  pub meetings : result ≡ status.Done → AreMetBy (command_of words) given
-  pub keeps : result ≡ status.Done → AreKeptBy (command_of words) given
+-- Each table of the run that a command line asks for is sound where its reads gave this, if the words are one.
+abbrev pub AreSoundBy : Option CommandLineValue → List Given → Type 0
+AreSoundBy None given = Unit {0}
+AreSoundBy (Some line) given = AreSound (run_of (limits_of line) given)

@@ -18,6 +18,7 @@ use Rattle.edit_script.specs.declared.step.MeetStep.TheVariants as meet
 use Rattle.edit_script.specs.declared.step.Step.{Step}
 use Rattle.edit_history.specs.Machine.{State}
 use Rattle.editor_laws.specs.Answered.{KeepsAllBut}
+use Rattle.editor_laws.specs.Invented.{InventsNone}
 use Rattle.editor_laws.specs.Steps.{job_says, tells}
 use Rattle.many_editors.specs.Meeting.{Meeting, first_editor, states}
 use Rattle.many_editors.specs.Serving.{told_of_state}
@@ -65,8 +66,9 @@ answers_come (Meet meet.Answer) seat = (own seat).waits
 answers_come act seat = None
 
 -- Each edited object of the editor's table of which the step doesn't say so is kept, under the id that it got where answers come.
--- Every other editor stays as it is.
+-- Where none come, nothing else is edited after it than before, but what is new. Every other editor stays as it is.
 pub record IsKeptMet (limits : Limits) (given : Given) (step : Step) (seat : Seat) : Type 0 where
+  pub asked : answers_come step.act seat ≡ None → InventsNone (seat_says limits (found_by limits given (own seat) step.act) step.act seat) (table_at seat.editor seat.meeting) (table_at seat.editor (meet_step limits given step seat).seat.meeting)
   pub own : KeepsAllBut (answers_come step.act seat) (seat_says limits (found_by limits given (own seat) step.act) step.act seat) (seat_tells (found_by limits given (own seat) step.act) step.act seat) (table_at seat.editor seat.meeting) (table_at seat.editor (meet_step limits given step seat).seat.meeting)
   pub others : (n : ℕ) → n ≢ seat.editor → slice_get (meet_step limits given step seat).seat.meeting.editors n ≡ slice_get seat.meeting.editors n
 

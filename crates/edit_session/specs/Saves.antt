@@ -5,7 +5,6 @@
 use Rattle.std.specs.Prelude.{◌≡◌, ◌≤◌, ℕ, true, List, [], ◌++◌, Option, None, Some, Ok}
 use Rattle.std.specs.List.{All, list_all}
 use Rattle.std.specs.FinMap as fin
-use Rattle.osm_outside.specs.Outside.{Shelved}
 use Rattle.command_line.specs.Words.{CommandLineValue}
 use Rattle.saved_session.specs.Resumed.{saved_table}
 use Rattle.saved_session.specs.Savable.{is_before}
@@ -20,7 +19,6 @@ use Rattle.edit_steps.specs.declared.limits.Limits.{Limits}
 use Rattle.edit_steps.specs.declared.loading.Found.TheVariants.{Bytes}
 use Rattle.edit_steps.specs.Given.{Given}
 use Rattle.edit_steps.specs.Limits.{limits_of}
-use Rattle.edit_session.specs.Session.{line_given}
 use Rattle.edit_steps.specs.Turn.{done_turn, resume_turn, step_text, step_turn}
 use Rattle.edit_session.specs.Uploads.{run_of}
 
@@ -41,7 +39,3 @@ AreSaves limits steps = All (λ (at : Step × Given × State). at.0.act ≡ Look
 abbrev pub AreSavesBy : Option CommandLineValue → List Given → Type 0
 AreSavesBy None given = Unit {0}
 AreSavesBy (Some line) given = AreSaves (limits_of line) (run_of (limits_of line) given)
-
--- And over these files.
-abbrev pub AreSavesOf : Option CommandLineValue → Shelved → Type 0
-AreSavesOf asked files = AreSavesBy asked (line_given asked files)

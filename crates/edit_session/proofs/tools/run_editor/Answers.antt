@@ -1,10 +1,12 @@
-use Rattle.std.proofs.Common.{◌≡◌, ◌≤◌, List, [], ◌++◌, ◌∙◌, ap, map, string_bytes, refl, arith}
+use Rattle.std.proofs.Common.{◌≡◌, ◌≤◌, List, [], ◌++◌, Option, None, Some, ◌∙◌, ap, map, string_bytes, refl, arith}
 use Rattle.tool_api.specs.declared.verb.Verb.{Verb}
 use Rattle.tool_api.specs.declared.verb.Verb.TheVariants.{Add, Tag, Move, Change, Delete, Erase, Purge, Split, Combine, Reverse, Merge, Import, Resolve, Squeeze, Fuse}
-use Rattle.edit_steps.specs.Needs.{Misses, count_verb}
+use Rattle.command_line.specs.Words.{CommandLineValue, command_of}
+use Rattle.edit_steps.specs.Given.{Given}
+use Rattle.edit_steps.specs.Needs.{count_verb}
+use Rattle.edit_session.specs.Missed.{MissesBy}
 use Rattle.edit_session.specs.Verbs.{IsNew, four_of, four_of_each}
 use Rattle.edit_session.specs.contracts.tools.with_four.{dyn-1-ghosts}
-use Rattle.edit_session.proofs.Missing.{never_missed}
 use Rattle.edit_session.proofs.Right.{with_verbs}
 use Rattle.edit_session.proofs.tools.run_editor.OwnLists.{own-1, lawful-own-1, at-1-1, at-1-2, at-1-3, at-1-4, at-1-5, at-1-6, at-1-7, at-1-8, at-1-9, at-1-10, at-1-11, at-1-12, at-1-13, at-1-14, at-1-15}
 use Rattle.edit_session.proofs.tools.run_editor.Goals as goal
@@ -153,8 +155,9 @@ four Resolve = omega arith
 four Squeeze = omega arith
 four Fuse = omega arith
 
-none_missed : (verb : Verb) → Misses four_of_each verb → ⊥
-none_missed = never_missed four_of_each four
+none_missed : (asked : Option CommandLineValue) (given : List Given) (verb : Verb) → MissesBy asked given four_of_each verb → ⊥
+none_missed None given verb missed = missed
+none_missed (Some line) given verb missed = let more = four verb in let fewer = missed.four in absurd (omega (arith, more, fewer))
 
 pub run_session-requires : goal.run_session-requires
 run_session-requires g c = record { dones = c.in_ok-tools-15.ensures.dones; undones = c.in_ok-tools-15.ensures.undones }
@@ -168,4 +171,4 @@ returns-clause-right g c =
     with_verbs _ _ (map string_bytes c.args.words.now) _ _ c.run_session.result all c.run_session.ensures.right
 
 pub returns-clause-tools : goal.returns-clause-tools
-returns-clause-tools g c = λ verb missed. none_missed verb ((returns-clause-right g c).no_tool verb missed)
+returns-clause-tools g c = λ verb missed. let right = returns-clause-right g c in none_missed (command_of (map string_bytes c.args.words.now)) right.given verb (right.no_tool verb missed)
