@@ -1,8 +1,9 @@
 -- The run of one editor's steps is the run of a script.
-use Rattle.std.proofs.Common.{◌≡◌, ℕ, Bool, false, List, [], Option, Result, Ok, Err, sym, subst, take, if◌then◌else◌}
+use Rattle.std.proofs.Common.{◌≡◌, ℕ, Bool, true, false, List, [], Option, Result, Ok, Err, refl, sym, subst, take, if◌then◌else◌}
 use Rattle.std.specs.List.{All}
 use Rattle.std.proofs.lemmas.List.Elements.{All-nil, All-take}
 use Rattle.std.specs.Io.KnownBytes.{Appends}
+use Rattle.std.proofs.KnownBytes.{Appends-nil}
 use Rattle.osm_outside.specs.Outside.{AppendsFront, Shelved}
 use Rattle.dataset.specs.Sound.{IsSound}
 use Rattle.edit_script.specs.declared.step.Act.TheVariants.{Look}
@@ -14,9 +15,12 @@ use Rattle.edit_history.specs.Machine.{State, first_state}
 use Rattle.edit_steps.specs.declared.limits.Limits.{Limits}
 use Rattle.edit_steps.specs.declared.stop.Stop.{Stop}
 use Rattle.edit_steps.specs.Given.{Given}
+use Rattle.edit_steps.specs.LineEnds.{AreLines}
+use Rattle.edit_steps.specs.Turn.{step_text}
 use Rattle.edit_steps.specs.States.{states_before, texts, AreSound, StepsRan, StepsReached}
 use Rattle.edit_steps.proofs.Gives.{none_yet, rest_given}
-use Rattle.edit_session.specs.Meet.{Seat, meet_texts}
+use Rattle.edit_steps.proofs.LineEnds.{all_lines, response_lines}
+use Rattle.edit_session.specs.Meet.{Seat, meet_step_text, meet_texts}
 use Rattle.edit_session.specs.Met.{AreBegun, AreMet, IsBegun, IsMet}
 use Rattle.edit_session.specs.Parts.{StepLeavesParts}
 use Rattle.edit_session.specs.Runs.{Promised, Ran, Reached}
@@ -26,6 +30,13 @@ use Rattle.edit_session.specs.Uploads.{IsUpload}
 use Rattle.edit_session.proofs.Groups.{groups_first, groups_in}
 use Rattle.edit_session.proofs.Parts.{parts_first, parts_in}
 use Rattle.edit_session.proofs.Uploads.{alone_run, ends_sent, reached_sent}
+
+-- the text of the first steps, of a script for one editor or of a meeting, is whole lines
+pub first_lines : (limits : Limits) (given : List Given) (steps : List Step) (n : ℕ) → AreLines (first_output limits given steps n)
+first_lines limits given steps n = by_test (is_meeting steps) where
+  by_test : (meets : Bool) → AreLines (if meets then meet_texts limits (take n (met limits given steps)) else texts limits (take n (states_before limits given steps first_state)))
+  by_test true = all_lines (λ (at : Step × Given × Seat). meet_step_text limits at.1 at.0 at.2) (take n (met limits given steps)) (λ at. response_lines at.0.line _ _)
+  by_test false = all_lines (λ (at : Step × Given × State). step_text limits at.1 at.0 at.2) (take n (states_before limits given steps first_state)) (λ at. response_lines at.0.line _ _)
 
 none_of : {X : Type 0} (P : X → Type 0) (n : ℕ) → All P (take n [])
 none_of P n = All-take P n [] (All-nil P)
@@ -45,8 +56,8 @@ module _ (limits : Limits) (given : List Given) (steps : List Step) (orderly : I
       }
 
   -- The first steps of one editor have run, over sound tables.
-  reached_alone : (old new : Option (List ℕ)) → StepsReached limits old new (states_before limits given steps first_state) → Reached limits old new given steps
-  reached_alone old new reached =
+  reached_alone : (old new : Option (List ℕ)) (stop : Stop) → StepsReached limits old new stop (states_before limits given steps first_state) → Reached limits old new stop given steps
+  reached_alone old new stop reached =
       let n = reached.count in
       let sound : AreSound (take n (run limits given steps)) = subst (λ l. AreSound (take n l)) (sym (alone_run limits given steps alone)) reached.tables in
       record {
@@ -58,6 +69,13 @@ module _ (limits : Limits) (given : List Given) (steps : List Step) (orderly : I
         groups = groups_first limits given steps n orderly;
         keeps = subst (λ (test : Bool). AreKeptMet limits (take n (if test then met limits given steps else []))) (sym alone) (none_of (λ (at : Step × Given × Seat). IsKeptMet limits at.1 at.0 at.2) n);
         meetings = subst (λ (test : Bool). AreBegun limits (take n (if test then met limits given steps else []))) (sym alone) (none_of (λ (at : Step × Given × Seat). IsBegun limits at.1 at.0 at.2) n);
+        finished = λ is.
+            let ended = reached.finished is in
+            record {
+              count = ended.count;
+              text = subst (λ (meets : Bool). Appends old new (if meets then meet_texts limits (take ended.count (met limits given steps)) else texts limits (take ended.count (states_before limits given steps first_state)))) (sym alone) ended.text;
+              lines = first_lines limits given steps ended.count;
+            };
       }
 
 -- What its steps write is the output.
@@ -80,12 +98,19 @@ ran_alone limits o old new (Err stop) steps orderly alone ran = record {
   ok = tt;
   err = written_alone limits ran.given steps alone (AppendsFront old new) ran.err;
   promised = tt;
-  reached = reached_alone limits ran.given steps orderly alone old new ran.reached;
+  reached = reached_alone limits ran.given steps orderly alone old new stop ran.reached;
 }
 
+abbrev no_text : List ℕ
+no_text = []
+
+neither : (test : Bool) → (if test then no_text else no_text) ≡ no_text
+neither true = refl
+neither false = refl
+
 -- Nothing was written.
-pub reached_none : (limits : Limits) (old : Option (List ℕ)) (given : List Given) (steps : List Step) (front : (all : List ℕ) → AppendsFront old old all) → Reached limits old old given steps
-reached_none limits old given steps front = record {
+pub reached_none : (limits : Limits) (old : Option (List ℕ)) (stop : Stop) (given : List Given) (steps : List Step) (front : (all : List ℕ) → AppendsFront old old all) → Reached limits old old stop given steps
+reached_none limits old stop given steps front = record {
   count = 0;
   text = front (first_output limits given steps 0);
   tables = All-nil (λ (at : Step × Given × State). IsSound at.2.now);
@@ -94,15 +119,16 @@ reached_none limits old given steps front = record {
   groups = tt;
   keeps = All-nil (λ (at : Step × Given × Seat). IsKeptMet limits at.1 at.0 at.2);
   meetings = All-nil (λ (at : Step × Given × Seat). IsBegun limits at.1 at.0 at.2);
+  finished = λ is. record { count = 0; text = subst (Appends old old) (sym (neither (is_meeting steps))) (Appends-nil old); lines = first_lines limits given steps 0 };
 }
 
 -- Nothing was read or written.
-pub ran_nothing : {T : Type 0} (limits : Limits) (o : Option Shelved) (old : Option (List ℕ)) (steps : List Step) (stop : Stop) (front : (all : List ℕ) → AppendsFront old old all) → Ran {T = T} {E = Stop} limits o old old (Err stop) steps
+pub ran_nothing : {T : Type 0} (limits : Limits) (o : Option Shelved) (old : Option (List ℕ)) (steps : List Step) (stop : Stop) (front : (all : List ℕ) → AppendsFront old old all) → Ran {T = T} limits o old old (Err stop) steps
 ran_nothing limits o old steps stop front = record {
   given = rest_given o steps;
   by_files = none_yet o steps;
   ok = tt;
   err = front (output limits (rest_given o steps) steps);
   promised = tt;
-  reached = reached_none limits old (rest_given o steps) steps front;
+  reached = reached_none limits old stop (rest_given o steps) steps front;
 }

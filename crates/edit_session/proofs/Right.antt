@@ -1,5 +1,5 @@
 -- A session is right, whether it came to its end or stopped.
-use Rattle.std.proofs.Common.{◌≡◌, ◌⊎◌, ◌<◌, ◌∙◌, inl, inr, ℕ, Bool, List, None, Result, Ok, Err, refl, sym, ap, subst}
+use Rattle.std.proofs.Common.{◌≡◌, ◌⊎◌, ◌<◌, ◌∙◌, inl, inr, ℕ, Bool, List, None, Result, Ok, Err, refl, sym, ap, subst, arith}
 use Rattle.osm_outside.specs.Outside.{Rose}
 use Rattle.command_line.specs.Words.{command_of}
 use Rattle.tool_api.specs.declared.verb.Verb.{Verb}
@@ -9,13 +9,15 @@ use Rattle.edit_steps.specs.declared.stop.Stop.{Stop}
 use Rattle.edit_steps.specs.declared.stop.Stop.TheVariants as stops
 use Rattle.edit_steps.specs.Needs.{count_verb}
 use Rattle.edit_session.specs.Moment.{Outside}
-use Rattle.edit_session.specs.Right.{IsRight, IsRightOfSome}
-use Rattle.edit_session.specs.Session.{outcome_by, IsAsked, IsEarly, IsEnd, IsStop}
+use Rattle.edit_session.specs.Right.{IsRight}
+use Rattle.edit_session.specs.Runs.{LinePromised, LineReached, LineStopped}
+use Rattle.edit_session.specs.Session.{outcome_by, line_given, IsAsked, IsEarly, IsEnd, IsStop}
 use Rattle.edit_steps.specs.Stop.{StopCause}
 use Rattle.edit_session.specs.StopStatus.{status_of}
 use Rattle.edit_session.proofs.Confirms.{confirmed_by}
 use Rattle.edit_session.proofs.Missing.{missed_by}
-use Rattle.edit_session.proofs.Words.{ComesTo, agrees_by, cut_short, keeps_by, meetings_by, no_stop, saves_by, stopped_by, tables_by, uploads_by}
+use Rattle.edit_session.proofs.Script.{comes_stop, line_none}
+use Rattle.edit_session.proofs.Words.{ComesTo, agrees_by, cut_short, keeps_by, meetings_by, no_stop, saves_by, stopped_by, tables_by, that_stop, uploads_by}
 
 -- what words that ask for nothing come to
 abbrev IsBad : Result Status Stop → Type 0
@@ -86,7 +88,7 @@ module _ {S K : Type 0} (verbs : List Verb) (words : List (List ℕ)) (before af
         given = given;
         by_files = comes.by_files;
         outcome = agrees_by before.text after.text answer (outcome_by verbs words given) end comes.ok;
-        stopped = λ stop. absurd (no_stop answer end stop);
+        stopped = no_stop answer (λ stop. LineStopped (command_of words) before.text after.text stop given) end;
         complete = λ done no_read no_write. inl (comes.ok.0 ∙ done);
         read = λ is. absurd (subst IsEnd is end);
         write = λ is. absurd (subst IsEnd is end);
@@ -118,7 +120,7 @@ module _ {S K : Type 0} (verbs : List Verb) (words : List (List ℕ)) (before af
         given = given;
         by_files = comes.by_files;
         outcome = cut_short before.text after.text stop (outcome_by verbs words given) comes.err;
-        stopped = λ is. stopped_by (command_of words) before.text after.text given comes.stopped;
+        stopped = that_stop stop (λ s. LineStopped (command_of words) before.text after.text s given) (stopped_by (command_of words) before.text after.text stop given comes.stopped);
         complete = λ done no_read no_write. inr (by_memory stop (Rose before.read_faults after.read_faults) (Rose before.write_faults after.write_faults)
             (λ is. cause.read (ap Err is)) (λ is. cause.write (ap Err is)) no_read no_write);
         read = λ is. cause.read (ap Err (read_told stop is));
@@ -145,37 +147,10 @@ module _ {S K : Type 0} (verbs : List Verb) (words : List (List ℕ)) (before af
 pub with_verbs : {S K : Type 0} (verbs others : List Verb) (words : List (List ℕ)) (before after : Outside S K) (answer : Status) → verbs ≡ others → IsRight verbs words before after answer → IsRight others words before after answer
 with_verbs verbs others words before after answer same right = subst (λ vs. IsRight vs words before after answer) same right
 
--- What is told of a shelf and a sink is told of them without their names.
-abbrev unnamed : {S K : Type 0} → Outside S K → Outside (Unit {0}) (Unit {0})
-unnamed at = record { shelf = tt; sink = tt; files = at.files; begun = at.begun; text = at.text; read_faults = at.read_faults; write_faults = at.write_faults }
-
-pub of_some : {S K : Type 0} (verbs : List Verb) (words : List (List ℕ)) (before after : Outside S K) (answer : Status) → IsRight verbs words before after answer → IsRightOfSome verbs words answer
-of_some verbs words before after answer right = (
-  unnamed before,
-  unnamed after,
-  record {
-    given = right.given;
-    by_files = right.by_files;
-    outcome = right.outcome;
-    stopped = right.stopped;
-    complete = right.complete;
-    read = right.read;
-    write = right.write;
-    read_quiet = right.read_quiet;
-    write_quiet = right.write_quiet;
-    later = right.later;
-    words = right.words;
-    bad_words = right.bad_words;
-    unread = λ none. (refl, refl);
-    unwritten = λ early. refl;
-    asked = right.asked;
-    told = right.told;
-    no_tool = right.no_tool;
-    tables = right.tables;
-    uploads = right.uploads;
-    saves = right.saves;
-    confirms = right.confirms;
-    meetings = right.meetings;
-    keeps = right.keeps;
-  },
-)
+-- Want of memory may end a session before anything is read or written.
+pub memory_at_once : {S K : Type 0} (verbs : List Verb) (words : List (List ℕ)) (before : Outside S K) → IsRight verbs words before before status.Memory
+memory_at_once verbs words before =
+    right_stopped verbs words before before stops.Memory
+    (comes_stop before.files (line_given (command_of words)) before.text stops.Memory (outcome_by verbs words) (λ given. LinePromised (command_of words) given) (LineReached (command_of words) before.text before.text) (line_none (command_of words) before.text stops.Memory))
+    (record { read_later = omega arith; write_later = omega arith; read = λ is. absurd cc; write = λ is. absurd cc; read_quiet = λ other. refl; write_quiet = λ other. refl })
+    refl (λ none. inr refl) (λ none. (refl, refl))

@@ -16,7 +16,7 @@ use Rattle.edit_session.specs.Moment.{Outside}
 use Rattle.edit_steps.specs.Given.{Given}
 use Rattle.edit_session.specs.Runs.{AreSoundBy, LineStopped}
 use Rattle.edit_session.specs.Saves.{AreSavesBy}
-use Rattle.edit_session.specs.Session.{outcome_by, line_given, Agrees, IsAsked, IsEarly, IsStop}
+use Rattle.edit_session.specs.Session.{outcome_by, line_given, Agrees, IfStop, IsAsked, IsEarly}
 use Rattle.edit_session.specs.Uploads.{AreUploadsBy}
 
 -- What is right of a session with tools of these verbs, asked for by these words, that found the shelf and the sink so, left them
@@ -28,8 +28,9 @@ pub record IsRight {S K : Type 0} (verbs : List Verb) (asked_for : List (List �
   pub by_files : IfSome before.files (λ files. given ≡ line_given (command_of asked_for) files)
   -- The status is that of the outcome and the sink took its text; after a fault or want of memory it took a front of the text.
   pub outcome : Agrees before.text after.text answer (outcome_by verbs asked_for given)
-  -- That front is one of the text of the steps that were reached, for which the promises hold.
-  pub stopped : IsStop answer → LineStopped (command_of asked_for) before.text after.text given
+  -- That front is one of the text of the steps that were reached, for which the promises hold. After a read fault it is the whole
+  -- text of some first steps.
+  pub stopped : IfStop answer (λ stop. LineStopped (command_of asked_for) before.text after.text stop given)
   -- It doesn't give up by itself, but for memory.
   pub complete : (outcome_by verbs asked_for given).0 ≡ status.Done
       → (Rose before.read_faults after.read_faults → ⊥) → (Rose before.write_faults after.write_faults → ⊥)
@@ -75,8 +76,3 @@ pub record IsRight {S K : Type 0} (verbs : List Verb) (asked_for : List (List �
   -- taken. None is made up: what is edited after a step was so before, or is new, or the step says so. And what others changed is
   -- heard: whatever a step tells in a newer version. In a meeting no step touches another editor's table.
   pub keeps : answer ≡ status.Done → AreKeptBy (command_of asked_for) given
-
--- It is right of some shelf and some sink. A function that makes its own and shows them to nobody can say no more: that they are
--- the ones that it handed on stands in its body alone.
-abbrev pub IsRightOfSome : List Verb → List (List ℕ) → Status → Type 0
-IsRightOfSome verbs asked_for answer = (before : Outside (Unit {0}) (Unit {0})) × (after : Outside (Unit {0}) (Unit {0})) × IsRight verbs asked_for before after answer

@@ -23,14 +23,17 @@ pub record Goes {S : Type 0} (runs : List Given → List Step → S → List (St
   pub written : Appends old now (flat_map text before)
   pub good : All Good before
 
--- They stopped: a front of the text of the first of them was written.
-pub record Stopped {S : Type 0} (runs : List Given → List Step → S → List (Step × Given × S)) (text : Step × Given × S → List ℕ) (Ready : Step × Given × S → Type 0) (o : Option Shelved) (old new : Option (List ℕ)) (steps : List Step) (first : S) : Type 0 where
+-- They stopped: a front of the text of the first of them was written. When the last of these began, the texts of those before it
+-- were written, whole.
+pub record Stopped {S : Type 0} (runs : List Given → List Step → S → List (Step × Given × S)) (text : Step × Given × S → List ℕ) (Ready : Step × Given × S → Type 0) (o : Option Shelved) (old mid new : Option (List ℕ)) (steps : List Step) (first : S) : Type 0 where
   pub given : List Given
   pub by_files : IfSome o (λ files. given ≡ all_given files steps)
   pub count : ℕ
   pub front : AppendsFront old new (flat_map text (take count (runs given steps first)))
   pub whole : AppendsFront old new (flat_map text (runs given steps first))
   pub ready : All Ready (take count (runs given steps first))
+  pub finished : ℕ
+  pub before : Appends old mid (flat_map text (take finished (runs given steps first)))
 
 -- All of them ran.
 pub record Ended {S : Type 0} (runs : List Given → List Step → S → List (Step × Given × S)) (text : Step × Given × S → List ℕ) (Good : Step × Given × S → Type 0) (o : Option Shelved) (old new : Option (List ℕ)) (steps : List Step) (first : S) : Type 0 where
@@ -46,10 +49,16 @@ module _ {S : Type 0} (runs : List Given → List Step → S → List (Step × G
   pub starts : (s : S) → s ≡ first → Goes runs text Good o old old 0 steps first s
   starts s same = record { given = []; by_files = first_files o steps; before = []; on = λ more. ap (runs more steps) (sym same); written = Appends-nil old; good = All-nil Good }
 
-  stopped_at : (Ready : Step × Given × S → Type 0) (new : Option (List ℕ)) (given : List Given) (before rest : List (Step × Given × S)) → IfSome o (λ files. given ≡ all_given files steps) → runs given steps first ≡ before ++ rest
-      → AppendsFront old new (flat_map text before) → All Ready before → Stopped runs text Ready o old new steps first
-  stopped_at Ready new given before rest by_files is front ready =
-      let firsts : take (length before) (runs given steps first) ≡ before = ap (take (length before)) is ∙ take-append-le (length before) before rest (omega arith) ∙ take_all (length before) before (omega arith) in
+  -- the first steps of a run
+  firsts_of : (given : List Given) (before rest : List (Step × Given × S)) → runs given steps first ≡ before ++ rest → take (length before) (runs given steps first) ≡ before
+  firsts_of given before rest is = ap (take (length before)) is ∙ take-append-le (length before) before rest (omega arith) ∙ take_all (length before) before (omega arith)
+
+  stopped_at : (Ready : Step × Given × S → Type 0) (mid new : Option (List ℕ)) (given : List Given) (ran : List (Step × Given × S)) (last : Step × Given × S) (rest : List (Step × Given × S)) → IfSome o (λ files. given ≡ all_given files steps)
+      → runs given steps first ≡ (ran ++ last ∷ []) ++ rest → Appends old mid (flat_map text ran) → AppendsFront old new (flat_map text (ran ++ last ∷ [])) → All Ready (ran ++ last ∷ []) → Stopped runs text Ready o old mid new steps first
+  stopped_at Ready mid new given ran last rest by_files is whole front ready =
+      let before = ran ++ last ∷ [] in
+      let firsts : take (length before) (runs given steps first) ≡ before = firsts_of given before rest is in
+      let finished : take (length ran) (runs given steps first) ≡ ran = firsts_of given ran (last ∷ rest) (is ∙ append_assoc ran (last ∷ []) rest) in
       record {
         given = given;
         by_files = by_files;
@@ -57,6 +66,8 @@ module _ {S : Type 0} (runs : List Given → List Step → S → List (Step × G
         front = subst (λ l. AppendsFront old new (flat_map text l)) (sym firsts) front;
         whole = subst (AppendsFront old new) (sym (ap (flat_map text) is ∙ flat_map-append text before rest)) (front_of_first old new (flat_map text before) (flat_map text rest) front);
         ready = subst (All Ready) (sym firsts) ready;
+        finished = length ran;
+        before = subst (λ l. Appends old mid (flat_map text l)) (sym finished) whole;
       }
 
   module _ (mid : Option (List ℕ)) (i : ℕ) (s : S) (goes : Goes runs text Good o old mid i steps first s) where
@@ -95,10 +106,10 @@ module _ {S : Type 0} (runs : List Given → List Step → S → List (Step × G
       }
 
       -- or a front of it.
-      pub fails : (Ready : Step × Given × S → Type 0) → ((at : Step × Given × S) → Good at → Ready at) → (new : Option (List ℕ)) → AppendsFront mid new (text (step, got, s)) → Ready (step, got, s) → Stopped runs text Ready o old new steps first
+      pub fails : (Ready : Step × Given × S → Type 0) → ((at : Step × Given × S) → Good at → Ready at) → (new : Option (List ℕ)) → AppendsFront mid new (text (step, got, s)) → Ready (step, got, s) → Stopped runs text Ready o old mid new steps first
       fails Ready weaker new front here =
           let more = rest_given o (drop (i + 1) steps) in
-          stopped_at Ready new ((goes.given ++ got ∷ []) ++ more) (goes.before ++ (step, got, s) ∷ []) (runs more (drop (i + 1) steps) next)
-          (closes o (goes.given ++ got ∷ []) (drop (i + 1) steps) steps (on_files o goes.given got i steps step h e goes.by_files by_files)) (one_more more)
+          stopped_at Ready mid new ((goes.given ++ got ∷ []) ++ more) goes.before (step, got, s) (runs more (drop (i + 1) steps) next)
+          (closes o (goes.given ++ got ∷ []) (drop (i + 1) steps) steps (on_files o goes.given got i steps step h e goes.by_files by_files)) (one_more more) goes.written
           (subst (AppendsFront old new) (sym (texts_push text goes.before (step, got, s))) (front_of_second old mid new (flat_map text goes.before) (text (step, got, s)) goes.written front))
           (All-push Ready goes.before (step, got, s) (All-weaker Good Ready weaker goes.before goes.good) here)

@@ -5,6 +5,7 @@ mod Fed
 mod Finding
 pub mod Gives
 pub mod Goes
+pub mod LineEnds
 pub mod Opens
 mod Ran
 mod Refusing

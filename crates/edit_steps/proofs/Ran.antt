@@ -1,5 +1,5 @@
 -- The steps of one editor ran, each over a sound table.
-use Rattle.std.proofs.Common.{◌≡◌, ℕ, ◌+◌, ◌<◌, ◌≤◌, List, ◌∷◌, Option, Ok, Err, sym, ap, ◌∙◌, subst, drop, get_or, length, refl}
+use Rattle.std.proofs.Common.{◌≡◌, ℕ, ◌+◌, ◌<◌, ◌≤◌, List, ◌∷◌, Option, Ok, Err, sym, ap, ◌∙◌, subst, drop, take, get_or, length, refl}
 use Rattle.std.specs.Io.KnownBytes.{Appends}
 use Rattle.osm_outside.specs.Outside.{AppendsFront, Shelved}
 use Rattle.dataset.specs.Sound.{IsSound}
@@ -8,9 +8,10 @@ use Rattle.edit_history.specs.Machine.{State, first_state}
 use Rattle.edit_steps.specs.declared.limits.Limits.{Limits}
 use Rattle.edit_steps.specs.declared.loading.Found.{Found}
 use Rattle.edit_steps.specs.declared.stop.Stop.{Stop}
+use Rattle.edit_steps.specs.declared.stop.Stop.TheVariants as stops
 use Rattle.edit_steps.specs.Given.{Given, Finds, given_by}
 use Rattle.edit_steps.specs.Load.{found_in}
-use Rattle.edit_steps.specs.States.{states_before, StepsRan}
+use Rattle.edit_steps.specs.States.{states_before, texts, StepsRan}
 use Rattle.edit_steps.specs.Turn.{step_turn, step_text, turn, turn_text}
 use Rattle.edit_steps.proofs.Goes as run
 use Rattle.edit_steps.proofs.Goes.{Ended, Goes, Stopped}
@@ -20,8 +21,8 @@ module _ (limits : Limits) (o : Option Shelved) (old : Option (List ℕ)) where
   abbrev pub StepsGo : Option (List ℕ) → ℕ → List Step → State → Type 0
   StepsGo now i steps s = Goes (states_before limits) (λ (at : Step × Given × State). step_text limits at.1 at.0 at.2) (λ (at : Step × Given × State). IsSound at.2.now) o old now i steps first_state s
 
-  abbrev StepsStopped : Option (List ℕ) → List Step → Type 0
-  StepsStopped new steps = Stopped (states_before limits) (λ (at : Step × Given × State). step_text limits at.1 at.0 at.2) (λ (at : Step × Given × State). IsSound at.2.now) o old new steps first_state
+  abbrev StepsStopped : Option (List ℕ) → Option (List ℕ) → List Step → Type 0
+  StepsStopped mid new steps = Stopped (states_before limits) (λ (at : Step × Given × State). step_text limits at.1 at.0 at.2) (λ (at : Step × Given × State). IsSound at.2.now) o old mid new steps first_state
 
   abbrev StepsEnded : Option (List ℕ) → List Step → Type 0
   StepsEnded new steps = Ended (states_before limits) (λ (at : Step × Given × State). step_text limits at.1 at.0 at.2) (λ (at : Step × Given × State). IsSound at.2.now) o old new steps first_state
@@ -29,19 +30,24 @@ module _ (limits : Limits) (o : Option Shelved) (old : Option (List ℕ)) where
   pub steps_start : (steps : List Step) (s : State) → s ≡ first_state → StepsGo old 0 steps s
   steps_start steps s same = run.starts (states_before limits) (λ (at : Step × Given × State). step_text limits at.1 at.0 at.2) (λ (at : Step × Given × State). IsSound at.2.now) o old steps first_state s same
 
-  ran_stopped : {T : Type 0} (new : Option (List ℕ)) (steps : List Step) (stop : Stop) → StepsStopped new steps → StepsRan {T = T} {E = Stop} limits o old new (Err stop) steps
-  ran_stopped new steps stop stopped = record {
+  ran_stopped : {T : Type 0} (mid new : Option (List ℕ)) (steps : List Step) (stop : Stop) → (stop ≡ stops.ReadFault → new ≡ mid) → StepsStopped mid new steps → StepsRan {T = T} limits o old new (Err stop) steps
+  ran_stopped mid new steps stop still stopped = record {
     given = stopped.given;
     by_files = stopped.by_files;
     ok = tt;
     err = stopped.whole;
     sound = tt;
-    reached = record { count = stopped.count; text = stopped.front; tables = stopped.ready };
+    reached = record {
+      count = stopped.count;
+      text = stopped.front;
+      tables = stopped.ready;
+      finished = λ is. record { count = stopped.finished; text = subst (λ t. Appends old t (texts limits (take stopped.finished (states_before limits stopped.given steps first_state)))) (sym (still is)) stopped.before };
+    };
   }
 
   module _ (mid : Option (List ℕ)) (i : ℕ) (steps : List Step) (s : State) (goes : StepsGo mid i steps s) where
     -- All steps have run.
-    pub steps_end : {T : Type 0} (x : T) → length steps ≤ i → StepsRan {T = T} {E = Stop} limits o old mid (Ok x) steps
+    pub steps_end : {T : Type 0} (x : T) → length steps ≤ i → StepsRan {T = T} limits o old mid (Ok x) steps
     steps_end x past =
         let ended : StepsEnded mid steps = run.ends (states_before limits) (λ (at : Step × Given × State). step_text limits at.1 at.0 at.2) (λ (at : Step × Given × State). IsSound at.2.now) o old steps first_state mid i s goes past (λ given. refl) in
         record { given = ended.given; by_files = ended.by_files; ok = ended.written; err = tt; sound = ended.good; reached = tt }
@@ -59,9 +65,9 @@ module _ (limits : Limits) (o : Option Shelved) (old : Option (List ℕ)) where
           run.goes_on (states_before limits) (λ (at : Step × Given × State). step_text limits at.1 at.0 at.2) (λ (at : Step × Given × State). IsSound at.2.now) o old steps first_state mid i s goes step finds.given next h e finds.by_files (leads next after) new
           (subst (λ what. Appends mid new (turn_text step.line (turn limits what step.act s))) finds.is text) here
 
-      -- or fails: what was written is a front of the whole.
-      pub steps_fail : {T : Type 0} (stop : Stop) (new : Option (List ℕ)) → AppendsFront mid new (turn_text step.line (turn limits found step.act s)) → StepsRan {T = T} {E = Stop} limits o old new (Err stop) steps
-      steps_fail stop new text =
-          ran_stopped new steps stop (run.fails (states_before limits) (λ (at : Step × Given × State). step_text limits at.1 at.0 at.2) (λ (at : Step × Given × State). IsSound at.2.now) o old steps first_state mid i s goes step finds.given (turn limits found step.act s).state h e finds.by_files
+      -- or fails: what was written is a front of the whole, and where its read failed, it wrote nothing.
+      pub steps_fail : {T : Type 0} (stop : Stop) (new : Option (List ℕ)) → (stop ≡ stops.ReadFault → new ≡ mid) → AppendsFront mid new (turn_text step.line (turn limits found step.act s)) → StepsRan {T = T} limits o old new (Err stop) steps
+      steps_fail stop new still text =
+          ran_stopped mid new steps stop still (run.fails (states_before limits) (λ (at : Step × Given × State). step_text limits at.1 at.0 at.2) (λ (at : Step × Given × State). IsSound at.2.now) o old steps first_state mid i s goes step finds.given (turn limits found step.act s).state h e finds.by_files
           (leads (turn limits found step.act s).state refl) (λ (at : Step × Given × State). IsSound at.2.now) (λ at sound. sound) new
           (subst (λ what. AppendsFront mid new (turn_text step.line (turn limits what step.act s))) finds.is text) here)

@@ -1,7 +1,7 @@
 -- The steps of a script of one editor: the state before each, what they write, and what holds where they ran.
 --
 -- For example of `begin` and `end` the first has the state that the script began with, and the second one with a group.
-use Rattle.std.specs.Prelude.{◌≡◌, ℕ, List, [], ◌∷◌, flat_map, drop, take, Option, IfSome, Result, OnOk, OnErr}
+use Rattle.std.specs.Prelude.{◌≡◌, ℕ, List, [], ◌∷◌, flat_map, drop, take, Option, IfSome, Result, OnOk, OnErr, IfErr}
 use Rattle.std.specs.List.{All}
 use Rattle.std.specs.Io.KnownBytes.{Appends}
 use Rattle.osm_outside.specs.Outside.{Shelved, AppendsFront}
@@ -9,6 +9,8 @@ use Rattle.dataset.specs.Sound.{IsSound}
 use Rattle.edit_script.specs.declared.step.Step.{Step}
 use Rattle.edit_history.specs.Machine.{State, first_state}
 use Rattle.edit_steps.specs.declared.limits.Limits.{Limits}
+use Rattle.edit_steps.specs.declared.stop.Stop.{Stop}
+use Rattle.edit_steps.specs.declared.stop.Stop.TheVariants as stops
 use Rattle.edit_steps.specs.Given.{Given, first_given, all_given}
 use Rattle.edit_steps.specs.Turn.{step_turn, step_text}
 
@@ -25,18 +27,25 @@ texts limits steps = flat_map (λ (at : Step × Given × State). step_text limit
 abbrev pub AreSound : List (Step × Given × State) → Type 0
 AreSound steps = All (λ (at : Step × Given × State). IsSound at.2.now) steps
 
--- Where they stopped: what was written is a front of the text of the first of them, and the tables of these are sound.
-pub record StepsReached (limits : Limits) (old new : Option (List ℕ)) (steps : List (Step × Given × State)) : Type 0 where
+-- The texts of the first of these steps were written, whole, and nothing behind them.
+pub record StepsFinished (limits : Limits) (old new : Option (List ℕ)) (steps : List (Step × Given × State)) : Type 0 where
+  pub count : ℕ
+  pub text : Appends old new (texts limits (take count steps))
+
+-- Where they stopped: what was written is a front of the text of the first of them, and the tables of these are sound. Where a
+-- read failed, it is the whole text of the steps before.
+pub record StepsReached (limits : Limits) (old new : Option (List ℕ)) (stop : Stop) (steps : List (Step × Given × State)) : Type 0 where
   pub count : ℕ
   pub text : AppendsFront old new (texts limits (take count steps))
   pub tables : AreSound (take count steps)
+  pub finished : stop ≡ stops.ReadFault → StepsFinished limits old new steps
 
 -- The run of one editor's steps where each of them ran, from the first state on: what their reads gave them, the text, and the
 -- tables.
-pub record StepsRan {T E : Type 0} (limits : Limits) (told : Option Shelved) (old new : Option (List ℕ)) (result : Result T E) (steps : List Step) : Type 0 where
+pub record StepsRan {T : Type 0} (limits : Limits) (told : Option Shelved) (old new : Option (List ℕ)) (result : Result T Stop) (steps : List Step) : Type 0 where
   pub given : List Given
   pub by_files : IfSome told (λ files. given ≡ all_given files steps)
   pub ok : OnOk result (Appends old new (texts limits (states_before limits given steps first_state)))
   pub err : OnErr result (AppendsFront old new (texts limits (states_before limits given steps first_state)))
   pub sound : OnOk result (AreSound (states_before limits given steps first_state))
-  pub reached : OnErr result (StepsReached limits old new (states_before limits given steps first_state))
+  pub reached : IfErr result (λ stop. StepsReached limits old new stop (states_before limits given steps first_state))

@@ -1,5 +1,5 @@
 //! The steps of a script, run one after the other.
-ghost use Rattle.std.specs.Prelude.{◌≡◌, false, OnOk, OnErr};
+ghost use Rattle.std.specs.Prelude.{◌≡◌, false, OnOk, OnErr, IsErrOf};
 ghost use Rattle.std.specs.Io.KnownBytes.{Appends};
 ghost use Rattle.osm_outside.specs.Outside.{AppendsFront};
 ghost use Rattle.edit_script.specs.Order.{IsOrderly};
@@ -29,7 +29,8 @@ use std::alloc::Global;
 /// and the text behind it are written.
 ///
 /// # Errors
-/// The shelf or the sink failed, or no memory was left. A front of the text was written.
+/// The shelf or the sink failed, or no memory was left. A front of the text was written; where the shelf failed, the whole text of
+/// the steps before.
 pub fn run_steps<S: Shelf, K: Sink>(
     alloc: Global,
     limits: Limits,
@@ -62,6 +63,8 @@ fn run_next<S: Shelf, K: Sink>(
     requires { Fits (λ b. done (b.vtable, b.value)) (λ b. undone (b.vtable, b.value)) (λ b. kind (b.vtable, b.value)) history.old (MayTake step.now.act) }
     ensures told { S.told shelf.new ≡ S.told shelf.old }
     ensures runs { RunsNext (λ b. done (b.vtable, b.value)) (λ b. undone (b.vtable, b.value)) (λ b. kind (b.vtable, b.value)) limits (S.told shelf.old) history.old history.new (K.taken out.old) (K.taken out.new) result step.now }
+    // A read that fails leaves the sink as it was.
+    ensures unwritten { IsErrOf result Stop.ReadFault → out.new ≡ out.old }
     ensures cause { StopCause (S.faults shelf.old) (S.faults shelf.new) (K.faults out.old) (K.faults out.new) result }
 {
     history.ds().sound();

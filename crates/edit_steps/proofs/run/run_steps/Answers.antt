@@ -1,4 +1,4 @@
-use Rattle.std.proofs.Common.{◌∙◌, sym, subst, arith, rules, drop, ◌+◌}
+use Rattle.std.proofs.Common.{◌∙◌, ap, sym, subst, arith, rules, drop, ◌+◌}
 use Rattle.std.proofs.lemmas.Result.{err_from_is_err_and}
 use Rattle.edit_steps.proofs.Ran.{steps_end, steps_fail, steps_go_on, steps_start}
 use Rattle.edit_steps.proofs.Steps.{orderly_first, orderly_on, orderly_at, there_at, NoneMissing}
@@ -50,7 +50,7 @@ returns-in_err-run_next-clause-ran g c =
     let before = c.loop-step.invariant in
     let runs = c.in_err-run_next.ensures.runs in
     let p = err_from_is_err_and c.from_residual.result c.from_residual.ensures.1 in
-    rw p.1 (steps_fail c.args.limits _ _ _ c.loop-step.step-index c.args.steps.now _ before.goes c.step-item.result runs.found (omega arith) c.step-item.is runs.table (rw before.told at runs.finds) p.0 _ runs.plays.err)
+    rw p.1 (steps_fail c.args.limits _ _ _ c.loop-step.step-index c.args.steps.now _ before.goes c.step-item.result runs.found (omega arith) c.step-item.is runs.table (rw before.told at runs.finds) p.0 _ (λ is. ap g.K.Sink.taken (c.in_err-run_next.ensures.unwritten (search rules))) runs.plays.err)
 
 pub returns-clause-ran : goal.returns-clause-ran
 returns-clause-ran g c = steps_end c.args.limits _ _ _ c.loop-step.step-index c.args.steps.now _ c.loop-step.invariant.goes _ (omega arith)
