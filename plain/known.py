@@ -10,7 +10,7 @@ ATTRIBUTES = frozenset({'derive', 'tactic', 'cycle', 'error', 'cfg', 'test'})
 DERIVES = frozenset({'Clone', 'Copy', 'Debug', 'Drop', 'Eq', 'Error', 'Hash', 'Ord', 'PartialEq', 'PartialOrd'})
 # Macros, and how their arguments begin: `in` an allocator, `rt` a handle with a semicolon, or nothing of Rattle's.
 MACROS = {
-    'assert': 'rt', 'assert_eq': 'rt', 'bail': '', 'eprintln': 'rt', 'format': 'in', 'matches': '', 'println': 'rt',
+    'assert': 'rt', 'assert_eq': 'rt', 'bail': '', 'format': 'in', 'format_args': '', 'matches': '', 'println': 'rt',
     'unreachable': '', 'vec': 'in', 'write': '',
 }
 # Words of Rust that the crates don't use, and words of Rattle that code never has: each is refused.
@@ -125,6 +125,6 @@ get_str hash insert into_iter is_ascii_digit is_empty is_eq is_err is_lt is_none
 is_some is_some_and iter iter_mut keys kind last last_mut len lines long map map_or min next ok_or
 open or_insert parse partition_point pop pop_first position pow push put read remove required
 reserve reserve_exact retain rev saturating_add saturating_mul saturating_sub set sort sort_by
-split_at split_first split_once strip_prefix swap_remove take then to_digit to_vec
-try_get_matches_from unsigned_abs unwrap unwrap_or value_parser wrapping_mul write write_u64
+split_at split_first split_once stderr strip_prefix swap_remove take then to_digit to_vec
+try_get_matches_from unsigned_abs unwrap unwrap_or value_parser wrapping_mul write write_u64 writeln
 '''.split())

@@ -818,7 +818,7 @@ class Reader:
             self.strike(first, first, name)
             self.out[self.code[first] + 1] = ''
             self.out[self.code[at]] = f'rattle_std::{name}_in'
-        elif name in ('println', 'eprintln'):
+        elif name == 'println':
             self.replace(at, f'rattle_std::{name}_to', 'print')
         elif form == 'rt':
             self.strike(first, first + 1, 'assert')

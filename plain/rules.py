@@ -26,7 +26,7 @@ RULES = {
     'box-new': '`Box::new(alloc, value)` becomes `rattle_std::boxed::new(alloc, value)`',
     'none-or': '`.is_none_or(f)` becomes `.map_or(true, f)`, which older Rust has too',
     # macros
-    'print': '`println!(rt; ..)` and `eprintln!(rt; ..)` become those of `rattle_std`, which return a Result',
+    'print': '`println!(rt; ..)` becomes that of `rattle_std`, which returns a Result',
     'format': '`format!(in alloc; ..)` becomes `rattle_std::format_in!(alloc; ..)`',
     'vec': '`vec![in alloc; ..]` becomes `rattle_std::vec_in![alloc; ..]`',
     'assert': '`assert!(rt; ..)` and `assert_eq!(rt; ..)` in a test become those of Rust',

@@ -61,7 +61,7 @@ CASES = (
     ('box-new', 'fn f() {\n    Box::new(alloc, 1)\n}\n', 'fn f() {\n    rattle_std::boxed::new(alloc, 1)\n}\n'),
     ('none-or', 'fn f() {\n    a.is_none_or(|it| it > 1)\n}\n', 'fn f() {\n    a.map_or(true, |it| it > 1)\n}\n'),
     ('print', 'fn f() {\n    println!(rt; "a {b}")\n}\n', 'fn f() {\n    rattle_std::println_to!(rt; "a {b}")\n}\n'),
-    ('print', 'fn f() {\n    eprintln!(rt; "a")\n}\n', 'fn f() {\n    rattle_std::eprintln_to!(rt; "a")\n}\n'),
+    ('print', 'fn f() {\n    println!(rt; "a")\n}\n', 'fn f() {\n    rattle_std::println_to!(rt; "a")\n}\n'),
     ('format', 'fn f() {\n    format!(in alloc; "{a}")\n}\n', 'fn f() {\n    rattle_std::format_in!(alloc; "{a}")\n}\n'),
     ('vec', "fn f() {\n    vec![in rt.alloc(); b'a'; 3]\n}\n", "fn f() {\n    rattle_std::vec_in![rt.alloc(); b'a'; 3]\n}\n"),
     ('assert', 'fn f() {\n    assert!(rt; a, "b");\n    assert_eq!(rt; a, b);\n}\n', 'fn f() {\n    assert!(a, "b");\n    assert_eq!(a, b);\n}\n'),

@@ -18,7 +18,7 @@ SMALL = {'crates.txt': 'low:\nhigh: low memchr\neditor: high\nsession_cases: low
          'crates/low/src/deep.rt': '/// One.\npub fn one() -> u64\n    ensures { result ≡ 1 }\n{\n    1\n}\n',
          'crates/high/src/lib.rt': 'use low::one;\nuse memchr::memchr;\n\npub fn two(a: &[u8]) -> bool {\n    memchr(b\'a\', a).is_none_or(|it| it > 3) && one() == 1\n}\n',
          'crates/editor/src/main.rt': 'use std::process::ExitCode;\n\nfn main(rt: HostRuntime) -> ExitCode {\n'
-                                      '    let _ = eprintln!(rt; "{}", high::two(b"bab"));\n    ExitCode::from(3)\n}\n',
+                                      '    let _ = rt.stderr().writeln(format_args!("{}", high::two(b"bab")));\n    ExitCode::from(3)\n}\n',
          'crates/session_cases/src/main.rt': 'fn main(rt: HostRuntime) -> std::io::Result<()> {\n    println!(rt; "{}", low::one())\n}\n',
          'crates/session_cases/data/bundles': '', 'crates/session_cases/stdout': '1\n'}
 

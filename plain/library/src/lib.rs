@@ -32,6 +32,7 @@ pub use std::{cell, cmp, fmt, hash, marker, mem, ops, process, slice, str};
 
 /// The names that are in scope in Rattle without an import.
 pub mod prelude {
+    pub use crate::io::WriteLine;
     pub use crate::iter::CollectIn;
     pub use crate::rt::HostRuntime;
     pub use crate::string::String;

@@ -1,13 +1,6 @@
 //! The macros that are passed an allocator or the runtime.
 
 #[macro_export]
-macro_rules! eprintln_to {
-    ($rt:expr; $($said:tt)*) => {
-        $crate::io::write_line(&$rt, ::std::io::stderr().lock(), ::std::format_args!($($said)*))
-    };
-}
-
-#[macro_export]
 macro_rules! println_to {
     ($rt:expr; $($said:tt)*) => {
         $crate::io::write_line(&$rt, ::std::io::stdout().lock(), ::std::format_args!($($said)*))

@@ -13,6 +13,10 @@ impl HostRuntime {
     pub fn alloc(&self) -> Global {
         Global
     }
+    /// The error stream.
+    pub fn stderr(&self) -> std::io::Stderr {
+        std::io::stderr()
+    }
 }
 
 impl crate::Clone for HostRuntime {
