@@ -55,7 +55,7 @@ class RealJosm(ServerTest):
         drawn = Layer((self.folder / 'saved.osm').read_bytes())
         self.assertTrue(any(one.modified for one in drawn.things.values()))
         self.done('josm', 'saved.osm')
-        self.assertEqual(0, self.send(), self.err)
+        self.assertEqual(0, self.send('--unseen'), self.err)     # places are drawn all over the world
         there = {key for key, element in self.theirs().items() if element.visible}
         self.assertEqual(len(drawn.living()), len(there))
 

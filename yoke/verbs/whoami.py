@@ -1,6 +1,5 @@
 """`yoke whoami`: whose the token is that a command would use, and what it may do."""
 import argparse
-import os
 
 from yoke import api, results
 from yoke.login import accounts, store
@@ -42,7 +41,7 @@ def source(arguments: argparse.Namespace, address: str) -> str:
     """Where the token comes from."""
     if arguments.token_file:
         return f'of {arguments.token_file}'
-    if os.environ.get('YOKE_TOKEN', '').strip():
+    if api.token_of_environment():
         return 'of $YOKE_TOKEN'
     login = store.read(address, arguments.profile or '')
     return f'of the login of {login.obtained}' if login else 'unknown'
