@@ -132,7 +132,7 @@ class Table(unittest.TestCase):
     def test_the_gates_file(self) -> None:
         text = (TOP / '.ci' / 'run').read_text()
         self.assertRegex(text.splitlines()[1], r'(^|exec |&& )rt ci( *$| *&&| *\|\|)')
-        self.assertTrue(text.splitlines()[-1].endswith('check" --after-proof'))
+        self.assertTrue(text.splitlines()[-1].endswith('check" --quick'))
 
 
 class Calls(unittest.TestCase):
