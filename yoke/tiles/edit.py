@@ -9,12 +9,12 @@ from yoke import groups, opl, table
 from yoke.program import Answer, Program
 from yoke.scripts import grammar
 from yoke.table import Table
+from yoke.tiles import script
 from yoke.tiles.script import Unit
 from yoke.trouble import Refused, Trouble
 from yoke.verbs import expand
 
 LOOKS_AT_OTHER_MEMBERS = ('split', 'combine')   # where a piece goes in a relation depends on the members beside it
-REACHES_NODES = ('move', 'erase')                # of a way, they change nodes that they don't name
 CHUNK = 10_000
 
 Owns = Callable[[str], bool]
@@ -159,7 +159,7 @@ def _sources(lines: list[tuple[str, int]], there: Table, after: Table, group_of:
     found: dict[int, set[str]] = {}
     for line, _ in lines:
         verb, *words = grammar.words_of(line)
-        for way in words[0].split(',') if verb in REACHES_NODES else ():
+        for way in words[0].split(',') if verb in script.REACHES_NODES else ():
             for side in (there.mine(way), after.mine(way)):
                 for node in side.nodes if side else ():
                     if node in group_of:

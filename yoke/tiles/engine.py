@@ -10,7 +10,7 @@ import pathlib
 import shutil
 import tempfile
 from collections.abc import Callable, Iterator, Sequence
-from dataclasses import dataclass, field
+from dataclasses import dataclass, field, replace
 from decimal import Decimal
 
 from yoke import day, opl, osc
@@ -97,6 +97,7 @@ class _Engine:
     doing: Doing
 
     def run(self) -> Outcome:
+        self._add_nodes()
         grid = Grid.over(self.asked.box or extracts.box_of(self.asked.file), self.asked.wide, self.asked.high)
         owner = extracts.owners(self.asked.file, {key for unit in self.units for key in unit.keys}, grid, self.place)
         shares = script.share(self.units, owner, lambda lon, lat: grid.tile(Decimal(lon), Decimal(lat)))
@@ -115,6 +116,14 @@ class _Engine:
         self._seam(changes, set(shares.seam), left, found)
         found.changes, found.alike = changes.in_order(), changes.alike
         return found
+
+    def _add_nodes(self) -> None:
+        """Adds to a unit that moves or erases ways the nodes of these, since it changes them too."""
+        ways = {at: script.ways_reached(unit) for at, unit in enumerate(self.units)}
+        things = extracts.get(self.asked.file, set().union(*ways.values()), self.place)
+        for at, keys in ways.items():
+            nodes = {node for key in keys if key in things for node in things[key].nodes}
+            self.units[at] = replace(self.units[at], keys=self.units[at].keys | nodes)
 
     # ---- the tiles ----
 

@@ -16,6 +16,7 @@ from yoke.trouble import Refused
 
 LOOKS = {'print', 'count', 'conflicts', 'check', 'find', 'rehearse'}    # lines that change nothing: they are left out
 MAKES = {'node', 'way', 'relation', 'import', 'split'}                  # lines that take ids of new objects
+REACHES_NODES = ('move', 'erase')                                        # of a way, they change nodes that they don't name
 NOT_HERE = {
     'download': 'the file of the tiles is named on the command line', 'generate': 'a made-up city belongs to a session of its own',
     'undo': 'leave out the lines that it takes back', 'redo': 'leave out the lines that it takes back',
@@ -126,6 +127,16 @@ def keys_of(line: str) -> list[str]:
         found += [key for key, _ in grammar.check_members_word(words[-1])]
     if verb == 'add-member':
         found += [key for key, _ in grammar.check_members_word('M' + words[0])]
+    return found
+
+
+def ways_reached(unit: Unit) -> set[str]:
+    """The ways whose nodes a unit changes without naming them."""
+    found = set()
+    for line in unit.lines:
+        verb, *words = grammar.words_of(line)
+        if verb in REACHES_NODES and not unit.is_query:
+            found |= {key for key in words[0].split(',') if key[0] == 'w'}
     return found
 
 
