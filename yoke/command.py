@@ -16,7 +16,7 @@ import sys
 import threading
 from typing import Any, Iterator, NoReturn
 
-from yoke import VERSION, api, printing, results, verbs
+from yoke import VERSION, api, builds, printing, results, verbs
 from yoke.login import profiles
 from yoke.progress import note
 from yoke.trouble import Trouble
@@ -50,7 +50,7 @@ def parser():
     """The parser of all words: each verb adds its own."""
     top = argparse.ArgumentParser(prog='yoke', allow_abbrev=False, description='Edit OpenStreetMap data in a folder, merge what others did, and send it.',
                                   epilog=MAP, formatter_class=argparse.RawDescriptionHelpFormatter)
-    top.add_argument('--version', action='version', version='yoke ' + VERSION)
+    top.add_argument('--version', action=Version, nargs=0, help='say which yoke this is, which program it drives, and whether that is proved')
     chosen = top.add_subparsers(dest='verb', metavar='VERB', required=True)
     for name in verbs.NAMES:
         verb = verbs.load(name)
@@ -62,12 +62,21 @@ def parser():
     return top
 
 
+class Version(argparse.Action):
+    """Prints the versions of yoke and its program, and ends."""
+
+    def __call__(self, parser: argparse.ArgumentParser, namespace: argparse.Namespace, values: Any, option: str | None = None) -> NoReturn:
+        print('yoke ' + VERSION)
+        print(builds.described())
+        parser.exit()
+
+
 def common(one):
     """The options that each verb has."""
     group = one.add_argument_group('the day and the program')
     group.add_argument('--day', metavar='FOLDER', default=os.environ.get('YOKE_DAY') or 'day',
                        help='the folder of the day ($YOKE_DAY, else day)')
-    group.add_argument('--program', metavar='PROGRAM', help='the program editor ($YOKE_EDITOR, else yokeorange on the path)')
+    group.add_argument('--program', metavar='PROGRAM', help='the program editor ($YOKE_EDITOR, else yokeorange on the path, else the package\'s own)')
     group.add_argument('--max-objects', metavar='N', type=int, help='as the option of editor: objects in the session')
     group.add_argument('--json', action='store_true', help='print one JSON document: exit code, error, notes, lines and the result as data')
 

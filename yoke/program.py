@@ -4,17 +4,16 @@
     for reply in answer.refused(): ...
     text = answer.saved()
 
-The program is `--program`, else $YOKE_EDITOR, else `yokeorange` on the path.
+The program is `--program`, else $YOKE_EDITOR, else `yokeorange` on the path, else the one in the package (`builds.find`).
 """
 import os
 import re
-import shutil
 import subprocess
 import tempfile
 from dataclasses import dataclass, field
 from typing import List
 
-from yoke import opl, words
+from yoke import builds, opl, words
 from yoke.trouble import Trouble
 
 LARGEST_FILE = 1073741824       # bytes: the most that editor allows, since a saved session is longer than its extract
@@ -134,11 +133,11 @@ class Program:
     @classmethod
     def of(cls, arguments):
         """The program that the words of a command line name; Trouble where there is none."""
-        name = arguments.program or os.environ.get('YOKE_EDITOR') or 'yokeorange'
-        found = shutil.which(name)
+        found = builds.find(arguments.program)
         if found is None:
+            name = arguments.program or os.environ.get('YOKE_EDITOR') or builds.NAME
             raise Trouble('there is no program {}: name it by --program or $YOKE_EDITOR, or put it on the path as yokeorange'.format(name))
-        return cls(os.path.abspath(found), arguments.max_objects or 0)
+        return cls(found, arguments.max_objects or 0)
 
     def run(self, lines):
         """The Answer to a script, with its refusals in it. File names in it are seen from the folder where Python runs.
