@@ -37,11 +37,6 @@ class Written:
         """Puts a table, as lines, in the place of the one that begins with the same row."""
         self.put(r'^{}\n(?:\|.*\n)+'.format(re.escape(rows[0])), '\n'.join(rows) + '\n', 'the table ' + rows[0])
 
-    def put_tables(self, lines):
-        """Puts tables with an empty line between them."""
-        for table in '\n'.join(lines).split('\n\n'):
-            self.put_table(table.split('\n'))
-
     def put_picture(self, mark, drawn):
         """Puts a picture of plain text after its remark."""
         self.put(r'^{}\n```.*\n(?:(?!```).*\n)*```\n'.format(re.escape(mark)), '{}\n```\n{}```\n'.format(mark, drawn), mark)

@@ -57,12 +57,12 @@ def agrees(program):
         raise Wrong(done.stdout[-4000:])
 
 
-@case('the tables of definitions are those of `bench/check/believe`, and pages on proofs and crates name only what there is')
+@case('the numbers of definitions are those of `bench/check/believe`, and pages on proofs name only what there is')
 def definitions(_):
     agrees('believe')
 
 
-@case('each wrong body of the gate has a promise, and the pages have the tables of `bench/check/promises`')
+@case('each wrong body of the gate has a promise and each promise one, and pages have readers try only what there is')
 def promises(_):
     agrees('promises')
 
@@ -77,7 +77,7 @@ def entries(_):
     agrees('crates')
 
 
-@case('the tables of calls that are assumed of the system are those of `bench/check/axioms`, and the crates name no other')
+@case('the number of calls that are assumed of the system is that of `bench/check/axioms`, and the crates name no other')
 def assumed(_):
     agrees('axioms')
 
