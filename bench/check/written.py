@@ -1,5 +1,4 @@
-"""Tables, pictures and numbers that programs write into the pages. A table is found by its first row and a picture by the
-remark before it, in whatever page they stand."""
+"""Pictures and numbers that programs write into the pages. A picture is found by the remark before it, in whatever page it stands."""
 import pathlib
 import re
 
@@ -32,10 +31,6 @@ class Written:
             return
         page, hit = found[0]
         self.texts[page] = self.texts[page][:hit.start()] + text + self.texts[page][hit.end():]
-
-    def put_table(self, rows):
-        """Puts a table, as lines, in the place of the one that begins with the same row."""
-        self.put(r'^{}\n(?:\|.*\n)+'.format(re.escape(rows[0])), '\n'.join(rows) + '\n', 'the table ' + rows[0])
 
     def put_picture(self, mark, drawn):
         """Puts a picture of plain text after its remark."""

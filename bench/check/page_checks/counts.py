@@ -37,16 +37,16 @@ def last_line(_):
         raise Wrong('docs/INSTALL.md has no `{passes} passed, 0 failed`'.format(**counted.numbers()))
 
 
-TABLE = ['| a | b |', '|---|---|', '| 1 | 2 |']
+MARK = '<!-- drawn -->'
 
 
-@case('a table is found by its first row, in whatever page; one that is nowhere or in two places is told')
-def tables_found(_):
-    old = '| a | b |\n|---|---|\n| 0 | 0 |\n| 3 | 4 |\n'
-    for texts, after, faults in [({'x': 'x\n', 'y': 'y\n\n' + old + '\nz\n'}, 'y\n\n' + '\n'.join(TABLE) + '\n\nz\n', 0), ({'y': 'y\n'}, 'y\n', 1),
+@case('a picture is found by its remark, in whatever page; one that is nowhere or in two places is told')
+def pictures_found(_):
+    old, new = (f'{MARK}\n```\n{drawn}```\n' for drawn in ('a - b\n', 'a - c\n'))
+    for texts, after, faults in [({'x': 'x\n', 'y': f'y\n\n{old}\nz\n'}, f'y\n\n{new}\nz\n', 0), ({'y': 'y\n'}, 'y\n', 1),
                                  ({'x': old, 'y': old}, old, 1)]:
         written = Written(texts)
-        written.put_table(TABLE)
+        written.put_picture(MARK, 'a - c\n')
         expect((after, faults), (written.texts['y'], len(written.faults)))
 
 
