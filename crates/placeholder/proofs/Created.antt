@@ -45,7 +45,8 @@ use Rattle.upload_order.proofs.PlanDowns.{downs_ordered}
 use Rattle.upload_order.proofs.Renaming.{renamed_from, renamed_to, renamed_itself}
 use Rattle.upload_order.proofs.Sounds.{sound_of, positive_is}
 use Rattle.upload_order.proofs.Static.{IsOrdered, no_more, next, with_key}
-use Rattle.upload_order.proofs.Turn.{same_law, mine_stays}
+use Rattle.upload_order.proofs.Local.{same_law}
+use Rattle.upload_order.proofs.Turn.{mine_stays}
 use Rattle.upload_order.proofs.Where.{keys_where, rising_of, falling_of, falling_items, falling_both, in_where}
 use Rattle.upload_order.proofs.Worlds.{called_meant}
 use Rattle.placeholder.specs.Confirmed.{moved, moved_entry, moved_entries, moved_change, confirmed}

@@ -15,9 +15,10 @@ use Rattle.upload_order.proofs.Basics.{key_same, both, none_some, with_more}
 use Rattle.upload_order.proofs.Renaming.{renamed_same}
 use Rattle.upload_order.proofs.Static.{IsUp, with_key}
 use Rattle.upload_order.proofs.Worlds.{grown, at_grown, off_grown}
-use Rattle.upload_order.proofs.Along.{Along, IsPut, IsPlace, up_based, at_is, new_rising}
+use Rattle.upload_order.proofs.Along.{Along, IsPut, IsPlace, up_replaced, at_is, new_rising}
 use Rattle.upload_order.specs.Kinds.{at_key, is_rising}
-use Rattle.upload_order.specs.Bases.{base_in, is_based}
+use Rattle.upload_order.specs.Bases.{base_in}
+use Rattle.upload_order.specs.Local.{is_replaced}
 use Rattle.osm_base.proofs.RisingKeys.{one_key, key_itself}
 use Rattle.osm_base.proofs.Tests.{never}
 
@@ -125,7 +126,7 @@ module _ (t : TableValue) (w0 w : World) (done : Key → Bool) (a : Along t w0 w
       | inl same ↦ (elim (cases_Bool (is_key x q)) [
         | inl i ↦ (elim which [
           | inl new ↦ inr (record { old = k; entry = e; content = c; is_up = up; was_new = new.0; is_done = with_on k k done (key_itself k); means = means ∙ ap (λ (y : Key). Some y) (sym (one_key x q i)) })
-          | inr old ↦ never (at_key t is_based x) (at_is t is_based x e true (ap (entry_of t) (one_key x q i ∙ old.1) ∙ up.entry) (up_based e c up.mine old.0)) n
+          | inr old ↦ never (at_key t is_replaced x) (at_is t is_replaced x e true (ap (entry_of t) (one_key x q i ∙ old.1) ∙ up.entry) (up_replaced e c up.mine up.up old.0)) n
         ])
         | inr i ↦ inl (off_grown w ns q _ _ x i ∙ same)
       ])

@@ -1,6 +1,6 @@
 -- A table that is not refused is clear to be sent.
-use Rattle.std.proofs.Common.{◌≡◌, Bool, true, false, not, ◌&&◌, cond, List, [], ◌∷◌, Option, Some, None, is_some, Result, Ok, Err, refl, sym, ◌∙◌, ap, subst, ◌⊎◌, inl, inr}
-use Rattle.std.proofs.lemmas.Bool.{and_parts, or_right, or_left}
+use Rattle.std.proofs.Common.{◌≡◌, Bool, true, false, not, ◌&&◌, cond, List, [], ◌∷◌, Option, Some, None, is_some, Result, Ok, Err, refl, sym, ◌∙◌, ap, subst, inl, inr}
+use Rattle.std.proofs.lemmas.Bool.{and_parts}
 use Rattle.std.specs.List.{list_any, find}
 use Rattle.std.specs.Option.{option_map_or}
 use Rattle.std.specs.FinMap as fin
@@ -13,13 +13,14 @@ use Rattle.osm_table.specs.Table.{TableValue, entry_of, keys_by_rank, mine_of, i
 use Rattle.upload_order.specs.declared.change.Change.{Change}
 use Rattle.upload_order.specs.declared.refusal.PlanRefusal.{PlanRefusal}
 use Rattle.upload_order.specs.declared.refusal.PlanRefusal.TheVariants.{IncompleteRef}
-use Rattle.upload_order.specs.Kinds.{at_key, held_of, is_rising, is_update, is_sent}
+use Rattle.upload_order.specs.Kinds.{at_key, held_of}
 use Rattle.upload_order.specs.Plan.{made, plan}
 use Rattle.upload_order.specs.Refused.{keeps, vouches, is_loose, refs_sent, loose_among, stuck_of, open_refusal, loose_refusal, stuck_refusal, upload_refusal, upload}
 use Rattle.upload_order.specs.Pieces.{vouches_at, loose_of, unless}
 use Rattle.upload_order.proofs.Entries.{IsIn, none_found, any_in}
 use Rattle.upload_order.proofs.Lists.{any_is}
 use Rattle.upload_order.proofs.PlanUps.{content_is}
+use Rattle.upload_order.proofs.Along.{sent_is}
 use Rattle.upload_order.proofs.Conditions.{IsVouched}
 
 abbrev of_ok : Result (List Change) PlanRefusal → List Change
@@ -38,10 +39,6 @@ pub none_among : (loose : Key → Bool) (t : TableValue) (ks : List Key) (k : Ke
 none_among loose t [] k e i = absurd i
 none_among loose t (j ∷ js) k e (inl s) = subst (λ (x : Key). loose_of loose t x ≡ None) s (none_before_map (IncompleteRef j) (loose_of loose t j) (none_of_both _ _ e).0)
 none_among loose t (j ∷ js) k e (inr i) = none_among loose t js k (none_of_both _ _ e).1 i
-
-pub sent_is : (e : Entry) → (is_rising e ≡ true) ⊎ (is_update e ≡ true) → is_sent e ≡ true
-sent_is e (inl h) = or_left (is_rising e) (is_update e) h
-sent_is e (inr h) = or_right (is_rising e) (is_update e) h
 
 pub and_not : (a b : Bool) → (a && not b) ≡ false → a ≡ true → b ≡ true
 and_not true true e f = refl

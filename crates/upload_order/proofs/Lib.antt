@@ -30,6 +30,7 @@ pub mod AlongStep
 pub mod Ups
 pub mod Downs
 pub mod Turn
+pub mod Local
 pub mod Peel
 pub mod PlanUps
 pub mod PlanDowns

@@ -16,16 +16,17 @@ use Rattle.upload_order.specs.declared.change.Change.TheVariants.{Create, Modify
 use Rattle.upload_order.specs.Rename.{named, called, with_id, is_positive}
 use Rattle.renamed_content.specs.Renamed.{renamed}
 use Rattle.upload_order.specs.Kinds.{held_of, at_key, is_rising}
-use Rattle.upload_order.specs.World.{World, stands, bad_ref, refusal, on_content, on_modify, after, Backs, IsFresh, Accepts}
+use Rattle.upload_order.specs.World.{World, stands, bad_ref, refusal, on_content, on_modify, after, IsFresh, Accepts}
+use Rattle.upload_order.specs.Local.{BacksSent}
 use Rattle.upload_order.specs.declared.world.WorldRefusal.TheVariants.{BadRef, Exists, Unfit, OldVersion}
 use Rattle.upload_order.proofs.Basics.{both}
 use Rattle.upload_order.proofs.Static.{IsUp, IsOrdered, no_more, next, with_key}
 use Rattle.upload_order.specs.Plan.{up_entry, up_of}
 use Rattle.upload_order.proofs.Worlds.{no_bad_ref, grown, called_meant}
-use Rattle.upload_order.proofs.Along.{Along, up_based, mine_known, means_itself, all_reached}
+use Rattle.upload_order.proofs.Along.{Along, up_based, up_replaced, mine_known, means_itself, all_reached}
 use Rattle.upload_order.proofs.AlongStep.{along_step}
 use Rattle.upload_order.specs.Bases.{base_in}
-use Rattle.upload_order.proofs.Conditions.{Sound, IsVouched}
+use Rattle.upload_order.proofs.Conditions.{Sound}
 use Rattle.osm_base.proofs.RisingKeys.{key_itself}
 use Rattle.osm_base.proofs.Tests.{never}
 
@@ -74,12 +75,12 @@ first_name k true same p o e f = cc
 first_name k false false p o e f = cc
 first_name k false true p o e f = refl
 
-module _ (t : TableValue) (s : Sound t) (v : IsVouched t) (w0 : World) (backs : Backs w0 t) where
+module _ (t : TableValue) (s : Sound t) (w0 : World) (backs : BacksSent w0 t) where
   -- what one change to the mine of a key is followed by
   module _ (w : World) (done : Key → Bool) (a : Along t w0 w done) (k : Key) (e : Entry) (c : Content) (up : IsUp t k e c) (free : done k ≡ false)
       (before : (r : Key) → refers c r ≡ true → at_key t is_rising r ≡ true → done r ≡ true) where
     content_ok : on_content w c ≡ None
-    content_ok = fit_content w c (s.fit k e c up.entry up.mine up.up) (no_bad_ref w c (all_reached t s v w0 w backs done a k e c up before))
+    content_ok = fit_content w c (s.fit k e c up.entry up.mine up.up) (no_bad_ref w c (all_reached t s w0 w backs done a k e c up before))
 
     abbrev One : Change → Type 0
     One change = (p : ℤ) → IsFresh w t change p → (refusal w change p ≡ None) × Along t w0 (after w change p) (with_key k done)
@@ -102,7 +103,7 @@ module _ (t : TableValue) (s : Sound t) (v : IsVouched t) (w0 : World) (backs : 
         let means = means_itself w.names k (s.positive k e up.entry (inr based)) in
         let self : called w.names k ≡ k = called_meant w.names k k means in
         let ok : refusal w (Modify k (version_of (base_in e)) c) p ≡ None =
-        ap (on_modify w (version_of (base_in e)) c) (ap (stands w) self ∙ a.waiting k e up.entry based free) ∙ same_version w (version_of (base_in e)) c (held_of e) content_ok in
+        ap (on_modify w (version_of (base_in e)) c) (ap (stands w) self ∙ a.waiting k e up.entry (up_replaced e c up.mine up.up n) free) ∙ same_version w (version_of (base_in e)) c (held_of e) content_ok in
         let along = along_step t w0 w done a k e c up free before k w.names means (λ j h. refl) (inr (n, refl)) (λ g. never (is_new (base_in e)) g n) in
         (ok, subst (λ (x : Key). Along t w0 (grown w w.names x (version_of (base_in e) + 1) (renamed (called w.names) c)) (with_key k done)) (sym self) along)
 

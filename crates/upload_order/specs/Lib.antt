@@ -11,6 +11,7 @@ pub mod Marked
 pub mod Rename
 pub mod Bases
 pub mod World
+pub mod Local
 pub mod Run
 pub mod Fronts
 pub mod Pieces
