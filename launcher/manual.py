@@ -11,6 +11,7 @@ from launcher.messages import Stop
 
 WIDTH = 78
 FENCE = '```'
+ANCHOR = re.compile(r'<a id="[^"]*"></a>')
 MARK = re.compile(r'\*\*(.+?)\*\*|`([^`]+)`|\[((?:`[^`]*`|[^\]`])*)\]\([^)]*\)|(?<![*\w])\*([^*\s][^*]*)\*')
 LABELLED = re.compile(r'\*\*([A-Z][a-z, ]+)\.\*\* ?(.*)', re.S)
 
@@ -80,7 +81,8 @@ def plain(text):
 
 
 def roff(text):
-    """A text of a page in roff: `words` and **words** are bold, *words* are italic, links are their text."""
+    """A text of a page in roff: `words` and **words** are bold, *words* are italic, links are their text, anchors nothing."""
+    text = ANCHOR.sub('', text)
     found, at = '', 0
     for mark in MARK.finditer(text):
         bold, word, link, italic = mark.groups()
@@ -113,9 +115,10 @@ def tagged(tag, text):
 
 def row(heading, parts):
     """A row of a table: the first cell is a tag, and the cells after the second say what they are."""
-    told = [text if at == 0 or name == 'it says' else '{}: {}'.format(name, text)
+    told = [text if at == 0 or name in ('it says', 'meaning') else '{}: {}'.format(name, text)
             for at, (name, text) in enumerate(zip(heading[1:], parts[1:])) if text]
-    return tagged(parts[0], '; '.join(told)) if parts[0] else '.IP\n' + filled('; '.join(told))
+    text = '; '.join([*(it.removesuffix('.') for it in told[:-1]), *told[-1:]])
+    return tagged(parts[0], text) if parts[0] else '.IP\n' + filled(text)
 
 
 def written(block):
@@ -193,7 +196,7 @@ print
 .RE
 '''
 
-COMMANDS, SCRIPTS, REFUSALS, FILES, QUERIES = 'COMMANDS.md', 'SCRIPTS.md', 'REFUSALS.md', 'BAD-FILES.md', 'QUERIES.md'
+COMMANDS, SCRIPTS, REFUSALS, QUERIES = 'COMMANDS.md', 'SCRIPTS.md', 'REFUSALS.md', 'QUERIES.md'
 FAMILIES = ('Files', 'New objects', 'Changes of one object', 'Deletions', 'Ways cut, joined, reversed', 'Some faults', 'Steps', 'Looks',
             'Settling conflicts', 'Uploads', 'Sessions', 'Meetings')
 
@@ -208,12 +211,8 @@ MANUALS = {
     ('yokeorange-commands', 5): ('each line of a script of yokeorange', [Part(COMMANDS, '', 'Description'), *(Part(COMMANDS, it) for it in FAMILIES)]),
     ('yokeorange-queries', 7): ('what the line find of yokeorange finds', [
         Part(QUERIES, '', 'Description'), *(Part(QUERIES, it) for it in ('Queries', 'Useful ones', 'Costs', 'Why so'))]),
-    ('yokeorange-refusals', 7): ('refusals and statuses of yokeorange, with ways out', [
-        Part(REFUSALS, '', 'Description'), Part(REFUSALS, 'Refusals of a step'), Part(REFUSALS, 'Statuses')]),
-    ('yokeorange-bad-files', 7): ('files and lines that yokeorange refuses: what is wrong with them, and what mends it', [
-        Part(FILES, '', 'Description'), *(Part(FILES, it) for it in ('Refusal 17', 'Refusal 20, fault by fault', 'Refusals 26 and 27: answer files',
-                                                                     'Refusals 30 and 31: saved sessions', 'Status 4: a bad line',
-                                                                     'Status 5: a script that is too long'))]),
+    ('yokeorange-refusals', 7): ('refusals and statuses of yokeorange, bad files and bad lines, with ways out', [
+        Part(REFUSALS, '', 'Description'), *(Part(REFUSALS, it) for it in ('Longer ways out', 'Statuses', 'Bad lines of a script'))]),
 }
 
 
@@ -237,5 +236,5 @@ def made(manual, pages, version):
 
 def of(home, version):
     """The manual pages of a checkout, by the names of their files."""
-    pages = {name: pathlib.Path(home, 'docs', name).read_text(encoding='utf-8') for name in (COMMANDS, SCRIPTS, REFUSALS, FILES, QUERIES)}
+    pages = {name: pathlib.Path(home, 'docs', name).read_text(encoding='utf-8') for name in (COMMANDS, SCRIPTS, REFUSALS, QUERIES)}
     return {file_name(*manual): made(manual, pages, version) for manual in MANUALS}

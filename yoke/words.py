@@ -29,7 +29,7 @@ REFUSALS = {
     17: ('{0} is told in two ways in its version {1}', 'make the file anew from its source: one of the two isn\'t what the server had'),
     18: ('there would be too many objects', 'work on a smaller area, or allow more by --max-objects'),
     19: ('there is no file of that name', 'look at the name and the folder; a blank is written %20%'),
-    20: ('the file is refused: {0}', 'docs/BAD-FILES.md has each fault by its number'),
+    20: ('the file is refused: {0}', 'docs/REFUSALS.md has each fault by its number'),
     21: ('fewer steps were done', 'undo fewer; yoke undo goes back to the session kept before'),
     22: ('fewer steps were undone', 'redo fewer, or write the steps anew'),
     23: ('{0} objects are in conflict, the first is {1}', 'yoke conflicts, and yoke resolve each'),
@@ -104,7 +104,7 @@ def status(code, message):
 
 def bad_line(step):
     """What to say of a line that is none of a script's."""
-    return 'no line of a script: {}; docs/BAD-FILES.md, "Status 4", has what it mostly is'.format(cut(step))
+    return 'no line of a script: {}; docs/REFUSALS.md, "Bad lines of a script", has the common slips'.format(cut(step))
 
 
 def is_version_mismatch(text):

@@ -1,4 +1,4 @@
-"""What a bad line was most likely meant to be: the right form of docs/BAD-FILES.md ("Status 4") for the slips that it names.
+"""What a bad line was most likely meant to be: the right form of docs/REFUSALS.md ("Bad lines of a script") for the slips that it names.
 
 A mend is only a proposal, and only one that is a line by the grammar is made. Nothing is mended unseen.
 """

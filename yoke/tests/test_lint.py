@@ -1,4 +1,4 @@
-"""The grammar of scripts agrees with the program and its definitions on every line; bad lines are mended as docs/BAD-FILES.md has it."""
+"""The grammar of scripts agrees with the program and its definitions on every line; bad lines are mended as docs/REFUSALS.md has it."""
 import os
 import pathlib
 import random
@@ -71,7 +71,7 @@ serve town.opl
 """.split('\n')[:-1]
 MEETING = ['editor 1', 'editor 4', 'fetch 0', 'fetch 9999999 B1,2,3,4 Fa=*', 'send 1', 'answer', 'lost', 'find new', 'begin', 'print']
 
-TABLE = [       # written, right: docs/BAD-FILES.md, "Status 4", and others of that sort
+TABLE = [       # written, right: docs/REFUSALS.md, "Bad lines of a script", and others of that sort
     ('tag n1 ref=7', 'tag n1 Tref=7'), ('node x1 y1', 'node x1 y1 T'), ('node 1 1 T', 'node x1 y1 T'),
     ('place n1 x13.12345678 y1', 'place n1 x13.1234568 y1'), ('move n1 1e-5 0', 'move n1 0.00001 0'),
     ('tag n1 Tname=High Street', 'tag n1 Tname=High%20%Street'), ('tag n1 Turl=http://x?a=b', 'tag n1 Turl=http://x?a%3d%b'),
