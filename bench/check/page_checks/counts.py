@@ -72,7 +72,7 @@ def layers(_):
     agrees('layers')
 
 
-@case('each crate has its entry, with the line of `bench/check/crates` and names that there are')
+@case('each crate has its row, as `bench/check/crates` makes it, and a promise with names that there are')
 def entries(_):
     agrees('crates')
 
