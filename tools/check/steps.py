@@ -58,6 +58,8 @@ def listed() -> list[Step]:
         Step('random sessions beside the second editor', (PYTHON, '-m', 'tools.check.sessions', PROGRAM, '4', '2'), program),
         Step('random sessions beside the second editor, more of them',
              (PYTHON, '-m', 'tools.check.sessions', PROGRAM, '20', '10'), program, FULL),
+        Step('instructions of each step', (PYTHON, '-m', 'tools.check.instructions', PROGRAM),
+             ('command valgrind', 'command cargo', *program)),
         own('bench/check/hostile', '--program', PROGRAM, needs=program, when=FULL),
         own('bench/check/pages', '--text'),
         own('bench/check/pages', PROGRAM, needs=program, when=FULL),
