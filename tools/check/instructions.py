@@ -1,10 +1,11 @@
-"""How many instructions a session takes, counted by callgrind: so a step that has become slower is seen, and no clock decides.
+"""How many instructions a session takes, counted by callgrind: no clock decides what got slower.
 
-    python3 -m tools.check.instructions PROGRAM            fails if a session takes a twentieth more than was written down
-    python3 -m tools.check.instructions PROGRAM --write    writes the counts of this program down, for a change that is meant
+    python3 -m tools.check.instructions PROGRAM            fails where one takes a twentieth more
+    python3 -m tools.check.instructions PROGRAM --write    writes the counts of this program down
 
-The sessions run over a made town. A count depends on the compiler and the processor's kind, so those that stand in
-instructions.json are compared only where both are the same; elsewhere the program says so and compares nothing.
+The sessions run over a made town. A count depends on the compiler and the kind of processor. So
+those in instructions.json are compared only where both are the same; elsewhere nothing is compared,
+and the program says so. Write the counts down anew for a change that is meant to cost something.
 PROGRAM is the plain build: it has the source of the proved program, and the same loops.
 """
 from __future__ import annotations
@@ -25,7 +26,7 @@ OBJECTS = 20_000                # of the town
 EDITS = 400                     # steps that edit an object each
 MORE = 1.05                     # a session may take so many times what was written down
 
-# The sessions by what they do: the steps of each, over map.opl, next.opl (a twentieth of it newer) and saved.opl.
+# The steps of each session, over map.opl, next.opl (a twentieth of it is newer) and saved.opl.
 SESSIONS = {
     'download': 'download map.opl\n',
     'download and print': 'download map.opl\nprint\n',
@@ -73,7 +74,8 @@ def make(folder: pathlib.Path, program: pathlib.Path) -> dict[str, str]:
 def counted(folder: pathlib.Path, program: pathlib.Path, script: str) -> int:
     """How many instructions the session of a script takes."""
     (folder / 'script').write_text(script, encoding='utf-8')
-    command = ['valgrind', '--tool=callgrind', '--callgrind-out-file=/dev/null', str(program), 'script']
+    command = ['valgrind', '--tool=callgrind', '--callgrind-out-file=/dev/null', str(program),
+               'script']
     done = subprocess.run(command, cwd=folder, stdin=subprocess.DEVNULL, stdout=subprocess.DEVNULL,
                           stderr=subprocess.PIPE, text=True)
     hit = re.search(r'Collected : (\d+)', done.stderr)
@@ -102,13 +104,14 @@ def write(found: Counts) -> None:
 
 
 def slower(wanted: Counts, found: Counts) -> list[str]:
-    """The sessions that take more than they may, a line each, and those that one of the two lacks."""
+    """A line for each session that takes more than it may, or that one of the two lacks."""
     faults = [f'{name}: only in one of the two'
               for name in sorted(wanted.instructions.keys() ^ found.instructions.keys())]
     for name in sorted(wanted.instructions.keys() & found.instructions.keys()):
         before, now = wanted.instructions[name], found.instructions[name]
         if now > before * MORE:
-            faults.append(f'{name}: {now:,} instructions, {before:,} before: {now / before:.2f} times')
+            faults.append(f'{name}: {now:,} instructions, {before:,} before: '
+                          f'{now / before:.2f} times')
     return faults
 
 
