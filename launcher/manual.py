@@ -196,7 +196,7 @@ print
 .RE
 '''
 
-COMMANDS, SCRIPTS, REFUSALS, QUERIES = 'COMMANDS.md', 'SCRIPTS.md', 'REFUSALS.md', 'QUERIES.md'
+COMMANDS, SCRIPTS, REFUSALS = 'COMMANDS.md', 'SCRIPTS.md', 'REFUSALS.md'
 FAMILIES = ('Files', 'New objects', 'Changes of one object', 'Deletions', 'Ways cut, joined, reversed', 'Some faults', 'Steps', 'Looks',
             'Settling conflicts', 'Uploads', 'Sessions', 'Meetings')
 
@@ -206,11 +206,9 @@ MANUALS = {
         RUN, Part(SCRIPTS, 'The command line', 'Options', ('table', 'item')), Part(COMMANDS, '', 'Lines of a script', ('table',)),
         Part(SCRIPTS, 'The exit status', 'Exit status', ('text',)), Part(REFUSALS, 'Statuses', '', ('table',)), Part(SCRIPTS, 'Limits', kinds=('table',)),
         EXAMPLE]),
-    ('yokeorange-script', 5): ('scripts of yokeorange: lines, words, replies, groups, the ids of new objects', [
-        Part(SCRIPTS, it) for it in ('Lines', 'Words', 'Replies', 'Steps and groups', 'Ids of new objects')]),
+    ('yokeorange-script', 5): ('scripts of yokeorange: lines, words, replies, groups, the ids of new objects, queries', [
+        Part(SCRIPTS, it) for it in ('Lines', 'Words', 'Replies', 'Steps and groups', 'Ids of new objects', 'Queries')]),
     ('yokeorange-commands', 5): ('each line of a script of yokeorange', [Part(COMMANDS, '', 'Description'), *(Part(COMMANDS, it) for it in FAMILIES)]),
-    ('yokeorange-queries', 7): ('what the line find of yokeorange finds', [
-        Part(QUERIES, '', 'Description'), *(Part(QUERIES, it) for it in ('Queries', 'Useful ones', 'Costs', 'Why so'))]),
     ('yokeorange-refusals', 7): ('refusals and statuses of yokeorange, bad files and bad lines, with ways out', [
         Part(REFUSALS, '', 'Description'), *(Part(REFUSALS, it) for it in ('Longer ways out', 'Statuses', 'Bad lines of a script'))]),
 }
@@ -236,5 +234,5 @@ def made(manual, pages, version):
 
 def of(home, version):
     """The manual pages of a checkout, by the names of their files."""
-    pages = {name: pathlib.Path(home, 'docs', name).read_text(encoding='utf-8') for name in (COMMANDS, SCRIPTS, REFUSALS, QUERIES)}
+    pages = {name: pathlib.Path(home, 'docs', name).read_text(encoding='utf-8') for name in (COMMANDS, SCRIPTS, REFUSALS)}
     return {file_name(*manual): made(manual, pages, version) for manual in MANUALS}

@@ -238,7 +238,7 @@ class Review:
             keys = set(self.session.ask(['find ' + query]).found())
         except BadLine:
             raise Refused(
-                'it is no query; docs/QUERIES.md has what there is, such as way and Tsurface=asphalt'
+                'it is no query; docs/SCRIPTS.md has what there is, such as way and Tsurface=asphalt'
             ) from None
         corners = self.found.corners
         return [

@@ -147,7 +147,7 @@ def objects(session: Session, there: table.Table, rules: rule_file.Rules) -> Lis
     try:
         keys = session.ask(['find ' + query]).found()
     except BadLine:
-        raise Refused(f'{query} is no query, which against wants: docs/QUERIES.md') from None
+        raise Refused(f'{query} is no query, which against wants: docs/SCRIPTS.md') from None
     return [one for key in keys for one in [thing_of(there, key)] if one]
 
 
