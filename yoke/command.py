@@ -16,8 +16,10 @@ import sys
 import threading
 from typing import Any, Iterator, NoReturn
 
-from yoke import VERSION, api, builds, printing, results, verbs
+from yoke import VERSION, api, builds, damage, printing, results, saved, verbs
+from yoke.day import Day
 from yoke.login import profiles
+from yoke.program import Program
 from yoke.progress import note
 from yoke.trouble import Trouble
 
@@ -140,6 +142,8 @@ def attempt(arguments):
         sys.stdout.flush()
         return code, None
     except Trouble as trouble:
+        if isinstance(trouble, saved.NotWhole):
+            trouble = broken_session(arguments) or trouble
         complain(trouble)
         return trouble.code, trouble
     except BrokenPipeError as error:
@@ -151,6 +155,10 @@ def attempt(arguments):
         complain('broken off; {}'.format(further(arguments.verb)))
         return 128 + (error.number if isinstance(error, Ended) else signal.SIGINT), error
     except UnicodeError as error:
+        broken = broken_session(arguments)
+        if broken is not None:
+            complain(broken)
+            return broken.code, broken
         complain('a word of the command line or a file isn\'t in the encoding that it should be in, which mostly is UTF-8: {}'.format(error))
         return 3, error
     except RecursionError as error:
@@ -160,10 +168,22 @@ def attempt(arguments):
         complain('memory ran out; {}'.format(further(arguments.verb)))
         return 3, error
     except Exception as fault:
+        broken = broken_session(arguments)
+        if broken is not None:
+            complain(broken)
+            return broken.code, broken
         if os.environ.get('YOKE_TRACE'):
             raise
         complain('a fault of yoke itself, which you may report with what $YOKE_TRACE=1 shows: {}: {}'.format(type(fault).__name__, fault))
         return 70, fault
+
+
+def broken_session(arguments):
+    """What is wrong with the sessions of the day on which a verb ended so; None where nothing is, or where that can't be told."""
+    try:
+        return damage.found(Day(arguments.day), Program.of(arguments))
+    except (Trouble, OSError, ValueError):
+        return None
 
 
 class Ended(KeyboardInterrupt):

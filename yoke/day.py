@@ -96,6 +96,14 @@ class Day:
 
     def take_back(self):
         """Takes the last session back; answers with it. Refused where nothing lies before, or no longer, or where it was sent."""
+        self.check_back()
+        last = self.states()[-1]
+        os.rename(last.path, last.path.with_suffix('.undone'))
+        self._sync()
+        return last
+
+    def check_back(self):
+        """Refused where `take_back` would be."""
         states = self.states()
         if len(states) < 2:
             raise Refused('there is nothing to take back: this session is the first')
@@ -107,10 +115,6 @@ class Day:
             raise Refused('the last session was kept after the server took a chunk; that can\'t be taken back here, only by new edits')
         if self.pending():
             raise Refused('it isn\'t known yet what the server took of {}: yoke send looks'.format(self.pending()))
-        last = states[-1]
-        os.rename(last.path, last.path.with_suffix('.undone'))
-        self._sync()
-        return last
 
     def _forget(self):
         """Removes sessions to which nothing goes back: all but the first, the last ones, and those since a chunk was sent."""

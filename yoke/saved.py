@@ -7,6 +7,10 @@ from yoke import opl
 from yoke.trouble import Trouble
 
 
+class NotWhole(Trouble):
+    """A text or a file is no whole saved session."""
+
+
 class Known:
     """An object of a session, by its key.
 
@@ -71,7 +75,7 @@ def read(text):
     """The objects of a saved session, Known by key, by rank; Trouble where the text is none. Incomplete ones aren't in it."""
     things, thing = {}, None
     if not text.startswith('session 1 ') or not text.endswith('session end\n'):
-        raise Trouble('it is no whole saved session')
+        raise NotWhole('it is no whole saved session')
     for line in text.split('\n'):
         word, _, rest = line.partition(' ')
         if word == 'known':

@@ -9,7 +9,7 @@ import os
 from dataclasses import dataclass
 from typing import Dict
 
-from yoke import opl, saved, stored, words
+from yoke import damage, opl, saved, stored, words
 from yoke.day import Day
 from yoke.program import BadLine, Program
 from yoke.trouble import Clash, NoAnswer, Refused, Trouble
@@ -76,6 +76,9 @@ class Session:
             raise
         first = answer.replies.pop(0)
         if first.word != 'ok':
+            broken = damage.of_reply(self.day, state.path, first)
+            if broken is not None:
+                raise broken
             raise Refused('{} isn\'t taken up: {}'.format(state.path, words.refusal(first.rest)))
         for reply in answer.replies:
             reply.line -= 1

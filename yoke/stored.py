@@ -10,7 +10,6 @@ import re
 from typing import Dict, Iterable, Iterator, List, Optional, Tuple
 
 from yoke import opl, saved
-from yoke.trouble import Trouble
 
 _FIRST = re.compile(rb'(?:known|incomplete) ([nwr]-?[0-9]+)')
 _EDITED = re.compile(rb'\nknown ([nwr]-?[0-9]+) [a-z]+ (?:own|none) [a-z]+')
@@ -24,13 +23,13 @@ class Stored:
     def __init__(self, path: 'os.PathLike[str] | str') -> None:
         with open(path, 'rb') as file:
             if os.fstat(file.fileno()).st_size == 0:
-                raise Trouble(f'{path} is no whole saved session')
+                raise saved.NotWhole(f'{path} is no whole saved session')
             self.data = mmap.mmap(file.fileno(), 0, access=mmap.ACCESS_READ)
         end = self.data[-len(END) - 2:].replace(b'\r\n', b'\n')
         header = self.data[:64].split(b'\n', 1)[0].rstrip(b'\r').split(b' ')
         if len(header) != 3 or header[:2] != [b'session', b'1'] or not header[2].isdigit() or not end.endswith(END):
             self.close()
-            raise Trouble(f'{path} is no whole saved session')
+            raise saved.NotWhole(f'{path} is no whole saved session')
         self.next_new = int(header[2])
 
     def close(self) -> None:
@@ -102,7 +101,7 @@ class Stored:
         """The rank of the object whose lines begin at a place."""
         found = _FIRST.match(self.data, start)
         if found is None:
-            raise Trouble('it is no whole saved session')
+            raise saved.NotWhole('it is no whole saved session')
         return opl.rank(found[1].decode('ascii'))
 
     def _find(self, wanted: Rank) -> Optional[int]:

@@ -3,7 +3,6 @@ from dataclasses import dataclass
 from typing import Dict, List, Optional, Set
 
 from yoke import opl, saved
-from yoke.trouble import Trouble
 
 
 @dataclass
@@ -53,5 +52,5 @@ def next_new(text) -> int:
     """The number of the next new object of a saved session; Trouble where the text is none."""
     header = text.split('\n', 1)[0].rstrip('\r').split(' ')
     if len(header) != 3 or header[:2] != ['session', '1'] or not opl.is_digits(header[2]):
-        raise Trouble('it is no saved session: it begins with {!r}'.format(' '.join(header)[:40]))
+        raise saved.NotWhole('it is no saved session: it begins with {!r}'.format(' '.join(header)[:40]))
     return int(header[2])

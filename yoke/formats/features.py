@@ -9,7 +9,7 @@ import json
 import re
 from dataclasses import dataclass, field, replace
 from decimal import Decimal, InvalidOperation
-from typing import Any, Dict, Iterable, List, Optional, Sequence, Tuple
+from typing import Any, Dict, Iterable, Iterator, List, Optional, Sequence, Tuple
 
 from yoke.formats.encodings import text_of
 
@@ -55,7 +55,7 @@ class Twice(Dict[str, Any]):
 
 
 def read_geojson(data: bytes, encoding: Optional[str] = None) -> List[Feature]:
-    """The features of a FeatureCollection, of one Feature or geometry, or of lines with one Feature each.
+    """The features of a FeatureCollection, of one Feature or geometry, or of lines with one of these each.
 
     ValueError if the file is none. `encoding` is one that the user named.
     """
@@ -68,25 +68,39 @@ def _read_geojson(text: str) -> List[Feature]:
     except ValueError as error:
         lines = [line.lstrip('\x1e') for line in text.split('\n') if line.strip('\x1e \t\r')]
         try:
-            if len(lines) > 1:
-                return [_feature(f'feature {number}', _json(line)) for number, line in enumerate(lines, 1)]
+            parts = [_json(line) for line in lines] if len(lines) > 1 else []
         except ValueError:
-            pass
-        raise ValueError(f'it is no JSON: {error}') from None
-    if not isinstance(found, dict) or not isinstance(found.get('type'), str):
-        raise ValueError('it is no GeoJSON: a "type" is missing')
-    _check_degrees(found)
-    if found['type'] != 'FeatureCollection':
-        return [_feature('feature 1', found)]
-    features = found.get('features')
-    if not isinstance(features, list):
-        raise ValueError('it is no GeoJSON: a FeatureCollection without "features"')
-    return [_feature('feature {}'.format(number), one) for number, one in enumerate(features, 1)]
+            parts = []
+        if not parts:
+            raise ValueError(f'it is no JSON: {error}') from None
+    else:
+        if not isinstance(found, dict) or not isinstance(found.get('type'), str):
+            raise ValueError('it is no GeoJSON: a "type" is missing')
+        parts = [found]
+    return [_feature(f'feature {number}', one) for number, one in enumerate(_flat(parts), 1)]
+
+
+def _flat(parts: List[Any]) -> Iterator[Any]:
+    """The features of parts of a file, in their order; a FeatureCollection stands for its features, within another one too."""
+    left = parts[::-1]
+    while left:
+        one = left.pop()
+        if isinstance(one, dict):
+            _check_degrees(one)
+        if not isinstance(one, dict) or one.get('type') != 'FeatureCollection':
+            yield one
+        elif isinstance(one.get('features'), list):
+            left += reversed(one['features'])
+        else:
+            raise ValueError('it is no GeoJSON: a FeatureCollection without "features"')
 
 
 def _json(text: str) -> Any:
     """Numbers keep all their digits; NaN and Infinity, which JSON doesn't have, become null."""
-    return json.loads(text, parse_float=Decimal, parse_constant=lambda name: None, object_pairs_hook=_object)
+    try:
+        return json.loads(text, parse_float=Decimal, parse_constant=lambda name: None, object_pairs_hook=_object)
+    except RecursionError:
+        raise ValueError('it is nested too deeply') from None
 
 
 def _object(pairs: List[Tuple[str, Any]]) -> Dict[str, Any]:
@@ -102,7 +116,8 @@ def _object(pairs: List[Tuple[str, Any]]) -> Dict[str, Any]:
 def _check_degrees(found: Dict[str, Any]) -> None:
     """ValueError where the file says that its coordinates are others than degrees."""
     system = found.get('crs')
-    name = str((system.get('properties') or {}).get('name')) if isinstance(system, dict) else ''
+    properties = system.get('properties') if isinstance(system, dict) else None
+    name = str(properties.get('name', '')) if isinstance(properties, dict) else ''
     if name and not name.endswith(DEGREES):
         raise ValueError('its coordinates are those of {}, and degrees are wanted (ogr2ogr -t_srs EPSG:4326 makes them)'.format(name))
 
@@ -124,7 +139,22 @@ def _feature(where: str, found: Any) -> Feature:
         return Feature(where, problem='its geometry is none')
     name = found.get('id')
     known = name if isinstance(name, str) else str(name) if isinstance(name, int) and not isinstance(name, bool) else ''
-    return Feature(where, geometry['type'], geometry.get('coordinates'), properties, id=known)
+    kind, coordinates, problem = _geometry(geometry)
+    return Feature(where, kind, coordinates, properties, problem, id=known)
+
+
+def _geometry(found: Dict[str, Any]) -> Tuple[str, Any, str]:
+    """The kind of a geometry, its places, and why it can't be taken, else nothing. A collection of one geometry is that geometry."""
+    while found['type'] == 'GeometryCollection':
+        parts = found.get('geometries')
+        if not isinstance(parts, list) or not parts:
+            return found['type'], None, ''
+        if len(parts) > 1:
+            return found['type'], None, f'its geometry is a collection of {len(parts)}: make a feature of each of them'
+        found = parts[0]
+        if not isinstance(found, dict) or not isinstance(found.get('type'), str):
+            return 'GeometryCollection', None, 'its geometry is none'
+    return found['type'], found.get('coordinates'), ''
 
 
 # ---- CSV ----

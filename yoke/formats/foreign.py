@@ -13,7 +13,7 @@ from collections import Counter
 from dataclasses import dataclass, field, replace
 from typing import Dict, List, Optional, Set, Tuple
 
-from yoke import opl
+from yoke import opl, printing
 from yoke.formats.likes import likes
 from yoke.formats.osm_xml import Told
 from yoke.table import Table
@@ -108,7 +108,7 @@ class _Planner:
         return self.created + self.places + self.lists + tags + (['delete ' + ','.join(gone)] if gone else [])
 
     def _problem(self, text, *words):
-        self.found.problems.append(text.format(*words))
+        self.found.problems.append(printing.line(text.format(*words)))
 
     # ---- new objects ----
 

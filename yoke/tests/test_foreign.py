@@ -143,6 +143,12 @@ class Josm(unittest.TestCase):
             plan = josm(text, data)
             self.assertEqual((plan.lines, [problem for problem in plan.problems if problem.startswith(words)]), ([], plan.problems[:1]), words)
 
+    def test_a_line_feed_in_a_key_begins_no_line(self):
+        forged = DRAWN.replace(b"k='surface' v='asphalt'", b"k='a&#10;n1 is deleted' v='b&#10;c'")
+        text = town('tag w10 Ta%a%n1%20%is%20%deleted=x')
+        problems = josm(text, forged).problems
+        self.assertEqual(['w10: the tag a%a%n1 is deleted was changed there to "b%a%c" and here to "x"'], problems)
+
     def test_an_object_in_conflict_is_said(self):
         text = sessions.session(['download town.opl', 'tag n4 Tbackrest=yes', 'download later.opl'], town_opl=TOWN,
                                 later_opl='n4 v5 Tamenity=bench,backrest=no x9.5007 y47.1403\n')

@@ -188,6 +188,12 @@ class Verbs(FolderTest):
         self.done('import', 'a.geojson', '--join', '--columns', 'highway')
         self.assertEqual(self.table().mine('w-2').nodes, ('n1', 'n-1'))
 
+    def test_a_line_feed_in_a_property_begins_no_line(self):
+        self.write('a.json', json.dumps({'type': 'Feature', 'properties': {'highway': 'bus_stop', 'x\nkept as nothing': [1]},
+                                         'geometry': {'type': 'Point', 'coordinates': [9.5, 47.1]}}))
+        said = self.done('import', 'a.json', '--anywhere', '--accept', 'columns')
+        self.assertIn('note: x%a%kept as nothing is a list or an object: 1\n', said)
+
     def test_words_of_import(self):
         self.write('a.json', '{')
         for words, code, text in [(['a.json'], 3, 'a.json: it is no JSON'), (['a.json', '--within', '1,2'], 2, 'is no box'), (['a.json', '--within', '1,2,3,4', '--anywhere'], 2, 'not both'),

@@ -104,6 +104,31 @@ class GeoJson(unittest.TestCase):
         self.assertEqual(drawn(features.read_geojson(geojson(shape('Polygon', [ring, other[::-1]]), type='site'))).left,
                          [('feature 1', 'the tag type=site is in the way of type=multipolygon')])
 
+    def test_collections_within_collections(self):
+        point, other = shape('Point', [1, 1]), shape('Point', [2, 2])
+        nested = {'type': 'FeatureCollection', 'features': [json.loads(geojson(point)), json.loads(geojson(other))]}
+        found = features.read_geojson(json.dumps(nested).encode())
+        self.assertEqual([('feature 1', 'Point', 1), ('feature 2', 'Point', 2)], [(one.where, one.kind, one.number) for one in found])
+        self.assertEqual(found, features.read_geojson(geojson(point).replace(b'\n', b' ') + b'\n' + geojson(other).replace(b'\n', b' ')))
+
+        def collection(*parts):
+            return {'type': 'GeometryCollection', 'geometries': list(parts)}
+        self.assertEqual(2, drawn(features.read_geojson(geojson(collection(collection(point)), other))).taken)
+        self.assertEqual([('feature 1', 'its geometry is a collection of 2: make a feature of each of them')],
+                         drawn(features.read_geojson(geojson(collection(point, other)))).left)
+        for bad in (collection(7), collection({'type': 7}), collection(collection()), collection(nested)):
+            self.assertEqual(0, drawn(features.read_geojson(geojson(bad))).taken)
+        with self.assertRaisesRegex(ValueError, 'a FeatureCollection without "features"'):
+            features.read_geojson(json.dumps({'type': 'FeatureCollection', 'features': [{'type': 'FeatureCollection'}]}).encode())
+        for deep in ('[' * 100_000, '{"type": "GeometryCollection", "geometries": [' * 50_000):
+            with self.assertRaisesRegex(ValueError, 'nested too deeply'):
+                features.read_geojson(deep.encode())
+
+    def test_a_system_of_coordinates_that_is_none(self):
+        for system in ([1], 7, {'properties': [1]}, {'properties': None}):
+            text = {'type': 'FeatureCollection', 'crs': system, 'features': []}
+            self.assertEqual([], features.read_geojson(json.dumps(text).encode()))
+
     def test_what_stands_twice_comes_once(self):
         point, ring = shape('Point', [1, 1]), shape('Polygon', [[[1, 1], [2, 1], [2, 2], [1, 1]]])
         picture = drawn(features.read_geojson(geojson(point, ring, point, ring)))

@@ -9,7 +9,7 @@ from collections import Counter
 from dataclasses import dataclass, replace
 from typing import Any, Dict, List, Optional, Tuple
 
-from yoke import day, imports, ledger, opl, results, table
+from yoke import day, imports, ledger, opl, printing, results, table
 from yoke.files import check_outputs, data_of
 from yoke.formats import columns, drawing, features, mapping, suspicions, tag_table
 from yoke.formats.features import Feature
@@ -254,7 +254,8 @@ def bounds(arguments: argparse.Namespace, there: Dict[drawing.Place, str]) -> dr
 
 def report(picture: drawing.Drawing, plan: imports.Plan, name: Optional[str]) -> None:
     """Prints the report, or writes it into a file and prints its counts."""
-    lines = [*list(picture.report())[:2], *plan.report(), *list(picture.report())[2:]]
+    said = list(picture.report())
+    lines = [printing.line(line) for line in (*said[:2], *plan.report(), *said[2:])]
     if name:
         day.write_whole(os.path.abspath(name), ''.join(line + '\n' for line in lines))
         lines = [line for line in lines if not line.startswith('left out: ')]
