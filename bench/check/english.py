@@ -27,10 +27,7 @@ PLAIN = ['docs/PROOF.md', 'docs/SPEED.md', 'docs/TRIALS.md', 'README.md', 'docs/
          'docs/COMPANION-FORMATS.md', 'docs/HOWTO/conflate.md', 'docs/HOWTO/send.md',
          'docs/HOWTO/get-data.md', 'docs/HOWTO/log-in.md', 'docs/HOWTO/review.md', 'docs/HOWTO/import.md',
          'docs/HOWTO/values-from-a-table.md', 'docs/REFUSALS.md', 'docs/CRATES.md', 'docs/MERGING.md',
-         'docs/DOWNLOADS.md',
-         'docs/TABLES.md',
-         'docs/COMMANDS.md',
-         'docs/SCRIPTS.md']
+         'docs/DOWNLOADS.md', 'docs/TABLES.md', 'docs/COMMANDS.md', 'docs/SCRIPTS.md']
 
 # Phrases that read as if translated, and what to write in their place.
 ODD = {

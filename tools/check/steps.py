@@ -63,6 +63,7 @@ def listed() -> list[Step]:
         own('bench/check/hostile', '--program', PROGRAM, needs=program, when=FULL),
         own('bench/check/pages', '--text'),
         own('bench/check/pages', PROGRAM, needs=program, when=FULL),
+        Step('site', (PYTHON, '-m', 'tools.site', '--check'), ('module mkdocs',)),
         own('bench/check/layers', '--page'),
         own('bench/check/crates', '--page'),
         own('bench/check/believe', '--page'),

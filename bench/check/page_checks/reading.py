@@ -92,6 +92,29 @@ def all_reached(_):
     expect([], [page for page in PAGES if page not in distances()])
 
 
+def placed(text):
+    """The pages that mkdocs.yml places in the site, those of the how-tos by the page that links to them."""
+    listed = re.findall(r'^ +- (\S+\.md)$', text, re.M)
+    return listed + [page for page in PAGES if 'docs/HOWTO/README.md' in listed and page in {link.target for link in links('docs/HOWTO/README.md')}
+                     and page.startswith('docs/HOWTO/') and page not in listed]
+
+
+def place_faults(text):
+    """The pages without a place in mkdocs.yml, and the places without a page or that stand there twice."""
+    listed = placed(text)
+    for page in sorted({*PAGES, *OTHERS, *listed}):
+        if listed.count(page) != (page in PAGES + OTHERS):
+            yield 'mkdocs.yml has {} {} times'.format(page, listed.count(page))
+
+
+@case('each page has one place in mkdocs.yml, the order of the site, and the check sees where one has none')
+def all_placed(_):
+    text = (TOP / 'mkdocs.yml').read_text(encoding='utf-8')
+    expect([], list(place_faults(text)))
+    for old in (text.replace('      - docs/TOUR.md\n', ''), text + '      - docs/GONE.md\n', text + '      - docs/TOUR.md\n'):
+        expect(1, len(list(place_faults(old))))
+
+
 def nearest(pages):
     """How many links the nearest of these pages is from the first one."""
     return min((distances()[page] for page in pages if page in distances()), default=FARTHEST + 1)
