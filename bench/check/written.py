@@ -1,6 +1,5 @@
-"""Pictures and numbers that programs write into the pages. A picture is found by the remark before it, in whatever page it stands."""
+"""Numbers that programs write into the pages."""
 import pathlib
-import re
 
 from bench.check import counted
 
@@ -22,19 +21,6 @@ class Written:
         """Over the pages of this repository, or over texts by their names."""
         self.was = texts or pages()
         self.texts, self.faults = dict(self.was), []
-
-    def put(self, pattern, text, name):
-        """Puts a text in the place of the one match of a pattern."""
-        found = [(page, re.search(pattern, was, re.M)) for page, was in self.texts.items() for _ in re.findall(pattern, was, re.M)]
-        if len(found) != 1:
-            self.faults.append('{} pages have {}'.format(len(found) or 'no', name))
-            return
-        page, hit = found[0]
-        self.texts[page] = self.texts[page][:hit.start()] + text + self.texts[page][hit.end():]
-
-    def put_picture(self, mark, drawn):
-        """Puts a picture of plain text after its remark."""
-        self.put(r'^{}\n```.*\n(?:(?!```).*\n)*```\n'.format(re.escape(mark)), '{}\n```\n{}```\n'.format(mark, drawn), mark)
 
     def put_numbers(self):
         """Puts the numbers that programs count."""

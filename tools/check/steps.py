@@ -64,7 +64,7 @@ def listed() -> list[Step]:
         own('bench/check/pages', '--text'),
         own('bench/check/pages', PROGRAM, needs=program, when=FULL),
         Step('site', (PYTHON, '-m', 'tools.site', '--check'), ('module mkdocs',)),
-        own('bench/check/layers', '--page'),
+        own('bench/check/layers'),
         own('bench/check/crates', '--page'),
         own('bench/check/believe', '--page'),
         own('bench/check/axioms', '--page', needs=('command rt',)),

@@ -4,7 +4,6 @@ import subprocess
 from bench.check import counted
 from bench.check.page_checks.case import case, expect, finds_fault
 from bench.check.page_checks.page import PAGES, TOP, Wrong, text_of
-from bench.check.written import Written
 
 
 def told_right(text):
@@ -37,49 +36,36 @@ def last_line(_):
         raise Wrong('docs/INSTALL.md has no `{passes} passed, 0 failed`'.format(**counted.numbers()))
 
 
-MARK = '<!-- drawn -->'
-
-
-@case('a picture is found by its remark, in whatever page; one that is nowhere or in two places is told')
-def pictures_found(_):
-    old, new = (f'{MARK}\n```\n{drawn}```\n' for drawn in ('a - b\n', 'a - c\n'))
-    for texts, after, faults in [({'x': 'x\n', 'y': f'y\n\n{old}\nz\n'}, f'y\n\n{new}\nz\n', 0), ({'y': 'y\n'}, 'y\n', 1),
-                                 ({'x': old, 'y': old}, old, 1)]:
-        written = Written(texts)
-        written.put_picture(MARK, 'a - c\n')
-        expect((after, faults), (written.texts['y'], len(written.faults)))
-
-
-def agrees(program):
-    """A program of bench/check finds the pages as it makes them."""
-    done = subprocess.run([TOP / 'bench' / 'check' / program, '--page'], stdout=subprocess.PIPE, stderr=subprocess.STDOUT, text=True)
+def agrees(program, *words):
+    """A program of bench/check finds the pages, or the files of which they tell, as they should be."""
+    done = subprocess.run([TOP / 'bench' / 'check' / program, *words], stdout=subprocess.PIPE, stderr=subprocess.STDOUT, text=True)
     if done.returncode != 0:
         raise Wrong(done.stdout[-4000:])
 
 
 @case('the numbers of definitions are those of `bench/check/believe`, and pages on proofs name only what there is')
 def definitions(_):
-    agrees('believe')
+    agrees('believe', '--page')
 
 
 @case('each wrong body of the gate has a promise and each promise one, and pages have readers try only what there is')
 def promises(_):
-    agrees('promises')
+    agrees('promises', '--page')
 
 
-@case('the picture of the layers is that of `bench/check/layers`')
+@case('each crate has its line in crates.txt, in its layer, with the libraries that it names')
 def layers(_):
     agrees('layers')
 
 
 @case('each crate has its row, as `bench/check/crates` makes it, and a promise with names that there are')
 def entries(_):
-    agrees('crates')
+    agrees('crates', '--page')
 
 
 @case('the number of calls that are assumed of the system is that of `bench/check/axioms`, and the crates name no other')
 def assumed(_):
-    agrees('axioms')
+    agrees('axioms', '--page')
 
 
 @case('each picture of docs/pictures is as `bench/pictures` makes it, and can be read')
