@@ -2,7 +2,7 @@
 import subprocess
 
 from bench.check import counted
-from bench.check.page_checks.case import case, expect, finds_fault
+from bench.check.page_checks.case import case, finds_fault
 from bench.check.page_checks.page import PAGES, TOP, Wrong, text_of
 
 
