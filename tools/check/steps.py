@@ -60,6 +60,8 @@ def listed() -> list[Step]:
              (PYTHON, '-m', 'tools.check.sessions', PROGRAM, '20', '10'), program, FULL),
         Step('instructions of each step', (PYTHON, '-m', 'tools.check.instructions', PROGRAM),
              ('command valgrind', 'command cargo', *program)),
+        Step('each fault at each call and write of five sends', (PYTHON, '-m', 'yoke.testing.explore', '--faults', '1'),
+             ('module urllib3',), FULL),
         own('bench/check/hostile', '--program', PROGRAM, needs=program, when=FULL),
         own('bench/check/pages', '--text'),
         own('bench/check/pages', PROGRAM, needs=program, when=FULL),

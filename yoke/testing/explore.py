@@ -30,6 +30,7 @@ import argparse
 import contextlib
 import dataclasses
 import enum
+import functools
 import hashlib
 import io
 import json
@@ -41,7 +42,7 @@ import sys
 import tempfile
 import time
 import types
-from typing import Any, Dict, Iterator, List, Mapping, NamedTuple, Optional, Sequence, Tuple
+from typing import Any, Callable, Dict, Iterator, List, Mapping, NamedTuple, Optional, Sequence, Tuple
 from unittest import mock
 
 from yoke import command, saved, transport
@@ -168,6 +169,11 @@ def noon() -> float:
     return 1_800_000_000.0
 
 
+def at_noon(gmtime: Callable[[float], time.struct_time], seconds: Optional[float] = None) -> time.struct_time:
+    """What `time.gmtime` gives, by which it is always noon."""
+    return gmtime(noon() if seconds is None else seconds)
+
+
 def frozen(server: StrictServer) -> bytes:
     """All of a server that counts."""
     database = server.database
@@ -202,6 +208,17 @@ def server_digest(server: StrictServer) -> str:
             [(one.request, one.requests) for one in server._late],
         )
     )
+
+
+# What has a state of its own that stands in the key of a state already, or none that changes.
+WITHOUT_STATE = (
+    StrictServer,
+    transport.Transport,
+    types.ModuleType,
+    type,
+    Program,
+    argparse.ArgumentParser,
+)
 
 
 class Digest:
@@ -243,7 +260,7 @@ class Digest:
         if isinstance(value, types.GeneratorType):
             frame = value.gi_frame
             return f'{value.__qualname__}({self.frame(frame) if frame is not None else ""})'
-        if isinstance(value, (StrictServer, transport.Transport, types.ModuleType, type, Program)):
+        if isinstance(value, WITHOUT_STATE):
             return type(value).__name__
         inner = getattr(value, '__dict__', {})
         return f'{type(value).__qualname__}({self.of(inner)})'
@@ -262,17 +279,20 @@ def _is_set(cell: Any) -> bool:
 
 
 YOKE = str(pathlib.Path(command.__file__).parent) + os.sep
-COMMAND = os.sep + 'command.py'  # its variables are those of the command line
+COMMAND = YOKE + 'command.py'  # its variables are those of the command line
 TESTING = str(pathlib.Path(__file__).parent) + os.sep
 
 
 def place() -> str:
-    """Where the program is, with the values of the variables of all its functions."""
+    """Where the program is, with the values of the variables of all its functions.
+
+    What called the program, such as a test with all that its runner knows, is none of it.
+    """
     found, digest = [], Digest()
     frame: Optional[types.FrameType] = sys._getframe(1)
-    while frame is not None:
+    while frame is not None and frame.f_code.co_filename != COMMAND:
         name = frame.f_code.co_filename
-        if name.startswith(YOKE) and not name.startswith(TESTING) and not name.endswith(COMMAND):
+        if name.startswith(YOKE) and not name.startswith(TESTING):
             found.append(digest.frame(frame))
         frame = frame.f_back
     return '\n'.join(found)
@@ -665,7 +685,9 @@ class Walk:
 
 @contextlib.contextmanager
 def quiet(program: Program) -> Iterator[pathlib.Path]:
-    """A folder in memory, without waits, and without waiting for the disk."""
+    """A folder in memory, without waits, and without waiting for the disk. It is always noon: two
+    states that differ by the time in a log would count as two.
+    """
     memory = '/dev/shm' if os.access('/dev/shm', os.W_OK) else None
     before, parser = os.getcwd(), command.parser()
     with tempfile.TemporaryDirectory(prefix='yoke-explore-', dir=memory) as folder, mock.patch(
@@ -676,6 +698,8 @@ def quiet(program: Program) -> Iterator[pathlib.Path]:
         'yoke.program.Program.of', lambda arguments: program
     ), mock.patch.dict(
         os.environ, {'YOKE_TOKEN': TOKEN}
+    ), mock.patch(
+        'time.gmtime', functools.partial(at_noon, time.gmtime)
     ):
         os.chdir(folder)
         try:

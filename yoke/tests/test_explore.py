@@ -1,5 +1,8 @@
-"""A send walked through with every single fault, over each plan; two and more are for a run by hand."""
+"""A send walked through with every single fault over two of the plans. `./check` walks through all of them; two faults and more
+are for a run by hand."""
+import time
 import unittest
+from typing import Optional
 from unittest import mock
 
 from yoke.sending import Sending
@@ -12,6 +15,18 @@ class Explore(unittest.TestCase):
         counts = explore.walk('four', 1, support.program())
         self.assertGreater(counts.states, 500)
         self.assertGreater(counts.ends, 20)
+
+    def test_neither_the_time_nor_the_caller_is_part_of_a_state(self) -> None:
+        """Else a walk never comes where it was, and grows with the load of the machine."""
+        seconds: list[int] = []     # a clock that is read again and again, and a variable of the caller that changes
+
+        def later(given: Optional[float] = None) -> time.struct_time:
+            seconds.append(len(seconds))
+            return time.localtime(len(seconds) if given is None else given)
+
+        with mock.patch('time.gmtime', later):
+            counts = explore.walk('four', 1, support.program())
+        self.assertEqual(explore.walk('four', 1, support.program()), counts)
 
     def test_every_fault_over_a_send_of_a_part(self) -> None:
         counts = explore.walk('a part', 1, support.program())
