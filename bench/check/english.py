@@ -29,11 +29,8 @@ PLAIN = ['docs/PROOF.md', 'docs/SPEED.md', 'docs/TRIALS.md', 'README.md', 'docs/
          'docs/HOWTO/values-from-a-table.md', 'docs/REFUSALS.md', 'docs/CRATES.md', 'docs/MERGING.md',
          'docs/DOWNLOADS.md', 'docs/TABLES.md', 'docs/COMMANDS.md', 'docs/SCRIPTS.md', 'docs/UPLOADS.md',
          'docs/ARCHITECTURE.md', 'docs/OPL.md', 'docs/DECISIONS.md', 'docs/RELATIONS.md', 'CONTRIBUTING.md',
-         'docs/MEETINGS.md',
-         'docs/SAVING.md',
-         'docs/GLOSSARY.md',
-         'docs/CHEATSHEET.md',
-         'docs/TOUR.md']
+         'docs/MEETINGS.md', 'docs/SAVING.md', 'docs/GLOSSARY.md', 'docs/CHEATSHEET.md', 'docs/TOUR.md',
+         'CHANGELOG.md', 'yoke/README.md']
 
 # Phrases that read as if translated, and what to write in their place.
 ODD = {
