@@ -15,6 +15,7 @@ _FIRST = re.compile(rb'(?:known|incomplete) ([nwr]-?[0-9]+)')
 _EDITED = re.compile(rb'\nknown ([nwr]-?[0-9]+) [a-z]+ (?:own|none) [a-z]+')
 END = b'session end\n'
 Rank = Tuple[int, bool, int]
+WAYS: Rank = (1, False, 0)      # before all ways and relations: a node refers to nothing
 
 
 class Stored:
@@ -56,22 +57,13 @@ class Stored:
 
     def users(self, key: str) -> List[str]:
         """The keys of the objects that refer to this one as they are here, by rank."""
-        mark, found = key.encode('ascii'), []
-        for at in self._places(mark):
-            if self.data[at - 1:at] in (b'N', b'M', b',') and not self.data[at + len(mark):at + len(mark) + 1].isdigit():
-                found.append(self._start_of_object(at))
-        keys = []
-        for start in dict.fromkeys(found):
-            known = self._known(start)
-            if known.mine and key in known.mine.references:
-                keys.append(known.key)
-        return keys
-
-    def _places(self, mark: bytes) -> Iterator[int]:
-        at = self.data.find(mark)
-        while at >= 0:
-            yield at
-            at = self.data.find(mark, at + len(mark))
+        first = self._from(WAYS)
+        if first is None:
+            return []
+        mark = re.compile(b'[NM,]' + key.encode('ascii') + b'(?=[,@\\s])')
+        starts = dict.fromkeys(self._start_of_object(found.start()) for found in mark.finditer(self.data, first))
+        users = map(self._known, starts)
+        return [known.key for known in users if known.mine and key in known.mine.references]
 
     # ---- several ----
 

@@ -17,6 +17,14 @@ class Table:
     incomplete: Set[str]
     next_new: int
 
+    def get(self, key: str) -> Optional[saved.Known]:
+        """An object; None where the session doesn't have it, or has it as only referred to."""
+        return self.things.get(key)
+
+    def is_incomplete(self, key: str) -> bool:
+        """Whether an object is only referred to."""
+        return key in self.incomplete
+
     def mine(self, key) -> Optional[opl.Object]:
         """What an object is here; None where it is deleted, only referred to, or not known."""
         known = self.things.get(key)

@@ -1,17 +1,31 @@
 """One object as a reader wants to see it: its sides, what differs between them, and who uses it."""
-from typing import Iterator
+from __future__ import annotations
 
-from yoke import opl, sides
-from yoke.table import Table
+from typing import Iterator, Protocol
+
+from yoke import opl, saved, sides
 
 
-def lines(table: Table, key: str) -> Iterator[str]:
+class Objects(Protocol):
+    """The objects of a session: a `Table` of all of them, or a `Stored` that looks each up."""
+
+    def get(self, key: str) -> saved.Known | None:
+        """An object; None where the session doesn't have it, or has it as only referred to."""
+
+    def is_incomplete(self, key: str) -> bool:
+        """Whether an object is only referred to."""
+
+    def users(self, key: str) -> list[str]:
+        """The keys of the objects that refer to this one as they are here, by rank."""
+
+
+def lines(objects: Objects, key: str) -> Iterator[str]:
     """The lines that show an object; none where the session doesn't know it."""
-    known = table.things.get(key)
+    known = objects.get(key)
     if known is None:
-        if key in table.incomplete:
+        if objects.is_incomplete(key):
             yield '{}: only referred to, not downloaded'.format(key)
-            yield from _users(table, key)
+            yield from _users(objects, key)
         return
     yield '{}: {}'.format(key, _state(known))
     for name, side in (('base', known.base), ('mine', known.mine if known.edit else None), ('theirs', known.theirs)):
@@ -19,11 +33,11 @@ def lines(table: Table, key: str) -> Iterator[str]:
             yield from _side(name, side)
     if known.edit and known.edit != 'new':
         yield from ('changed  ' + change for change in (sides.change(known.there, known.mine) if known.there and known.mine else []))
-    yield from _users(table, key)
-    yield from _references(table, known.mine or known.there)
+    yield from _users(objects, key)
+    yield from _references(objects, known.mine or known.there)
 
 
-def _state(known) -> str:
+def _state(known: saved.Known) -> str:
     words = {'new': 'new here', 'changed': 'changed here', 'deleted': 'deleted here', None: 'as the server has it' if known.there else 'deleted on the server'}
     return words[known.edit] + ('' if known.conflict == 'none' else ', in conflict: ' + known.conflict)
 
@@ -45,16 +59,18 @@ def _side(name: str, side: opl.Object) -> Iterator[str]:
         yield '    member {} {}{}'.format(at, member, ' ' + sides.plain(role) if role else '')
 
 
-def _users(table: Table, key: str) -> Iterator[str]:
+def _users(objects: Objects, key: str) -> Iterator[str]:
     """The ways and relations that use the object, with the roles that it has there."""
-    for user in table.users(key):
-        thing = table.mine(user)
-        roles = sorted({role for member, role in thing.members if member == key and role})
-        yield 'used by  {}{}'.format(sides.title(thing), ', as ' + ','.join(map(sides.plain, roles)) if roles else '')
+    for user in objects.users(key):
+        known = objects.get(user)
+        thing = known.mine if known else None
+        if thing is not None:
+            roles = sorted({role for member, role in thing.members if member == key and role})
+            yield 'used by  {}{}'.format(sides.title(thing), ', as ' + ','.join(map(sides.plain, roles)) if roles else '')
 
 
-def _references(table: Table, thing) -> Iterator[str]:
+def _references(objects: Objects, thing: opl.Object | None) -> Iterator[str]:
     """What the object refers to and isn't there."""
-    missing = [key for key in dict.fromkeys(thing.references) if key in table.incomplete] if thing else []
+    missing = [key for key in dict.fromkeys(thing.references) if objects.is_incomplete(key)] if thing else []
     if missing:
         yield 'not downloaded: ' + ','.join(missing)
