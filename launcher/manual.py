@@ -196,14 +196,14 @@ print
 .RE
 '''
 
-COMMANDS, SCRIPTS, REFUSALS = 'COMMANDS.md', 'SCRIPTS.md', 'REFUSALS.md'
+COMMANDS, SCRIPTS, REFUSALS, SHEET = 'COMMANDS.md', 'SCRIPTS.md', 'REFUSALS.md', 'CHEATSHEET.md'
 FAMILIES = ('Files', 'New objects', 'Changes of one object', 'Deletions', 'Ways cut, joined, reversed', 'Some faults', 'Steps', 'Looks',
             'Settling conflicts', 'Uploads', 'Sessions', 'Meetings')
 
 # The name and section of each manual page, what it is about, and its parts.
 MANUALS = {
     ('yokeorange', 1): ('edit OpenStreetMap data by a script, without a screen or a network', [
-        RUN, Part(SCRIPTS, 'The command line', 'Options', ('table', 'item')), Part(COMMANDS, '', 'Lines of a script', ('table',)),
+        RUN, Part(SCRIPTS, 'The command line', 'Options', ('table', 'item')), Part(SHEET, 'Lines of a script', kinds=('table',)),
         Part(SCRIPTS, 'The exit status', 'Exit status', ('text',)), Part(REFUSALS, 'Statuses', '', ('table',)), Part(SCRIPTS, 'Limits', kinds=('table',)),
         EXAMPLE]),
     ('yokeorange-script', 5): ('scripts of yokeorange: lines, words, replies, groups, the ids of new objects, queries', [
@@ -234,5 +234,5 @@ def made(manual, pages, version):
 
 def of(home, version):
     """The manual pages of a checkout, by the names of their files."""
-    pages = {name: pathlib.Path(home, 'docs', name).read_text(encoding='utf-8') for name in (COMMANDS, SCRIPTS, REFUSALS)}
+    pages = {name: pathlib.Path(home, 'docs', name).read_text(encoding='utf-8') for name in (COMMANDS, SCRIPTS, REFUSALS, SHEET)}
     return {file_name(*manual): made(manual, pages, version) for manual in MANUALS}

@@ -138,11 +138,11 @@ def heads_alike(_):
         expect(entry.words, list(dict.fromkeys(re.findall(r'`([a-z]+)', entry.parts['Form']))))
 
 
-@case('each word with which an entry of the table of lines begins is one of a script')
+@case('the sheet of lines has a link for each word with which a line of a script begins, and no other')
 def forms(_):
-    listed = {word for page in PAGES for table in tables(page) if table.heads[:2] == ['line', 'what it does'] for row in table.rows
-              for word in re.findall(r'`([a-z]+)', row[0])}
-    expect([], sorted(listed - set(counted.verbs())))
+    links = [link for page in PAGES for table in tables(page) if table.heads[:2] == ['you want to', 'lines of a script'] for row in table.rows
+             for link in re.findall(r'\[((?:`[^`]*`|[^]`])*)\]\(COMMANDS', row[1])]
+    expect(counted.verbs(), sorted({word for link in links for word in re.findall(r'`([a-z]+)', link)}))
 
 
 def ways_out():
