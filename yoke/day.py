@@ -27,7 +27,7 @@ import os
 import pathlib
 import re
 from dataclasses import dataclass
-from typing import IO, Optional, Tuple
+from typing import IO, Any, Iterator, Optional, Tuple
 
 from yoke.trouble import Busy, Refused, Trouble
 
@@ -84,11 +84,19 @@ class Day:
 
     def keep(self, verb, text):
         """Keeps a session as the last one; answers with its State."""
+        with self.draft(verb) as draft:
+            draft.begin().write(text.encode('utf-8'))
+            return draft.keep()
+
+    @contextlib.contextmanager
+    def draft(self, verb: str) -> Iterator['Draft']:
+        """A session that a verb is about to keep as the last one; what of it isn't kept in the context goes."""
         name = self.next_name(verb)
-        state = State(int(name.split('-')[0]), verb, self.folder / (name + '.saved'))
-        self.write(state.path.name, text)
-        self._forget()
-        return state
+        one = Draft(self, State(int(name.split('-')[0]), verb, self.folder / (name + '.saved')))
+        try:
+            yield one
+        finally:
+            one.drop()
 
     def next_name(self, verb):
         """The name, without its ending, of the session that is kept next, by a verb."""
@@ -213,6 +221,48 @@ class Day:
             yield self
 
 
+@dataclass
+class Draft:
+    """A session that is about to be kept: nothing of it is there until `begin`, and it is the last session after `keep`."""
+
+    day: Day
+    state: State
+    file: Optional[IO[bytes]] = None
+
+    def begin(self) -> IO[bytes]:
+        """The file that its text goes into."""
+        self.file = open(self._path, 'wb')
+        return self.file
+
+    def keep(self) -> State:
+        """Keeps it, whole, as the last session of the day."""
+        assert self.file is not None
+        settle(self.file, self._path, self.state.path)
+        self.file = None
+        self.day._forget()
+        return self.state
+
+    def drop(self) -> None:
+        """Removes what was written and isn't kept."""
+        if self.file is not None:
+            self.file.close()
+            self._path.unlink()
+            self.file = None
+
+    @property
+    def _path(self) -> pathlib.Path:
+        return self.state.path.with_name(self.state.path.name + '.new')
+
+
+def settle(file: IO[Any], new: pathlib.Path, path: pathlib.Path) -> None:
+    """Brings a file that was written to the disk, closes it, and gives it its name."""
+    file.flush()
+    os.fsync(file.fileno())
+    file.close()
+    os.replace(new, path)
+    sync_folder(path.parent)
+
+
 def write_whole(path, text):
     """Writes a file whole or not at all: what stood there before stands there until the new text is on the disk. No other file is
     touched, one called `.new` neither."""
@@ -231,10 +281,7 @@ def write_by(new, path, text):
     """Writes a file whole or not at all, by another name in the same folder, which may stand there if it doesn't succeed."""
     with open(new, 'w', encoding='utf-8', newline='\n') as file:
         file.write(text)
-        file.flush()
-        os.fsync(file.fileno())
-    os.replace(new, path)
-    sync_folder(path.parent)
+        settle(file, new, path)
 
 
 def is_own(name):

@@ -6,17 +6,23 @@
 
 The program is `--program`, else $YOKE_EDITOR, else `yokeorange` on the path, else the one in the package (`builds.find`).
 """
+from __future__ import annotations
+
+import contextlib
 import os
 import re
 import subprocess
 import tempfile
+from collections.abc import Callable, Iterator
 from dataclasses import dataclass, field
-from typing import List
+from typing import IO, List, NoReturn, Optional
 
 from yoke import builds, opl, words
 from yoke.trouble import Trouble
 
 LARGEST_FILE = 1073741824       # bytes: the most that editor allows, since a saved session is longer than its extract
+PIECE = 1 << 20                 # bytes that are copied at a time
+END = b'session end\n'
 REPLY = re.compile('([0-9]+) (ok|refused|skipped)(?: (.*))?')
 
 
@@ -73,6 +79,13 @@ class Answer:
             else:
                 self.replies[-1].text.append(text)
 
+    @classmethod
+    def of(cls, replies: list[Reply]) -> Answer:
+        """An Answer of these replies."""
+        answer = cls('', [])
+        answer.replies = replies
+        return answer
+
     def refused(self):
         """The replies of refused steps. Steps of a group that were skipped aren't among them."""
         return [reply for reply in self.replies if reply.word == 'refused']
@@ -123,6 +136,9 @@ class Answer:
         return found
 
 
+Target = Callable[[Answer], Optional[IO[bytes]]]     # the file into which a session is saved after an Answer, or none
+
+
 @dataclass(frozen=True)
 class Program:
     """The program `editor`, by the path of its file."""
@@ -144,25 +160,78 @@ class Program:
 
         Raises BadLine where a line is none, and Trouble where the session didn't run to its end for another reason.
         """
+        with self.output(lines) as output:
+            data = output.read()
+        return self._answer(data, lines)
+
+    def save(self, lines: list[str], target: Target) -> Answer:
+        """The Answer to a script, after which the session is saved into the file that `target` gives for this Answer: where it gives
+        none, nothing is saved. The text of the session is never in memory as a whole. Raises as `run`, and then the file isn't whole.
+        """
+        steps = [*lines, 'save']
+        with self.output(steps) as output:
+            head, reply = _until(output, len(steps))
+            file = target(self._answer(head, lines)) if reply else None
+            is_whole = _copied(output, file)
+        answer = self._answer(head, lines)
+        if not is_whole or reply.split()[1:] != [b'ok']:
+            raise Trouble('the session wrote no whole `save`')
+        return answer
+
+    @contextlib.contextmanager
+    def output(self, lines: list[str]) -> Iterator[IO[bytes]]:
+        """What the program writes for a script, as it comes. Raises as `run`, at the end of the context."""
         if any('\n' in line for line in lines):
             raise ValueError('a line of a script with a line feed in it')
         options = ['--max-file={}'.format(LARGEST_FILE)] + (['--max-objects={}'.format(self.max_objects)] if self.max_objects else [])
-        with tempfile.TemporaryDirectory(prefix='yoke-') as folder:
+        with tempfile.TemporaryDirectory(prefix='yoke-') as folder, open(os.path.join(folder, 'errors'), 'w+b') as errors:
             path = os.path.join(folder, 'script')
             with open(path, 'w', encoding='utf-8', newline='\n') as script:
                 script.writelines(line + '\n' for line in lines)
-            done = subprocess.run([self.path, *options, path], stdout=subprocess.PIPE, stderr=subprocess.PIPE)
-        if done.returncode != 0:
-            self._stopped(done, lines)
+            with subprocess.Popen([self.path, *options, path], stdout=subprocess.PIPE, stderr=errors) as process:
+                assert process.stdout is not None
+                try:
+                    yield process.stdout
+                    _copied(process.stdout, None)
+                except BaseException:
+                    process.kill()
+                    raise
+            errors.seek(0)
+            if process.returncode != 0:
+                _stopped(process.returncode, errors.read(), lines)
+
+    def _answer(self, output: bytes, lines: list[str]) -> Answer:
         try:
-            return Answer(done.stdout.decode('utf-8'), lines)
+            return Answer(output.decode('utf-8'), lines)
         except (UnicodeDecodeError, IndexError):
             raise Trouble('{} is no program editor: its output has no replies'.format(self.path)) from None
 
-    def _stopped(self, done, lines):
-        message = done.stderr.decode('utf-8', 'replace').strip()
-        found = re.search('bad script line ([0-9]+)$', message)
-        if done.returncode == 4 and found:
-            line = int(found[1])
-            raise BadLine(words.bad_line(lines[line - 1]), line)
-        raise Trouble(words.status(done.returncode, message))
+
+def _stopped(code: int, errors: bytes, lines: list[str]) -> NoReturn:
+    """Raises what it means that the program ended with a status."""
+    message = errors.decode('utf-8', 'replace').strip()
+    found = re.search('bad script line ([0-9]+)$', message)
+    if code == 4 and found:
+        line = int(found[1])
+        raise BadLine(words.bad_line(lines[line - 1]), line)
+    raise Trouble(words.status(code, message))
+
+
+def _until(output: IO[bytes], number: int) -> tuple[bytes, bytes]:
+    """What a program writes before the reply to the step with a number, and that reply; it is empty where none comes."""
+    head, mark = [], b'%d ' % number
+    for line in output:
+        if line.startswith(mark):
+            return b''.join(head), line
+        head.append(line)
+    return b''.join(head), b''
+
+
+def _copied(source: IO[bytes], target: IO[bytes] | None) -> bool:
+    """Copies what is left of a stream into a file, if there is one; answers whether it ends as a saved session does."""
+    tail = b''
+    while piece := source.read(PIECE):
+        if target is not None:
+            target.write(piece)
+        tail = (tail + piece)[-len(END):]
+    return tail == END

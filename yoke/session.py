@@ -11,7 +11,7 @@ from typing import Dict
 
 from yoke import damage, opl, saved, stored, words
 from yoke.day import Day
-from yoke.program import BadLine, Program
+from yoke.program import Answer, BadLine, Program
 from yoke.trouble import Clash, NoAnswer, Refused, Trouble
 
 
@@ -39,9 +39,11 @@ class Session:
         the server may have taken what such an edit would change.
         """
         self.check_settled()
-        answer = self._run(self.day.last(), list(lines) + ['save'], allow_refused)
-        if keep_refused or not answer.refused():
-            self.day.keep(verb, answer.saved())
+        with self.day.draft(verb) as draft:
+            answer = self._run(self.day.last(), list(lines), allow_refused, lambda answer: (
+                draft.begin() if keep_refused or not answer.refused() else None))
+            if draft.file is not None:
+                draft.keep()
         return answer
 
     def check_settled(self):
@@ -57,20 +59,28 @@ class Session:
         Answers with the Answer, whose last `upload` has what is left, in chunks of so many changes. Trouble where the
         answers aren't those to what this session would send.
         """
-        lines = ['confirm ' + opl.escape(os.path.abspath(self.day.path(name))), 'save', 'upload {}'.format(size)]
-        answer = self._run(self.day.last(), lines, allow_refused=True)
-        taken = answer.last('confirm')
-        if taken.word != 'ok':
-            raise Trouble('{}: {}'.format(self.day.path(name), words.refusal(taken.rest)))
-        self.day.keep('send', answer.saved())
+        lines = ['confirm ' + opl.escape(os.path.abspath(self.day.path(name))), 'upload {}'.format(size)]
+        with self.day.draft('send') as draft:
+            answer = self._run(self.day.last(), lines, True, lambda answer: draft.begin() if answer.replies[0].word == 'ok' else None)
+            taken = answer.last('confirm')
+            if taken.word != 'ok':
+                raise Trouble('{}: {}'.format(self.day.path(name), words.refusal(taken.rest)))
+            draft.keep()
         if answer.refused():
             raise_refused(answer)
         return answer
 
-    def _run(self, state, lines, allow_refused):
-        """Replies carry the numbers of the lines given here, from 1."""
+    def _run(self, state, lines, allow_refused, target=None):
+        """Replies carry the numbers of the lines given here, from 1. With a `target` the session after them is saved into the file that
+        it gives for the replies to them, where the session was taken up.
+        """
+        def checked(answer):
+            first, *others = answer.replies
+            return target(Answer.of(others)) if first.word == 'ok' else None
+
+        steps = [resume(state)] + lines
         try:
-            answer = self.program.run([resume(state)] + lines)
+            answer = self.program.save(steps, checked) if target else self.program.run(steps)
         except BadLine as bad:
             bad.line -= 1
             raise

@@ -17,7 +17,7 @@ from unittest import mock
 from bench.model import model
 from yoke import command, words
 from yoke.day import Day
-from yoke.program import Answer, BadLine, Program
+from yoke.program import BadLine, Program
 from yoke.session import Session
 from yoke.testing.elements import lines_of_opl
 from yoke.testing.server import TOKEN, Limits, StrictServer
@@ -36,14 +36,15 @@ r9 v1 Ttype=route Mw5@
 class Model(Program):
     """The second editor, in this process."""
 
-    def run(self, lines):
+    @contextlib.contextmanager
+    def output(self, lines):
         limits = model.Limits(objects=self.max_objects or 2_000_000, file=1_073_741_824)
         try:
             output = ''.join(model.written(model.Session(limits), ''.join(line + '\n' for line in lines)))
         except SystemExit as bad:
             number = int(re.search('script line ([0-9]+)', str(bad))[1])
             raise BadLine(words.bad_line(lines[number - 1]), number) from None
-        return Answer(output, lines)
+        yield io.BytesIO(output.encode())
 
 
 def program():

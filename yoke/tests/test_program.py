@@ -1,5 +1,6 @@
 """How the program is run, and what is read of what it writes."""
 import argparse
+import io
 import os
 import pathlib
 import tempfile
@@ -79,6 +80,20 @@ class Running(unittest.TestCase):
         one = self.fake('for word; do echo "$word"; done >&2; cat "$3" >&2; exit 8\n')
         with self.assertRaisesRegex(Trouble, r'(?s)--max-file=1073741824\n--max-objects=7\n.*script\ncount'):
             Program(one.path, 7).run(['count'])
+
+    def test_a_session_is_saved_into_a_file(self):
+        replies = 'printf "1 ok n-1\\n2 ok\\ncount nodes 1\\n'
+        whole = '3 ok\\nsession 1 2\\nsession end\\n"'
+        file = io.BytesIO()
+        answer = self.fake(replies + whole).save(['node x1 y1 T', 'count'], lambda answer: file if answer.replies[0].made() else None)
+        self.assertEqual((b'session 1 2\nsession end\n', ['ok', 'ok']), (file.getvalue(), [reply.word for reply in answer.replies]))
+        self.assertEqual({'nodes': 1}, answer.counts())
+        self.fake(replies + whole).save(['node x1 y1 T', 'count'], lambda answer: None)
+        for text, said in [(replies + '3 ok\\nsession 1 2\\n"', 'no whole `save`'), (replies + '3 refused 1\\nsession end\\n"', 'no whole `save`'),
+                           (replies + '"', 'no whole `save`'), (replies + whole + '; exit 9', 'memory ran out'),
+                           ('echo hello', 'no program editor'), (replies + whole + '; echo more', 'no whole `save`')]:
+            with self.assertRaisesRegex(Trouble, said):
+                self.fake(text + '\n').save(['node x1 y1 T', 'count'], lambda answer: io.BytesIO())
 
     def test_a_bad_line(self):
         with self.assertRaises(BadLine) as raised:

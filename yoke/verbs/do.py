@@ -84,7 +84,7 @@ def end(session, answer, keep, strict=False):
     """The exit code of what was done; says what was kept. Refused where nothing is kept."""
     refused = answer.refused()
     if refused and not keep:
-        raise Refused('nothing is kept: {} of {} steps {} refused'.format(len(refused), len(answer.replies) - 1, 'was' if len(refused) == 1 else 'were')
+        raise Refused('nothing is kept: {} of {} steps {} refused'.format(len(refused), len(answer.replies), 'was' if len(refused) == 1 else 'were')
                       if not strict else 'nothing is kept: it ended at line {}'.format(refused[0].line))
     results.put(session=results.of_state(session.day.last()))
     print('kept as {}'.format(session.day.last().path))
@@ -156,16 +156,15 @@ def check(name, lines, folder):
 def show(name, answer, kept):
     """What the steps wrote, what was refused, in words, and what was made, if it is kept."""
     gone = given_up(answer)
-    results.add('steps', *(of_reply(reply, kept and reply.line not in gone) for reply in answer.replies if reply.verb != 'save'))
+    results.add('steps', *(of_reply(reply, kept and reply.line not in gone) for reply in answer.replies))
     for reply in answer.replies:
         if reply.word == 'refused':
             what = [reply.row, 'refused', words.cut(reply.step), reply.problem or words.refusal(reply.rest)]
             print('{}:{}: {}'.format(name, reply.line, ': '.join(filter(None, what))))
         elif kept and reply.made() and reply.line not in gone:
             print('{}:{}: made {}'.format(name, reply.line, ','.join(reply.made())))
-        if reply.verb != 'save':
-            for text in reply.text:
-                print(text)
+        for text in reply.text:
+            print(text)
 
 
 def of_reply(reply, kept):

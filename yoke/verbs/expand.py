@@ -1,7 +1,7 @@
 """`yoke expand`: a script as the program editor takes it."""
 import re
 
-from yoke import files, opl, results, table
+from yoke import files, opl, results, stored, table
 from yoke.program import BadLine, Program
 from yoke.progress import note
 from yoke.scripts import bound, grammar, names, shorthand
@@ -62,7 +62,9 @@ def run(arguments):
 
 def over_session(name, lines, session, accepted=None):
     """The lines of a script as the program takes them over the session as it is now; the folder of the day has to be locked."""
-    return expand(name, lines, table.next_new(session.day.last().text()), lambda steps: session.ask(steps, allow_refused=True), accepted)
+    with stored.opened(session.day.last().path) as kept:
+        number = kept.next_new
+    return expand(name, lines, number, lambda steps: session.ask(steps, allow_refused=True), accepted)
 
 
 def expand(name, lines, number, look, accepted=None):

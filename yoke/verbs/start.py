@@ -36,11 +36,12 @@ def run(arguments):
         lines = ['download ' + opl.escape(os.path.abspath(file)) for file in found]
         with day.locked(make=True):
             check_folder(day)
-            answer = program.run(lines + ['count', 'save'])
-            for reply in answer.refused():
-                raise Refused('{}: {}'.format(arguments.extracts[reply.line - 1], words.refusal(reply.rest)))
-            taken_over = ledger.take_over(day, Day(arguments.after)) if arguments.after else 0
-            state = day.keep('start', answer.saved())
+            with day.draft('start') as draft:
+                answer = program.save(lines + ['count'], lambda answer: None if answer.refused() else draft.begin())
+                for reply in answer.refused():
+                    raise Refused('{}: {}'.format(arguments.extracts[reply.line - 1], words.refusal(reply.rest)))
+                taken_over = ledger.take_over(day, Day(arguments.after)) if arguments.after else 0
+                state = draft.keep()
             fresh.note_extracts(day, extracts)
     counts = answer.counts()
     results.put(counts=counts, session=results.of_state(state), extracts=[{'path': path, **asdict(extract)} for path, extract in extracts.items()])
