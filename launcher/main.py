@@ -52,6 +52,8 @@ def act(asked):
         return look.run(HOME, asked.rest)
     if asked.action == 'rust':
         return export(*asked.rest)
+    if asked.action == 'man':
+        return write_manuals(*asked.rest)
     if asked.action == 'prove':
         return prove(asked.flags)
     return run(asked.rest)
@@ -78,6 +80,15 @@ def export(folder, libraries):
     return 0
 
 
+def write_manuals(folder: str) -> int:
+    """Writes the manual pages: the status."""
+    from launcher import manual
+
+    made = manual.write(HOME, folder, plain_version())
+    say(f'wrote {count(len(made), "manual page")} to {folder}: man -l {os.path.join(folder, made[0])}')
+    return 0
+
+
 def crates_and_texts():
     """The crates that the program needs, and the hash of each one's text."""
     from launcher import build  # what only a build needs isn't read for each run
@@ -90,7 +101,7 @@ def run(arguments: list[str]) -> NoReturn:
     """Runs the program: the one that was proved here, else the released one, else a plain build, else the toolkit's look."""
     store = Store(default_folder())
     found = sources.found(HOME, store)
-    path = proved(store, found.proved) or released(found.proved) or unproved(store, found, arguments)
+    path = proved(store, found.proved) or released(found) or unproved(store, found, arguments)
     # Python ignores these, and the program would inherit that.
     for number in (signal.SIGPIPE, signal.SIGXFSZ):
         signal.signal(number, signal.SIG_DFL)
@@ -161,12 +172,15 @@ def proved(store, sources):
     return found[0]
 
 
-def released(sources):
-    """The released program that stands beside the launcher, if it is the one that RELEASE names: its path or None."""
+def released(found: sources.Sources) -> str | None:
+    """The released program that stands beside the launcher, if it is one that RELEASE names: its path or None."""
     release = programs.release_of(HOME)
     path, said = programs.beside(HOME, release)
+    if path:
+        is_plain = release.is_plain(keys.of_file(path))
+        said += programs.said_of(release, found.plain if is_plain else found.proved, is_plain)
     if said:
-        say(said + (programs.said_of(release, sources) if path else ''))
+        say(said)
     return path
 
 
@@ -222,7 +236,7 @@ def prove(flags):
 def compared(path, sources):
     """Says whether a program that was proved here has the bytes of the released one: the status."""
     release = programs.release_of(HOME)
-    if not release:
+    if not release or not release.sha256:
         return 0
     same = keys.of_file(path) == release.sha256
     if release.sources and release.sources != sources:
@@ -258,7 +272,7 @@ def version_text():
         lines.append('program: not proved yet from these {}: ./editor --prove does it'.format(count(len(crates), 'crate')))
     if plain:
         lines.append('without proof: {}, a plain build of these sources by {}'.format(plain[0], plain[1].get('rust')))
-    lines.append('release: ' + ('{}, commit {}'.format(release.version, release.commit) if release else 'none yet'))
+    lines.append('release: ' + ('{}, commit {}'.format(release.version, release.commit) if release and release.sha256 else 'none yet'))
     return '\n'.join(lines) + '\n'
 
 

@@ -1,8 +1,10 @@
-"""Makes the manual pages in docs/man/ from the pages of docs/, so that they can't say other things than these do.
+"""Makes the manual pages (`./editor --man FOLDER`) from the pages of docs/, so that they can't say other things than these do.
 
 A manual page is made of parts: a text that stands here, a section of a page by its heading, or one table of it. A section that
 isn't there any more stops the making.
 """
+from __future__ import annotations
+
 import pathlib
 import re
 import textwrap
@@ -14,8 +16,6 @@ FENCE = '```'
 ANCHOR = re.compile(r'<a id="[^"]*"></a>')
 MARK = re.compile(r'\*\*(.+?)\*\*|`([^`]+)`|\[((?:`[^`]*`|[^\]`])*)\]\([^)]*\)|(?<![*\w])\*([^*\s][^*]*)\*')
 LABELLED = re.compile(r'\*\*([A-Z][a-z, ]+)\.\*\* ?(.*)', re.S)
-
-FOLDER = pathlib.Path('docs', 'man')
 
 
 # ---- the pages ----
@@ -196,7 +196,18 @@ print
 .RE
 '''
 
-COMMANDS, SCRIPTS, REFUSALS, SHEET = 'COMMANDS.md', 'SCRIPTS.md', 'REFUSALS.md', 'CHEATSHEET.md'
+COMPANION_RUN = '''.SH SYNOPSIS
+.B yoke
+\\fIVERB\\fR [\\fIWORD\\fR]...
+.br
+.B yoke
+\\fIVERB\\fR \\fB\\-\\-help\\fR
+.br
+.B yoke
+\\fB\\-\\-version\\fR
+'''
+
+COMMANDS, SCRIPTS, REFUSALS, SHEET, COMPANION = 'COMMANDS.md', 'SCRIPTS.md', 'REFUSALS.md', 'CHEATSHEET.md', 'COMPANION.md'
 FAMILIES = ('Files', 'New objects', 'Changes of one object', 'Deletions', 'Ways cut, joined, reversed', 'Some faults', 'Steps', 'Looks',
             'Settling conflicts', 'Uploads', 'Sessions', 'Meetings')
 
@@ -211,6 +222,9 @@ MANUALS = {
     ('yokeorange-commands', 5): ('each line of a script of yokeorange', [Part(COMMANDS, '', 'Description'), *(Part(COMMANDS, it) for it in FAMILIES)]),
     ('yokeorange-refusals', 7): ('refusals and statuses of yokeorange, bad files and bad lines, with ways out', [
         Part(REFUSALS, '', 'Description'), *(Part(REFUSALS, it) for it in ('Longer ways out', 'Statuses', 'Bad lines of a script'))]),
+    ('yoke', 1): ('keep a folder of OpenStreetMap edits, and send them to a server', [
+        COMPANION_RUN, Part(COMPANION, '', 'Description', ('text',)), Part(COMPANION, 'The way of an edit', kinds=('text',)),
+        Part(COMPANION, 'All verbs', 'Verbs'), Part(COMPANION, 'Exit codes', 'Exit status'), Part(COMPANION, 'The folder of a day')]),
 }
 
 
@@ -225,7 +239,7 @@ def made(manual, pages, version):
     what, parts = MANUALS[manual]
     others = ['.BR {} ({})'.format(plain(other), at) for other, at in MANUALS if other != name] + ['.BR osmium (1)']
     return ''.join([
-        '.\\" Made from the pages of docs/ by bench/release \\-\\-manual: change those.\n',
+        '.\\" Made from the pages of docs/ by ./editor \\-\\-man: change those.\n',
         '.TH {} {} "" "yokeorange {}" Yokeorange\n'.format(plain(name).upper(), number, plain(version)),
         NAMES.format(name=plain(name), what=plain(what)),
         *(part if isinstance(part, str) else part.text(pages) for part in parts),
@@ -234,5 +248,16 @@ def made(manual, pages, version):
 
 def of(home, version):
     """The manual pages of a checkout, by the names of their files."""
-    pages = {name: pathlib.Path(home, 'docs', name).read_text(encoding='utf-8') for name in (COMMANDS, SCRIPTS, REFUSALS, SHEET)}
+    names = (COMMANDS, SCRIPTS, REFUSALS, SHEET, COMPANION)
+    pages = {name: pathlib.Path(home, 'docs', name).read_text(encoding='utf-8') for name in names}
     return {file_name(*manual): made(manual, pages, version) for manual in MANUALS}
+
+
+def write(home: str, folder: str, version: str) -> list[str]:
+    """Writes the manual pages of a checkout into a folder, which is made where it isn't there: the names of their files."""
+    found = of(home, version)
+    to = pathlib.Path(folder)
+    to.mkdir(parents=True, exist_ok=True)
+    for name, text in found.items():
+        (to / name).write_text(text, encoding='utf-8')
+    return list(found)

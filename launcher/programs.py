@@ -1,4 +1,6 @@
-"""Which program may be run: one that was proved here from these sources, or the released one."""
+"""Which program may be run: one that was proved here from these sources, or a released one."""
+from __future__ import annotations
+
 import os
 import re
 from dataclasses import dataclass
@@ -7,7 +9,8 @@ from launcher import keys
 from launcher.store import NAME
 
 RELEASE = 'RELEASE'
-FIELD = re.compile(r'(version|commit|sha256|sources|toolkit|gate|builds): (.+)')
+FIELD = re.compile(r'(version|commit|sha256|sources|toolkit|gate|builds|plain-commit|plain-sha256|plain-static-sha256|plain-sources): (.+)')
+HASH = re.compile('[0-9a-f]{64}')
 
 
 @dataclass(frozen=True)
@@ -21,17 +24,26 @@ class Release:
     toolkit: str = ''
     gate: str = ''
     builds: str = ''
+    plain_commit: str = ''
+    plain_sha256: str = ''
+    plain_static_sha256: str = ''
+    plain_sources: str = ''
 
-    def text(self):
-        """As the file has it."""
-        return ''.join('{}: {}\n'.format(name, value) for name, value in vars(self).items() if value)
+    def proved_text(self) -> str:
+        """The lines on the proved program, as the file has them."""
+        return ''.join(f'{name}: {value}\n' for name, value in vars(self).items() if value and not name.startswith('plain_'))
+
+    def is_plain(self, sha256: str) -> bool:
+        """Whether a hash is that of a released program of which nothing is proved."""
+        return sha256 in (self.plain_sha256, self.plain_static_sha256)
 
 
 def read_release(text):
     """What a RELEASE says, or None where it names no program. Lines that aren't fields are left out."""
-    found = dict(it.groups() for it in (FIELD.fullmatch(line.strip()) for line in text.splitlines()) if it)
+    found = {it[1].replace('-', '_'): it[2] for it in (FIELD.fullmatch(line.strip()) for line in text.splitlines()) if it}
     release = Release(**found)
-    return release if re.fullmatch('[0-9a-f]{64}', release.sha256) else None
+    hashes = (release.sha256, release.plain_sha256, release.plain_static_sha256)
+    return release if any(HASH.fullmatch(it) for it in hashes) else None
 
 
 def release_of(home):
@@ -51,16 +63,19 @@ def beside(home, release):
     if not release:
         return None, '{} isn\'t used: there is no released program whose hash it could have'.format(path)
     found = keys.of_file(path)
-    if found != release.sha256:
+    if found != release.sha256 and not release.is_plain(found):
         return None, ('{} isn\'t used: its SHA-256 is {}, and that of the released program {}'
-                      .format(path, found, release.sha256))
+                      .format(path, found, release.sha256 or release.plain_sha256))
     if not os.access(path, os.X_OK):
         return None, '{0} is the released program, and may not be run: chmod +x {0}'.format(path)
+    if release.is_plain(found):
+        return path, 'running the released plain build of commit {}, of which nothing is proved'.format(release.plain_commit or 'unknown')
     return path, 'running the released program of commit {}'.format(release.commit or 'unknown')
 
 
-def said_of(release, sources):
-    """What is added where the sources here aren't those of the release."""
-    if not release.sources or release.sources == sources:
+def said_of(release: Release, sources: str, is_plain: bool = False) -> str:
+    """What is added where the sources here aren't those of the released program, the proved one or the plain one."""
+    made_of = release.plain_sources if is_plain else release.sources
+    if not made_of or made_of == sources:
         return ''
     return '; the sources here are others, and ./editor --prove proves and builds those'

@@ -8,6 +8,7 @@ from launcher.messages import Stop
 HELP = '''usage: ./editor [--max-objects N] [--max-file N] SCRIPT
        ./editor --prove
        ./editor --rust FOLDER [--crates stand-in|real|vendor=DIR]
+       ./editor --man FOLDER
        ./editor --look SCRIPT
 
 Runs a script over OPL files (docs/TOUR.md), and writes the replies and the data to standard output. It runs the first of these
@@ -29,6 +30,7 @@ that there is, and says on the error stream which one it is where that isn't the
   --rust FOLDER    writes the program as a cargo workspace in plain Rust, to build it anywhere. --crates says which libraries
                    it uses: small stand-ins (the default; nothing is downloaded), the real ones of crates.io, or those in
                    a folder of vendored sources
+  --man FOLDER     writes the manual pages, from the pages of docs/
   --look SCRIPT    runs the script by the toolkit's `rt try`, with its checks: at most 60 seconds and 1 MiB of output, and
                    nothing is kept
   -h, --help       this text
@@ -51,7 +53,7 @@ LIMITS = ('--max-objects', '--max-file')
 
 @dataclass
 class Words:
-    """What the user asked for: `action` is run, help, brief, version, look, rust or prove; `rest` are the words that go with it."""
+    """What the user asked for: `action` is run, help, brief, version, look, rust, man or prove; `rest` are the words that go with it."""
 
     action: str
     rest: list = field(default_factory=list)
@@ -70,6 +72,10 @@ def read(words):
         return Words('look', words[1:])
     if words[0] == '--rust':
         return Words('rust', rust_words(words[1:]))
+    if words[0] == '--man':
+        if len(words) != 2 or words[1].startswith('-'):
+            raise Stop('usage: ./editor --man FOLDER', 2)
+        return Words('man', words[1:])
     if words[0] == '--prove' or words[0] in FLAGS:
         other = [it for it in words if it != '--prove' and it not in FLAGS]
         if other or '--prove' not in words:

@@ -146,7 +146,7 @@ class Releases(unittest.TestCase):
 
     def test_read(self):
         release = programs.Release('0.1.0', 'c' * 40, 'a' * 64, 'b' * 64, 'a kit', '4 passed, 0 failed', 'two')
-        self.assertEqual(release, programs.read_release(release.text()))
+        self.assertEqual(release, programs.read_release(release.proved_text()))
         for text in ('', 'commit: x\n', 'sha256: {}\n'.format('a' * 63), 'sha256: {}\n'.format('A' * 64), 'sha256: ' + 'a' * 65):
             self.assertIsNone(programs.read_release(text), text)
         self.assertIsNone(programs.release_of(str(self.home)))
@@ -162,6 +162,23 @@ class Releases(unittest.TestCase):
         self.assertEqual((str(program), 'running the released program of commit c'), programs.beside(str(self.home), release))
         program.write_text('y')
         self.assertIsNone(programs.beside(str(self.home), release)[0])
+
+    def test_a_plain_one_is_told_apart(self):
+        program = self.home / 'yokeorange'
+        program.write_text('x')
+        program.chmod(0o755)
+        found = programs.keys.of_file(str(program))
+        for name in ('plain-sha256', 'plain-static-sha256'):
+            release = programs.read_release('{}: {}\nplain-commit: d\nplain-sources: b\n'.format(name, found))
+            self.assertTrue(release.is_plain(found))
+            path, said = programs.beside(str(self.home), release)
+            self.assertEqual(str(program), path)
+            self.assertIn('plain build of commit d, of which nothing is proved', said)
+            self.assertEqual('', programs.said_of(release, 'b', True))
+            self.assertIn('the sources here are others', programs.said_of(release, 'c', True))
+        release = programs.Release(sha256=found, plain_sha256='a' * 64)
+        self.assertFalse(release.is_plain(found))
+        self.assertIn('the released program of commit', programs.beside(str(self.home), release)[1])
 
     def test_other_sources(self):
         release = programs.Release(sha256='a' * 64, sources='b')

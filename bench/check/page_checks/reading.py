@@ -2,10 +2,12 @@
 import functools
 import http.server
 import os
+import pathlib
 import re
 import shutil
 import subprocess
 import sys
+import tempfile
 import threading
 from unittest import mock
 
@@ -265,15 +267,20 @@ def words_of_manual(text):
     return len(re.sub(r'^\.(\\".*|\w+)', '', text, flags=re.M).split())
 
 
+def shown_by_man(text):
+    """What man makes of a manual page, with its warnings on the error stream."""
+    return subprocess.run(['man', '--warnings', '-l', '-'], input=text, stdout=subprocess.PIPE, stderr=subprocess.PIPE, text=True)
+
+
 @case('no manual page has more than {:,} words either, and the check counts what man shows'.format(MOST_WORDS))
 def manual_sittings(_):
-    pages = {path: path.read_text(encoding='utf-8') for path in sorted((TOP / manual.FOLDER).iterdir())}
-    expect([], ['{}: {:,}'.format(path.name, words_of_manual(text)) for path, text in pages.items() if words_of_manual(text) > MOST_WORDS])
+    pages = manual.of(TOP, launcher.plain_version())
+    expect([], ['{}: {:,}'.format(name, words_of_manual(text)) for name, text in pages.items() if words_of_manual(text) > MOST_WORDS])
     expect(4, words_of_manual('.\\" a comment\n.TH X 1\n.PP\n\\fBtwo\\fR words\n'))
-    for path, text in pages.items() if shutil.which('man') else ():
-        shown = subprocess.run(['man', '-l', str(path)], stdout=subprocess.PIPE, stderr=subprocess.DEVNULL, text=True).stdout
+    for name, text in pages.items() if shutil.which('man') else ():
+        shown = shown_by_man(text).stdout
         if abs(len(shown.split()) - words_of_manual(text)) > words_of_manual(text) // 50 + 20:
-            raise Wrong('{}: man shows {:,} words, and {:,} are counted'.format(path.name, len(shown.split()), words_of_manual(text)))
+            raise Wrong('{}: man shows {:,} words, and {:,} are counted'.format(name, len(shown.split()), words_of_manual(text)))
 
 
 @case('README.md has at most 120 lines')
@@ -284,17 +291,22 @@ def front_page(_):
 
 # ---- what stands beside the pages ----
 
-@case('the manual pages in docs/man are what bench/release --manual makes of the pages, and man reads them without a warning')
+@case('./editor --man makes a manual page for each program, with what it has to have, and man reads each without a warning')
 def manuals(_):
-    made = manual.of(TOP, launcher.version().partition(',')[0].strip())
-    expect(sorted(made), sorted(path.name for path in (TOP / manual.FOLDER).iterdir()))
-    for name, text in made.items():
-        path = TOP / manual.FOLDER / name
-        if path.read_text(encoding='utf-8') != text:
-            raise Wrong('{} is another one: bench/release --manual'.format(name))
-        if shutil.which('man'):
-            done = subprocess.run(['man', '--warnings', '-l', str(path)], stdout=subprocess.PIPE, stderr=subprocess.PIPE, text=True)
-            expect((0, ''), (done.returncode, done.stderr))
+    with tempfile.TemporaryDirectory() as folder:
+        done = subprocess.run([str(TOP / 'editor'), '--man', folder], stdout=subprocess.PIPE, stderr=subprocess.PIPE, text=True)
+        expect(0, done.returncode)
+        made = {path.name: path.read_text(encoding='utf-8') for path in pathlib.Path(folder).iterdir()}
+    expect(made, manual.of(TOP, launcher.plain_version()))
+    for name, text in (('yokeorange.1', '.SH EXIT STATUS'), ('yokeorange-script.5', '.SH IDS OF NEW OBJECTS'),
+                       ('yokeorange-commands.5', '.SS undo, redo'), ('yokeorange-script.5', '.SS Useful queries'),
+                       ('yokeorange-refusals.7', 'refused 38 KEY'), ('yokeorange-refusals.7', '.SS Refusal 20, fault by fault'),
+                       ('yoke.1', '.SH VERBS')):
+        if text not in made[name]:
+            raise Wrong('{} has no {}'.format(name, text))
+    for text in made.values() if shutil.which('man') else ():
+        done = shown_by_man(text)
+        expect((0, ''), (done.returncode, done.stderr))
 
 
 @case('the toolkit that TOOLKIT and docs/INSTALL.md name is the one that is here')
