@@ -172,7 +172,9 @@ def sums(root: pathlib.Path) -> str:
 def libraries(program: pathlib.Path, folder: pathlib.Path) -> str:
     """The packages with the libraries that a program loads, as dpkg-shlibdeps names them."""
     put(folder / 'debian' / 'control', f'Source: {NAME}\n\nPackage: {NAME}\nArchitecture: any\n'.encode())
-    text = said('dpkg-shlibdeps', '-O', str(program), folder=folder)
+    inside = folder / 'debian' / NAME / 'usr' / 'bin' / NAME
+    put(inside, program.read_bytes())
+    text = said('dpkg-shlibdeps', '-O', str(inside), folder=folder)
     name, _, found = text.partition('=')
     if name != 'shlibs:Depends' or not found:
         raise Stop(f'dpkg-shlibdeps says {text!r}, and no packages')

@@ -56,7 +56,7 @@ def make(top: pathlib.Path, folder: pathlib.Path) -> Programs:
 def built(cargo: plain_build.Cargo, rust: pathlib.Path, folder: pathlib.Path, name: str, flags: str) -> pathlib.Path:
     """Builds the program of a workspace with some flags of rustc: its path."""
     environment = {it: value for it, value in os.environ.items() if not plain_build.LEFT_OUT.fullmatch(it)}
-    environment['RUSTFLAGS'] = f'-C strip=symbols --remap-path-prefix={rust}=/yokeorange {flags}'.strip()
+    environment['RUSTFLAGS'] = f'--cap-lints allow -C strip=symbols --remap-path-prefix={rust}=/yokeorange {flags}'.strip()
     to, system = folder / f'target-{name}', target()
     subprocess.run([cargo.path, 'build', '--release', '--locked', '--offline', '--quiet', '--package', workspace.PROGRAM,
                     '--target', system, '--target-dir', str(to)], cwd=rust, env=environment,

@@ -12,7 +12,8 @@ from tools.check import needs
 from tools.release import bundle, commit, programs
 from yoke import builds
 
-MODULES = ('pip', 'setuptools', 'wheel')
+# In this order: setuptools has to be imported before pip.
+MODULES = ('setuptools', 'wheel', 'pip')
 # What the wheel is made from.
 SOURCES = ('pyproject.toml', 'setup.py', 'LICENSE', 'README.md')
 
