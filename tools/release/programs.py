@@ -56,11 +56,13 @@ def make(top: pathlib.Path, folder: pathlib.Path) -> Programs:
 def built(cargo: plain_build.Cargo, rust: pathlib.Path, folder: pathlib.Path, name: str, flags: str) -> pathlib.Path:
     """Builds the program of a workspace with some flags of rustc: its path."""
     environment = {it: value for it, value in os.environ.items() if not plain_build.LEFT_OUT.fullmatch(it)}
-    environment['RUSTFLAGS'] = f'--cap-lints allow -C strip=symbols --remap-path-prefix={rust}=/yokeorange {flags}'.strip()
+    environment['RUSTFLAGS'] = f'-C strip=symbols --remap-path-prefix={rust}=/yokeorange {flags}'.strip()
     to, system = folder / f'target-{name}', target()
-    subprocess.run([cargo.path, 'build', '--release', '--locked', '--offline', '--quiet', '--package', workspace.PROGRAM,
-                    '--target', system, '--target-dir', str(to)], cwd=rust, env=environment,
-                   stdin=subprocess.DEVNULL, check=True)
+    done = subprocess.run([cargo.path, 'build', '--release', '--locked', '--offline', '--quiet', '--package', workspace.PROGRAM,
+                           '--target', system, '--target-dir', str(to)], cwd=rust, env=environment,
+                          stdin=subprocess.DEVNULL, stderr=subprocess.PIPE, text=True)
+    if done.returncode:
+        raise Stop(f'cargo ended with status {done.returncode}:\n{done.stderr}')
     program = folder / name / workspace.NAME
     program.parent.mkdir()
     shutil.copyfile(to / system / 'release' / workspace.NAME, program)
