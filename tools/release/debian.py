@@ -174,6 +174,7 @@ def libraries(program: pathlib.Path, folder: pathlib.Path) -> str:
     put(folder / 'debian' / 'control', f'Source: {NAME}\n\nPackage: {NAME}\nArchitecture: any\n'.encode())
     inside = folder / 'debian' / NAME / 'usr' / 'bin' / NAME
     put(inside, program.read_bytes())
+    put(folder / 'debian' / NAME / 'DEBIAN' / 'control', b'')
     text = said('dpkg-shlibdeps', '-O', str(inside), folder=folder)
     name, _, found = text.partition('=')
     if name != 'shlibs:Depends' or not found:

@@ -43,7 +43,7 @@ def make(top: pathlib.Path, folder: pathlib.Path, to: pathlib.Path, made: progra
     for path in source.rglob('*'):
         path.chmod(0o755 if path.is_dir() or path.name == NAME and path.parent.name == 'bin' else 0o644)
     command = [python(), '-m', 'pip', 'wheel', '--quiet', '--no-build-isolation', '--no-deps', '--no-index',
-               '--disable-pip-version-check', '--root-user-action=ignore', '--wheel-dir', str(folder / 'wheels'), '.']
+               '--disable-pip-version-check', '--wheel-dir', str(folder / 'wheels'), '.']
     subprocess.run(command, cwd=source, env={**os.environ, 'SOURCE_DATE_EPOCH': str(of.time)}, stdin=subprocess.DEVNULL,
                    check=True, umask=0o022)
     wheel, = (folder / 'wheels').glob('*.whl')
