@@ -27,21 +27,42 @@ RELEASE goes to the top of the repository, so that ./editor knows released progr
 
 def words() -> argparse.ArgumentParser:
     """The parser of the words."""
-    read = argparse.ArgumentParser(prog='python3 -m tools.release', description=TEXT,
-                                   formatter_class=argparse.RawDescriptionHelpFormatter)
-    read.add_argument('--to', metavar='FOLDER', required=True, type=pathlib.Path,
-                      help='what is made goes there; it must not be there yet')
-    read.add_argument('--commit', metavar='COMMIT', default='HEAD',
-                      help='a tag or commit of this repository (HEAD)')
-    read.add_argument('--twice', action='store_true',
-                      help='makes all in two folders, and refuses where a byte differs')
+    read = argparse.ArgumentParser(
+        prog='python3 -m tools.release',
+        description=TEXT,
+        formatter_class=argparse.RawDescriptionHelpFormatter,
+    )
+    read.add_argument(
+        '--to',
+        metavar='FOLDER',
+        required=True,
+        type=pathlib.Path,
+        help='what is made goes there; it must not be there yet',
+    )
+    read.add_argument(
+        '--commit',
+        metavar='COMMIT',
+        default='HEAD',
+        help='a tag or commit of this repository (HEAD)',
+    )
+    read.add_argument(
+        '--twice',
+        action='store_true',
+        help='makes all in two folders, and refuses where a byte differs',
+    )
     group = read.add_argument_group('the proved program')
     group.add_argument('--proved', action='store_true', help='makes this instead of the packages')
     group.add_argument('--gate', metavar='LOG', help='the gate\'s log, or its last line itself')
-    group.add_argument('--without-gate', action='store_true',
-                       help='though the gate wasn\'t run; RELEASE says so')
-    group.add_argument('--programs', nargs=2, metavar='FILE', type=pathlib.Path,
-                       help='two programs built in two folders, in the place of two builds')
+    group.add_argument(
+        '--without-gate', action='store_true', help='though the gate wasn\'t run; RELEASE says so'
+    )
+    group.add_argument(
+        '--programs',
+        nargs=2,
+        metavar='FILE',
+        type=pathlib.Path,
+        help='two programs built in two folders, in the place of two builds',
+    )
     return read
 
 
@@ -67,7 +88,9 @@ def act(asked: argparse.Namespace, holder: pathlib.Path) -> None:
     """Makes the packages or the proved program; `holder` is a folder for what isn't kept."""
     if asked.proved:
         if bool(asked.gate) == asked.without_gate:
-            raise Stop('a proved program wants the gate\'s last line: --gate LOG, or --without-gate', 2)
+            raise Stop(
+                'a proved program wants the gate\'s last line: --gate LOG, or --without-gate', 2
+            )
         if asked.commit != 'HEAD':
             raise Stop('the proved program is made from what is checked out: leave out --commit', 2)
         gate = 'not run' if asked.without_gate else proved.gate_line(asked.gate)
@@ -81,12 +104,16 @@ def packages_of(wanted: commit.Commit, to: pathlib.Path, holder: pathlib.Path, t
     """Makes the packages of a commit by the tools of that commit, in one new clone or in two."""
     made = []
     # Names of another length, so that a path in what is built is seen.
-    for name in ['one', 'the-second'][:1 + twice]:
+    for name in ['one', 'the-second'][: 1 + twice]:
         clone, folder = holder / name / 'clone', holder / name / 'made'
         commit.clone(wanted, clone)
         print(f'release: building {wanted.short} in {clone}', flush=True)
-        subprocess.run([sys.executable, '-B', '-m', packages.__name__, str(folder)], cwd=clone,
-                       stdin=subprocess.DEVNULL, check=True)
+        subprocess.run(
+            [sys.executable, '-B', '-m', packages.__name__, str(folder)],
+            cwd=clone,
+            stdin=subprocess.DEVNULL,
+            check=True,
+        )
         made.append(folder)
     if twice:
         hold_to_same(*made)

@@ -42,15 +42,22 @@ LEFT_OUT = ('tests', 'test_*.py', '__pycache__', 'bin', 'share')
 TIME_OF_ZIP = (1980, 1, 1, 0, 0, 0)
 
 
-def write(top: pathlib.Path, folder: pathlib.Path, program: pathlib.Path, texts: dict[str, str]) -> None:
+def write(
+    top: pathlib.Path, folder: pathlib.Path, program: pathlib.Path, texts: dict[str, str]
+) -> None:
     """Writes the folder, which isn't there yet; `texts` are further files that it gets."""
     folder.mkdir(parents=True)
     write_companion(top, folder / 'yoke')
     shutil.copyfile(program, folder / NAME)
     sums = f'{keys.of_file(folder / NAME)}  {NAME}\n{keys.of_file(folder / "yoke")}  yoke\n'
-    files = {f'{NAME}.sha256': sums, 'install.sh': INSTALL, **manual.of(top, commit.version()),
-             **{f'{name}.bash': text for name, text in completion.of().items()},
-             'LICENSE': (top / 'LICENSE').read_text(encoding='utf-8'), **texts}
+    files = {
+        f'{NAME}.sha256': sums,
+        'install.sh': INSTALL,
+        **manual.of(top, commit.version()),
+        **{f'{name}.bash': text for name, text in completion.of().items()},
+        'LICENSE': (top / 'LICENSE').read_text(encoding='utf-8'),
+        **texts,
+    }
     for name, text in files.items():
         (folder / name).write_text(text, encoding='utf-8')
     for name in (NAME, 'yoke', 'install.sh'):
@@ -86,5 +93,10 @@ def tar(folder: pathlib.Path, to: pathlib.Path, time: int) -> None:
     with tarfile.open(fileobj=found, mode='w', format=tarfile.PAX_FORMAT) as archive:
         archive.add(folder, folder.name, recursive=False, filter=plain)
         for path in sorted(folder.rglob('*')):
-            archive.add(path, f'{folder.name}/{path.relative_to(folder).as_posix()}', recursive=False, filter=plain)
+            archive.add(
+                path,
+                f'{folder.name}/{path.relative_to(folder).as_posix()}',
+                recursive=False,
+                filter=plain,
+            )
     to.write_bytes(gzip.compress(found.getvalue(), 9, mtime=0))

@@ -34,8 +34,13 @@ complete -o filenames -F _yoke yoke
 
 def options_of(verb: argparse.ArgumentParser) -> list[str]:
     """The long options of a verb that its help shows, sorted."""
-    return sorted(name for action in verb._actions if action.help != argparse.SUPPRESS
-                  for name in action.option_strings if name.startswith('--'))
+    return sorted(
+        name
+        for action in verb._actions
+        if action.help != argparse.SUPPRESS
+        for name in action.option_strings
+        if name.startswith('--')
+    )
 
 
 def verbs() -> dict[str, argparse.ArgumentParser]:
@@ -49,7 +54,10 @@ def verbs() -> dict[str, argparse.ArgumentParser]:
 def companion() -> str:
     """The completion of yoke, from its parser."""
     found = verbs()
-    cases = ''.join(f'        {name}) options="{" ".join(options_of(verb))}" ;;\n' for name, verb in found.items())
+    cases = ''.join(
+        f'        {name}) options="{" ".join(options_of(verb))}" ;;\n'
+        for name, verb in found.items()
+    )
     return COMPANION.format(verbs=' '.join(found), cases=cases)
 
 

@@ -86,7 +86,13 @@ def version(of: commit.Commit) -> str:
     return f'{commit.version()}~{day}+{of.short}-1'
 
 
-def make(top: pathlib.Path, folder: pathlib.Path, to: pathlib.Path, made: programs.Programs, of: commit.Commit) -> pathlib.Path:
+def make(
+    top: pathlib.Path,
+    folder: pathlib.Path,
+    to: pathlib.Path,
+    made: programs.Programs,
+    of: commit.Commit,
+) -> pathlib.Path:
     """Makes the package of a checkout in a folder, and puts it into `to`: its path."""
     root = folder / 'root'
     for name, data in files(top, made, of).items():
@@ -94,28 +100,55 @@ def make(top: pathlib.Path, folder: pathlib.Path, to: pathlib.Path, made: progra
     copy_folders(top, root)
     for name in (f'usr/bin/{NAME}', 'usr/bin/yoke'):
         (root / name).chmod(0o755)
-    control = CONTROL.format(name=NAME, version=version(of), architecture=said('dpkg', '--print-architecture'),
-                             maintainer=MAINTAINER, size=size_of(root), libraries=libraries(made.shared, folder))
-    for name, text in (('control', control), ('md5sums', sums(root)), ('postinst', POSTINST), ('prerm', PRERM)):
+    control = CONTROL.format(
+        name=NAME,
+        version=version(of),
+        architecture=said('dpkg', '--print-architecture'),
+        maintainer=MAINTAINER,
+        size=size_of(root),
+        libraries=libraries(made.shared, folder),
+    )
+    for name, text in (
+        ('control', control),
+        ('md5sums', sums(root)),
+        ('postinst', POSTINST),
+        ('prerm', PRERM),
+    ):
         put(root / 'DEBIAN' / name, text.encode())
         (root / 'DEBIAN' / name).chmod(0o755 if name in ('postinst', 'prerm') else 0o644)
     package = to / f'{NAME}_{version(of)}_{said("dpkg", "--print-architecture")}.deb'
     environment = {**os.environ, 'SOURCE_DATE_EPOCH': str(of.time)}
     for path in [root, *root.rglob('*')]:
         os.utime(path, (of.time, of.time))
-    subprocess.run(['dpkg-deb', '--root-owner-group', '-Zxz', '--threads-max=1', '--build', str(root), str(package)],
-                   env=environment, stdin=subprocess.DEVNULL, stdout=subprocess.DEVNULL, check=True)
+    subprocess.run(
+        [
+            'dpkg-deb',
+            '--root-owner-group',
+            '-Zxz',
+            '--threads-max=1',
+            '--build',
+            str(root),
+            str(package),
+        ],
+        env=environment,
+        stdin=subprocess.DEVNULL,
+        stdout=subprocess.DEVNULL,
+        check=True,
+    )
     return package
 
 
 def files(top: pathlib.Path, made: programs.Programs, of: commit.Commit) -> dict[str, bytes]:
     """The files of the package that aren't copied by the folder, by their places."""
-    found = {f'usr/bin/{NAME}': made.shared.read_bytes(), 'usr/bin/yoke': YOKE.encode(),
-             'usr/' + builds.RECORD.as_posix(): made.record(made.shared).encode(),
-             f'{DOCS}/copyright': copyright_of((top / 'LICENSE').read_text(encoding='utf-8')).encode(),
-             f'{DOCS}/changelog.gz': packed((top / 'CHANGELOG.md').read_bytes()),
-             f'{DOCS}/changelog.Debian.gz': packed(changelog(of).encode()),
-             f'{DOCS}/README.md': (top / 'README.md').read_bytes()}
+    found = {
+        f'usr/bin/{NAME}': made.shared.read_bytes(),
+        'usr/bin/yoke': YOKE.encode(),
+        'usr/' + builds.RECORD.as_posix(): made.record(made.shared).encode(),
+        f'{DOCS}/copyright': copyright_of((top / 'LICENSE').read_text(encoding='utf-8')).encode(),
+        f'{DOCS}/changelog.gz': packed((top / 'CHANGELOG.md').read_bytes()),
+        f'{DOCS}/changelog.Debian.gz': packed(changelog(of).encode()),
+        f'{DOCS}/README.md': (top / 'README.md').read_bytes(),
+    }
     for name, text in manual.of(top, commit.version()).items():
         found[f'usr/share/man/man{name[-1]}/{name}.gz'] = packed(text.encode())
     for name, text in completion.of().items():
@@ -127,9 +160,13 @@ def copy_folders(top: pathlib.Path, root: pathlib.Path) -> None:
     """Copies yoke, the pages and the examples."""
     places = (('yoke', PACKAGES), ('docs', DOCS), ('examples', DOCS))
     for name, place in places:
-        shutil.copytree(top / name, root / place / name, ignore=shutil.ignore_patterns(*bundle.LEFT_OUT))
+        shutil.copytree(
+            top / name, root / place / name, ignore=shutil.ignore_patterns(*bundle.LEFT_OUT)
+        )
     for path in root.rglob('*'):
-        is_program = path.is_file() and path.read_bytes()[:2] == b'#!' and path.stat().st_mode & 0o100
+        is_program = (
+            path.is_file() and path.read_bytes()[:2] == b'#!' and path.stat().st_mode & 0o100
+        )
         path.chmod(0o755 if path.is_dir() or is_program else 0o644)
 
 
@@ -147,15 +184,23 @@ def packed(data: bytes) -> bytes:
 def copyright_of(licence: str) -> str:
     """The file copyright, from the text of the licence."""
     lines = licence.strip().splitlines()
-    holder = next((it.partition(' ')[2].removeprefix('(c) ') for it in lines if it.startswith('Copyright')), HOLDER)
+    holder = next(
+        (it.partition(' ')[2].removeprefix('(c) ') for it in lines if it.startswith('Copyright')),
+        HOLDER,
+    )
     text = '\n'.join(f' {it}' if it.strip() else ' .' for it in lines)
     return COPYRIGHT.format(holder=holder, licence=text + '\n')
 
 
 def changelog(of: commit.Commit) -> str:
     """Debian's own changelog, of one entry."""
-    return CHANGELOG.format(name=NAME, version=version(of), commit=of.hash, maintainer=MAINTAINER,
-                            date=email.utils.formatdate(of.time))
+    return CHANGELOG.format(
+        name=NAME,
+        version=version(of),
+        commit=of.hash,
+        maintainer=MAINTAINER,
+        date=email.utils.formatdate(of.time),
+    )
 
 
 def size_of(root: pathlib.Path) -> int:
@@ -165,13 +210,21 @@ def size_of(root: pathlib.Path) -> int:
 
 def sums(root: pathlib.Path) -> str:
     """The file md5sums."""
-    found = sorted(it for it in root.rglob('*') if it.is_file() and 'DEBIAN' not in it.relative_to(root).parts)
-    return ''.join(f'{hashlib.md5(it.read_bytes()).hexdigest()}  {it.relative_to(root).as_posix()}\n' for it in found)
+    found = sorted(
+        it for it in root.rglob('*') if it.is_file() and 'DEBIAN' not in it.relative_to(root).parts
+    )
+    return ''.join(
+        f'{hashlib.md5(it.read_bytes()).hexdigest()}  {it.relative_to(root).as_posix()}\n'
+        for it in found
+    )
 
 
 def libraries(program: pathlib.Path, folder: pathlib.Path) -> str:
     """The packages with the libraries that a program loads, as dpkg-shlibdeps names them."""
-    put(folder / 'debian' / 'control', f'Source: {NAME}\n\nPackage: {NAME}\nArchitecture: any\n'.encode())
+    put(
+        folder / 'debian' / 'control',
+        f'Source: {NAME}\n\nPackage: {NAME}\nArchitecture: any\n'.encode(),
+    )
     inside = folder / 'debian' / NAME / 'usr' / 'bin' / NAME
     put(inside, program.read_bytes())
     put(folder / 'debian' / NAME / 'DEBIAN' / 'control', b'')
@@ -184,5 +237,7 @@ def libraries(program: pathlib.Path, folder: pathlib.Path) -> str:
 
 def said(*words: str, folder: pathlib.Path | None = None) -> str:
     """What a command writes."""
-    done = subprocess.run(words, cwd=folder, stdin=subprocess.DEVNULL, stdout=subprocess.PIPE, text=True, check=True)
+    done = subprocess.run(
+        words, cwd=folder, stdin=subprocess.DEVNULL, stdout=subprocess.PIPE, text=True, check=True
+    )
     return done.stdout.strip()

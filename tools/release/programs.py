@@ -46,21 +46,48 @@ def make(top: pathlib.Path, folder: pathlib.Path) -> Programs:
         raise Stop(f'{why}: {plain_build.INSTALL}', 127)
     rust = folder / 'workspace'
     workspace.write(top, rust, version=commit.version())
-    made = [built(cargo, rust, folder, name, flags) for name, flags in (('shared', ''), ('static', STATIC))]
+    made = [
+        built(cargo, rust, folder, name, flags)
+        for name, flags in (('shared', ''), ('static', STATIC))
+    ]
     for program in made:
         example.hold(str(top), str(program))
     hold_to_static(made[1])
     return Programs(*made, cargo.rust, keys.of_plain(str(top), build.needed(str(top))))
 
 
-def built(cargo: plain_build.Cargo, rust: pathlib.Path, folder: pathlib.Path, name: str, flags: str) -> pathlib.Path:
+def built(
+    cargo: plain_build.Cargo, rust: pathlib.Path, folder: pathlib.Path, name: str, flags: str
+) -> pathlib.Path:
     """Builds the program of a workspace with some flags of rustc: its path."""
-    environment = {it: value for it, value in os.environ.items() if not plain_build.LEFT_OUT.fullmatch(it)}
-    environment['RUSTFLAGS'] = f'-C strip=symbols --remap-path-prefix={rust}=/yokeorange {flags}'.strip()
+    environment = {
+        it: value for it, value in os.environ.items() if not plain_build.LEFT_OUT.fullmatch(it)
+    }
+    environment[
+        'RUSTFLAGS'
+    ] = f'-C strip=symbols --remap-path-prefix={rust}=/yokeorange {flags}'.strip()
     to, system = folder / f'target-{name}', target()
-    done = subprocess.run([cargo.path, 'build', '--release', '--locked', '--offline', '--quiet', '--package', workspace.PROGRAM,
-                           '--target', system, '--target-dir', str(to)], cwd=rust, env=environment,
-                          stdin=subprocess.DEVNULL, stderr=subprocess.PIPE, text=True)
+    done = subprocess.run(
+        [
+            cargo.path,
+            'build',
+            '--release',
+            '--locked',
+            '--offline',
+            '--quiet',
+            '--package',
+            workspace.PROGRAM,
+            '--target',
+            system,
+            '--target-dir',
+            str(to),
+        ],
+        cwd=rust,
+        env=environment,
+        stdin=subprocess.DEVNULL,
+        stderr=subprocess.PIPE,
+        text=True,
+    )
     if done.returncode:
         raise Stop(f'cargo ended with status {done.returncode}:\n{done.stderr}')
     program = folder / name / workspace.NAME
@@ -78,5 +105,10 @@ def hold_to_static(program: pathlib.Path) -> None:
 
 def needs_loader(program: pathlib.Path) -> bool:
     """Whether an ELF file has a segment that names its loader."""
-    said = subprocess.run(['readelf', '--program-headers', '--wide', str(program)], capture_output=True, text=True, check=True)
+    said = subprocess.run(
+        ['readelf', '--program-headers', '--wide', str(program)],
+        capture_output=True,
+        text=True,
+        check=True,
+    )
     return re.search(r'^\s+INTERP\s', said.stdout, re.M) is not None

@@ -26,7 +26,9 @@ def gate_line(text: str) -> str:
         lines = path.read_text(encoding='utf-8', errors='replace').splitlines()
         text = lines[-1].strip() if lines else ''
     if not GATE.fullmatch(text):
-        raise Stop(f'the gate didn\'t pass: its last line has to be "N passed, 0 failed", and is {text!r}')
+        raise Stop(
+            f'the gate didn\'t pass: its last line has to be "N passed, 0 failed", and is {text!r}'
+        )
     return text
 
 
@@ -41,7 +43,11 @@ def built_in(folder: pathlib.Path) -> tuple[pathlib.Path, str]:
     clone, kept = folder / 'clone', folder / 'kept'
     commit.clone(commit.of(), clone)
     say(f'proving and building in {clone}')
-    done = subprocess.run([str(clone / 'editor'), '--prove'], env={**os.environ, 'XDG_CACHE_HOME': str(kept)}, cwd=clone)
+    done = subprocess.run(
+        [str(clone / 'editor'), '--prove'],
+        env={**os.environ, 'XDG_CACHE_HOME': str(kept)},
+        cwd=clone,
+    )
     found = Store(str(kept / NAME)).program(sources(), None) if done.returncode == 0 else None
     if not found:
         raise Stop(f'./editor --prove ended with status {done.returncode} in {clone}')
@@ -54,8 +60,12 @@ def hold_to_agreement(first: pathlib.Path, second: pathlib.Path) -> None:
         raise Stop(f'{first} and {second} are one file, and two builds are wanted')
     one, two = first.read_bytes(), second.read_bytes()
     if one != two:
-        at = next((at for at, (a, b) in enumerate(zip(one, two)) if a != b), min(len(one), len(two)))
-        raise Stop(f'the two builds differ: {len(one)} bytes and {len(two)} bytes, first at byte {at}')
+        at = next(
+            (at for at, (a, b) in enumerate(zip(one, two)) if a != b), min(len(one), len(two))
+        )
+        raise Stop(
+            f'the two builds differ: {len(one)} bytes and {len(two)} bytes, first at byte {at}'
+        )
     say(f'the two builds agree, byte by byte: {len(one)} bytes')
 
 
@@ -66,7 +76,9 @@ def hold_to_sources(program: pathlib.Path) -> None:
         raise Stop(f'{program} was built from other sources than these')
 
 
-def make(to: pathlib.Path, holder: pathlib.Path, gate: str, given: list[pathlib.Path] | None) -> None:
+def make(
+    to: pathlib.Path, holder: pathlib.Path, gate: str, given: list[pathlib.Path] | None
+) -> None:
     """Makes the folder from two builds, or from two programs that are given; `gate` is the gate's last line."""
     if given:
         first, second = given
@@ -77,6 +89,13 @@ def make(to: pathlib.Path, holder: pathlib.Path, gate: str, given: list[pathlib.
         hold_to_sources(program)
     hold_to_agreement(first, second)
     example.hold(str(commit.TOP), str(first.absolute()))
-    release = programs.Release(version=commit.version(), commit=commit.of().hash, sha256=keys.of_file(first),
-                               sources=sources(), toolkit=line, gate=gate, builds=record.AGREE)
+    release = programs.Release(
+        version=commit.version(),
+        commit=commit.of().hash,
+        sha256=keys.of_file(first),
+        sources=sources(),
+        toolkit=line,
+        gate=gate,
+        builds=record.AGREE,
+    )
     bundle.write(commit.TOP, to, first, {record.RELEASE: release.proved_text()})

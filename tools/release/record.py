@@ -10,8 +10,9 @@ SUMS = 'RELEASE.sha256'
 AGREE = 'two builds in two folders have the same bytes'
 
 
-def of_packages(release: programs.Release | None, plain: dict[str, str],
-                files: list[pathlib.Path]) -> str:
+def of_packages(
+    release: programs.Release | None, plain: dict[str, str], files: list[pathlib.Path]
+) -> str:
     """RELEASE with the lines on the proved program, where there is one, and those on plain programs and packages."""
     text = release.proved_text() if release else ''
     text += ''.join(f'{name}: {value}\n' for name, value in plain.items())
@@ -31,4 +32,6 @@ def say_twice(folder: pathlib.Path) -> None:
     lines.insert(last + 1, f'plain-builds: {AGREE}')
     path.write_text('\n'.join(lines) + '\n', encoding='utf-8')
     listed = (folder / SUMS).read_text(encoding='utf-8').splitlines()
-    (folder / SUMS).write_text(sums([folder / it.split('  ')[1] for it in listed]), encoding='utf-8')
+    (folder / SUMS).write_text(
+        sums([folder / it.split('  ')[1] for it in listed]), encoding='utf-8'
+    )

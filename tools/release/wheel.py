@@ -25,10 +25,19 @@ def python() -> str:
         done = subprocess.run([path, '-W', 'ignore', '-c', code], capture_output=True)
         if not done.returncode:
             return path
-    raise Stop(f'no python3 has {", ".join(MODULES)}: apt-get install python3-pip python3-setuptools python3-wheel', 127)
+    raise Stop(
+        f'no python3 has {", ".join(MODULES)}: apt-get install python3-pip python3-setuptools python3-wheel',
+        127,
+    )
 
 
-def make(top: pathlib.Path, folder: pathlib.Path, to: pathlib.Path, made: programs.Programs, of: commit.Commit) -> pathlib.Path:
+def make(
+    top: pathlib.Path,
+    folder: pathlib.Path,
+    to: pathlib.Path,
+    made: programs.Programs,
+    of: commit.Commit,
+) -> pathlib.Path:
     """Makes the wheel of a checkout in a folder, and puts it into `to`: its path."""
     source = folder / 'source'
     shutil.copytree(top / 'yoke', source / 'yoke', ignore=shutil.ignore_patterns(*bundle.LEFT_OUT))
@@ -41,10 +50,30 @@ def make(top: pathlib.Path, folder: pathlib.Path, to: pathlib.Path, made: progra
     record.parent.mkdir(parents=True)
     record.write_text(made.record(made.static), encoding='utf-8')
     for path in source.rglob('*'):
-        path.chmod(0o755 if path.is_dir() or path.name == NAME and path.parent.name == 'bin' else 0o644)
-    command = [python(), '-m', 'pip', 'wheel', '--quiet', '--no-build-isolation', '--no-deps', '--no-index',
-               '--disable-pip-version-check', '--wheel-dir', str(folder / 'wheels'), '.']
-    subprocess.run(command, cwd=source, env={**os.environ, 'SOURCE_DATE_EPOCH': str(of.time)}, stdin=subprocess.DEVNULL,
-                   check=True, umask=0o022)
-    wheel, = (folder / 'wheels').glob('*.whl')
+        path.chmod(
+            0o755 if path.is_dir() or path.name == NAME and path.parent.name == 'bin' else 0o644
+        )
+    command = [
+        python(),
+        '-m',
+        'pip',
+        'wheel',
+        '--quiet',
+        '--no-build-isolation',
+        '--no-deps',
+        '--no-index',
+        '--disable-pip-version-check',
+        '--wheel-dir',
+        str(folder / 'wheels'),
+        '.',
+    ]
+    subprocess.run(
+        command,
+        cwd=source,
+        env={**os.environ, 'SOURCE_DATE_EPOCH': str(of.time)},
+        stdin=subprocess.DEVNULL,
+        check=True,
+        umask=0o022,
+    )
+    (wheel,) = (folder / 'wheels').glob('*.whl')
     return pathlib.Path(shutil.move(wheel, to))
