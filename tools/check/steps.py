@@ -16,6 +16,8 @@ PROGRAM, PYTHON = '{program}', '{python}'
 BUILD, PROOF = 'plain build', 'rt ci'
 # When a step runs: always, or not by --quick.
 QUICK, FULL = 'quick', 'full'
+# Where a file of tests can't do without a module of Python: an import at its top, or a word that leaves out all of it.
+ALL_OF_IT = r'^(?:import|from) {0}\b|^    raise unittest\.SkipTest\(\W*{0}\b'
 # Folders in which no test is looked for.
 PASSED_OVER = ('.*', 'out', '__pycache__', 'node_modules', 'must-fail', 'target')
 
@@ -99,8 +101,7 @@ def test_step(path: str) -> Step:
         words: tuple[str, ...] = ('-m', 'pytest', '-q', '-p', 'no:cacheprovider', path)
     else:
         text = (TOP / path).read_text(encoding='utf-8')
-        if re.search(r'^(?:import|from) (?:pytest|hypothesis)\b', text, re.M):
-            wanted += ('module pytest',)
+        wanted += tuple(f'module {it}' for it in ('pytest', 'hypothesis') if re.search(ALL_OF_IT.format(it), text, re.M))
         words = ('-m', 'unittest', path)
     return Step(path, (PYTHON, *words), wanted, QUICK, 600.0, environment)
 

@@ -269,7 +269,8 @@ class Tables(LedgerTest):
     def test_as_data(self) -> None:
         self.start('one')
         self.of('one', 'import', 'addresses.csv', *COLUMNS, '--anywhere')
-        found = json.loads(self.of('one', 'ledger', '--json'))['result']['features']
+        self.of('one', 'ledger', '--json')
+        found = json.loads(self.out)['result']['features']  # notes are on the error stream
         self.assertEqual([('taken', 'one', 1, ['n-1'])], [(one['event'], one['who'], one['row'], one['keys']) for one in found[:1]])
 
 

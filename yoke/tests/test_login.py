@@ -43,11 +43,20 @@ class Browser:
     def __init__(self, decision='allow', account='', before=None, change=None):
         self.decision, self.account, self.before, self.change = decision, account, before, change
         self.opened, self.answers, self.code = [], [], ''
+        self.threads = []
 
     def open(self, address):
         self.opened.append(address)
-        threading.Thread(target=self._use, args=(address,), daemon=True).start()
+        self.threads.append(threading.Thread(target=self._use, args=(address,), daemon=True))
+        self.threads[-1].start()
         return True
+
+    def answered(self):
+        """The answers, when the browser has them all: the login can end before it has read the last one."""
+        for thread in self.threads:
+            thread.join(60)
+            assert not thread.is_alive(), 'the browser still waits'
+        return self.answers
 
     def decide(self, address):
         """The answer of the page after the decision."""
@@ -257,7 +266,7 @@ class Refusals(LoginTest):
     def test_denied(self):
         self.assertEqual(1, self.login(browser=Browser('deny')))
         self.assertIn('you, or the server, said no', self.err)
-        self.assertIn(listener.DENIED, self.browser.answers[0][2])
+        self.assertIn(listener.DENIED, self.browser.answered()[0][2])
         self.no_login()
 
     def test_another_state_changes_nothing(self):
@@ -273,9 +282,9 @@ class Refusals(LoginTest):
                           f'code=evil&state={good["state"]}&iss=https://evil.example'):
                 browser.answers.append(call('GET', base + '?' + query))
         self.assertEqual(0, self.login(browser=Browser(before=attack)), self.err)
-        self.assertEqual([400] * 9 + [200], [answer[0] for answer in self.browser.answers])
+        self.assertEqual([400] * 9 + [200], [answer[0] for answer in self.browser.answered()])
         self.assertIn('9 calls that were no answer to this login were ignored', self.err)
-        self.assertNotIn('evil', ''.join(answer[2] for answer in self.browser.answers))
+        self.assertNotIn('evil', ''.join(answer[2] for answer in self.browser.answered()))
 
     def test_calls_of_other_pages_change_nothing(self):
         """Posts, frames, fetches, other hosts and paths are refused, even with the right words."""
@@ -291,8 +300,8 @@ class Refusals(LoginTest):
                 browser.answers.append(call(method, target, headers=headers))
         self.assertEqual(0, self.login(browser=Browser(before=attack)), self.err)
         self.assertEqual([405, 405, 405, 405, 421, 421, 403, 403, 403, 404, 200],
-                         [answer[0] for answer in self.browser.answers])
-        for _, headers, _ in self.browser.answers:
+                         [answer[0] for answer in self.browser.answered()])
+        for _, headers, _ in self.browser.answered():
             self.assertNotIn('Access-Control-Allow-Origin', headers)
             self.assertEqual(('no-store', 'no-referrer'),
                              (headers['Cache-Control'], headers['Referrer-Policy']))

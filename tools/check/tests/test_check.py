@@ -128,6 +128,9 @@ class Table(unittest.TestCase):
             step = steps.test_step(path)
             self.assertEqual(('-m', 'unittest', path), step.command[1:])
             self.assertEqual((), step.needs)
+            for other, wanted in (('test_ledger_batches', True), ('test_table_reader', True), ('test_get', True), ('test_tiles', False)):
+                step = steps.test_step(f'yoke/tests/{other}.py')
+                self.assertEqual(wanted, 'module hypothesis' in step.needs, other)
 
     def test_the_gates_file(self) -> None:
         text = (TOP / '.ci' / 'run').read_text()
