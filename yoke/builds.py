@@ -64,12 +64,13 @@ def read(text: str) -> Build | None:
 
 
 def of_release(text: str) -> list[Build]:
-    """The builds that a RELEASE names: the proved program as `sha256`, a plain one as `plain-sha256`."""
+    """The builds that a RELEASE names: the proved program as `sha256`, plain ones as `plain-sha256` and
+    `plain-static-sha256`."""
     fields = dict(re.findall(r'^([a-z0-9-]+): (.+)$', text, re.M))
     version = fields.get('version', 'unknown')
-    named = [Build('proved', version, fields.get('sha256', ''), fields.get('sources', '')),
-             Build('plain', fields.get('plain-version', version), fields.get('plain-sha256', ''),
-                   fields.get('plain-sources', ''))]
+    named = [Build('proved', version, fields.get('sha256', ''), fields.get('sources', ''))]
+    named += [Build('plain', fields.get('plain-version', version), fields.get(name, ''), fields.get('plain-sources', ''))
+              for name in ('plain-sha256', 'plain-static-sha256')]
     return [it for it in named if HASH.fullmatch(it.sha256)]
 
 

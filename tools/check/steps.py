@@ -75,6 +75,8 @@ def listed() -> list[Step]:
         own('bench/check/promises', '--page'),
         own('bench/check/numbers'),
         own('bench/check/launcher', when=FULL),
+        Step('packages of the last commit, made twice', (PYTHON, '-m', 'tools.release', '--check'),
+             ('command cargo', 'command git', 'command dpkg-shlibdeps'), FULL, 1800.0),
         Step('black', (PYTHON, '-m', 'black', '--check', '--quiet', '.'), ('module black', 'section tool.black')),
         Step('flake8', (PYTHON, '-m', 'flake8'), ('module flake8', 'file .flake8')),
         Step('mypy', (PYTHON, '-m', 'mypy'), ('module mypy', 'section tool.mypy')),

@@ -22,7 +22,7 @@ TEXT = """Makes a release from one commit. Needs git and a checkout in which all
       the proved program, built twice from nothing by ./editor --prove, with RELEASE, its companion,
       manual pages and install.sh. Needs the Rattle toolkit. It isn't to be published.
 
-RELEASE goes to the top of the repository, so that ./editor knows released programs by their hashes."""
+RELEASE goes to the top of the repository: ./editor knows released programs by their hashes."""
 
 
 def words() -> argparse.ArgumentParser:
@@ -35,7 +35,6 @@ def words() -> argparse.ArgumentParser:
     read.add_argument(
         '--to',
         metavar='FOLDER',
-        required=True,
         type=pathlib.Path,
         help='what is made goes there; it must not be there yet',
     )
@@ -49,6 +48,11 @@ def words() -> argparse.ArgumentParser:
         '--twice',
         action='store_true',
         help='makes all in two folders, and refuses where a byte differs',
+    )
+    read.add_argument(
+        '--check',
+        action='store_true',
+        help='makes the packages twice and holds them to lintian, where it is there; keeps nothing',
     )
     group = read.add_argument_group('the proved program')
     group.add_argument('--proved', action='store_true', help='makes this instead of the packages')
@@ -68,12 +72,18 @@ def words() -> argparse.ArgumentParser:
 
 def main(given: list[str] | None = None) -> int:
     """Does what the words ask for: the status."""
-    asked = words().parse_args(given)
+    read = words()
+    asked = read.parse_args(given)
+    if bool(asked.to) == asked.check:
+        read.error('--to FOLDER or --check is wanted')
     try:
-        commit.hold_to_clean()
-        if asked.to.exists():
-            raise Stop(f'{asked.to} is there already', 2)
         with tempfile.TemporaryDirectory(prefix='release-') as holder:
+            if asked.check:
+                check(asked.commit, pathlib.Path(holder))
+                return 0
+            commit.hold_to_clean()
+            if asked.to.exists():
+                raise Stop(f'{asked.to} is there already', 2)
             act(asked, pathlib.Path(holder))
         return 0
     except Stop as why:
@@ -82,6 +92,25 @@ def main(given: list[str] | None = None) -> int:
     except subprocess.CalledProcessError as error:
         print(f'release: {error}', file=sys.stderr)
         return 1
+
+
+def check(name: str, holder: pathlib.Path) -> None:
+    """Makes the packages of a commit twice, and has lintian look at the .deb."""
+    made = holder / 'packages'
+    packages_of(commit.of(name), made, holder, True)
+    if not shutil.which('lintian'):
+        print('release: lintian isn\'t there, and didn\'t look')
+        return
+    (package,) = made.glob('*.deb')
+    done = subprocess.run(
+        ['lintian', '--allow-root', '--fail-on', 'error', str(package)],
+        stdin=subprocess.DEVNULL,
+        stdout=subprocess.PIPE,
+        text=True,
+    )
+    print(done.stdout, end='')
+    if done.returncode:
+        raise Stop(f'lintian ended with status {done.returncode}')
 
 
 def act(asked: argparse.Namespace, holder: pathlib.Path) -> None:

@@ -1,4 +1,4 @@
-"""A folder with a program, its companion in one file, manual pages, completion and install.sh; and such a folder as a tar."""
+"""A folder with a program, its companion, manual pages, completion and install.sh; and its tar."""
 from __future__ import annotations
 
 import gzip
@@ -65,7 +65,7 @@ def write(
 
 
 def write_companion(top: pathlib.Path, path: pathlib.Path) -> None:
-    """Writes yoke, without its tests, as one file that Python runs. The same sources give the same bytes."""
+    """Writes yoke, without tests, as one file that Python runs: the same bytes each time."""
     with tempfile.TemporaryDirectory() as holder:
         root = pathlib.Path(holder)
         shutil.copytree(top / 'yoke', root / 'yoke', ignore=shutil.ignore_patterns(*LEFT_OUT))

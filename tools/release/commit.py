@@ -14,7 +14,7 @@ TOP = pathlib.Path(__file__).resolve().parents[2]
 
 @dataclass(frozen=True)
 class Commit:
-    """A commit: its full hash, and its time in seconds of the epoch, which each packed file gets."""
+    """A commit: its hash, and its time in seconds of the epoch, which packed files get."""
 
     hash: str
     time: int

@@ -1,4 +1,4 @@
-"""The .deb: the plain program and yoke, with manual pages, completion, the pages of docs/ and the examples."""
+"""The .deb: the plain program and yoke, with manual pages, completion, docs/ and the examples."""
 from __future__ import annotations
 
 import email.utils
@@ -204,7 +204,7 @@ def changelog(of: commit.Commit) -> str:
 
 
 def size_of(root: pathlib.Path) -> int:
-    """The KiB that the files of a package take, each rounded up, and one for each folder: the same on all file systems."""
+    """The KiB of a package's files, each rounded up, and one for each folder."""
     return sum(-(-it.stat().st_size // 1024) if it.is_file() else 1 for it in root.rglob('*'))
 
 

@@ -1,4 +1,4 @@
-"""Makes all packages of the checkout that it stands in: python3 -m tools.release.packages FOLDER."""
+"""Makes all packages of its own checkout: python3 -m tools.release.packages FOLDER."""
 from __future__ import annotations
 
 import os
@@ -16,7 +16,7 @@ from tools.release import bundle, commit, debian, programs, record, wheel
 
 
 def make(top: pathlib.Path, to: pathlib.Path) -> None:
-    """Makes the packages of a checkout, RELEASE and RELEASE.sha256 in a folder, which isn't there yet."""
+    """Makes the packages of a checkout, RELEASE and RELEASE.sha256 in a new folder."""
     of = commit.of(top=top)
     to.mkdir(parents=True)
     with tempfile.TemporaryDirectory(prefix='packages-', dir=to.parent) as holder:

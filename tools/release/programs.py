@@ -19,7 +19,7 @@ STATIC = '-C target-feature=+crt-static'
 
 @dataclass(frozen=True)
 class Programs:
-    """Two builds of one program: their paths, the Rust that compiled both, and one hash over what they were built from."""
+    """Two builds of one program: paths, the Rust that compiled them, and the hash of the sources."""
 
     shared: pathlib.Path
     static: pathlib.Path
@@ -98,7 +98,7 @@ def built(
 
 
 def hold_to_static(program: pathlib.Path) -> None:
-    """Raises `Stop` where a program asks for another one to load it, as it does where it isn't static."""
+    """Raises `Stop` where another program has to load this one: then it isn't static."""
     if b'/ld-' in program.read_bytes() and needs_loader(program):
         raise Stop(f'{program} isn\'t static: rustc took no notice of "{STATIC}"')
 

@@ -1,4 +1,4 @@
-"""The folder of a proved program, which is built twice. It holds parts of the toolkit, and isn't to be published."""
+"""The folder of a proved program, built twice. It holds parts of the toolkit: don't publish it."""
 from __future__ import annotations
 
 import os
@@ -20,7 +20,7 @@ def say(text: str) -> None:
 
 
 def gate_line(text: str) -> str:
-    """The gate's last line, from a log or as it is given. Raises `Stop` where the gate didn't pass."""
+    """The gate's last line, from a log or as given. Raises `Stop` where the gate didn't pass."""
     path = pathlib.Path(text)
     if path.is_file():
         lines = path.read_text(encoding='utf-8', errors='replace').splitlines()
@@ -39,7 +39,7 @@ def sources() -> str:
 
 
 def built_in(folder: pathlib.Path) -> tuple[pathlib.Path, str]:
-    """Proves and builds in a new clone in a folder, with nothing kept: the program, and the toolkit's line."""
+    """Proves and builds in a new clone, with nothing kept: the program, and the toolkit's line."""
     clone, kept = folder / 'clone', folder / 'kept'
     commit.clone(commit.of(), clone)
     say(f'proving and building in {clone}')
@@ -79,7 +79,7 @@ def hold_to_sources(program: pathlib.Path) -> None:
 def make(
     to: pathlib.Path, holder: pathlib.Path, gate: str, given: list[pathlib.Path] | None
 ) -> None:
-    """Makes the folder from two builds, or from two programs that are given; `gate` is the gate's last line."""
+    """Makes the folder from two builds, or two given programs; `gate` is the gate's last line."""
     if given:
         first, second = given
         line = toolkit.answer(['rt', 'version']) or 'unknown'

@@ -13,7 +13,7 @@ AGREE = 'two builds in two folders have the same bytes'
 def of_packages(
     release: programs.Release | None, plain: dict[str, str], files: list[pathlib.Path]
 ) -> str:
-    """RELEASE with the lines on the proved program, where there is one, and those on plain programs and packages."""
+    """RELEASE: lines on the proved program, if there is one, on plain programs and packages."""
     text = release.proved_text() if release else ''
     text += ''.join(f'{name}: {value}\n' for name, value in plain.items())
     return text + ''.join(f'package {it.name}: {keys.of_file(it)}\n' for it in files)

@@ -1,14 +1,16 @@
-"""Installs the .deb in a new Debian 12 and works with it there; or times a first run from a clone, with Debian's cargo alone.
+"""Installs the .deb in a new Debian 12 and works with it; or times a first run from a clone there.
 
     python3 -m tools.release.try_package package FILE.deb [--base FOLDER]
     python3 -m tools.release.try_package clone [--base FOLDER] [--check]
 
-`package` installs the package by apt, runs what README.md has under "First run" and "A day with yoke" as a user without rights,
-removes the package, and fails where a file is left. `clone` installs cargo-web and rustc-web, clones this checkout, and times
-README's first command on two processors, once more, and after a change in a crate at the top; --check runs ./check --quick too.
+`package` installs the package by apt, runs what README.md has under "First run" and "A day with
+yoke" as a user without rights, removes the package, and fails where a file is left. `clone` installs
+cargo-web and rustc-web, clones this checkout, and times README's first command on two processors,
+once more, and after a change in a crate at the top; --check runs ./check --quick too.
 
-Needs root, debootstrap and Debian's archive. The new system goes into a temporary folder; --base keeps it before anything is
-installed, so that the next trial begins at once. No process that it started outlives it.
+Needs root, debootstrap and Debian's archive. The new system goes into a temporary folder; --base
+keeps it before anything is installed, so that the next trial begins at once. No process that it
+started outlives it.
 """
 from __future__ import annotations
 
@@ -56,7 +58,7 @@ EACH_LOOK = 0.05
 
 @dataclass(frozen=True)
 class Told:
-    """What a command took: seconds, seconds of processors, and the most bytes of memory that its processes had at once."""
+    """What a command took: seconds, seconds of processors, and the most bytes of memory at once."""
 
     seconds: float
     processor: float
@@ -64,7 +66,8 @@ class Told:
 
     def text(self) -> str:
         """As a line has it."""
-        return f'{self.seconds:.2f} s, {self.processor:.2f} s of processors, {self.memory / 1e6:.0f} MB'
+        spent = f'{self.seconds:.2f} s, {self.processor:.2f} s of processors'
+        return f'{spent}, {self.memory / 1e6:.0f} MB'
 
 
 class Debian:
@@ -124,7 +127,7 @@ class Debian:
         )
         if done.returncode:
             raise Stop(
-                f'{" ".join(words)[:200]} ended with status {done.returncode}:\n{done.stdout[-4000:]}'
+                f'{" ".join(words)[:200]} ended with {done.returncode}:\n{done.stdout[-4000:]}'
             )
         return done.stdout
 
@@ -191,9 +194,7 @@ def try_package(debian: Debian, package: pathlib.Path) -> None:
     debian.run('yoke', 'status', user='root', folder=f'{WORK}/examples')
     debian.run('apt-get', 'purge', '-y', 'yokeorange')
     hold_to_same(before, debian.files())
-    print(
-        f'the package is removed, and nothing is left behind: {len(before)} files and folders, as before'
-    )
+    print(f'the package is removed, and nothing is left behind: {len(before)} files and folders')
 
 
 def hold_to_same(before: set[str], after: set[str]) -> None:
@@ -267,7 +268,7 @@ def timed(debian: Debian, folder: str, text: str) -> Told:
 
 
 def try_clone(debian: Debian, checks: bool) -> None:
-    """Times README's first command in a new clone, again, and after a change; and runs the quick checks."""
+    """Times README's first command in a new clone, again, and after a change; runs the checks."""
     debian.install(*CARGO, recommends=False)
     shutil.copytree(commit.TOP / '.git', debian.root / 'origin')
     debian.run('chown', '-R', f'{USER}:', '/origin')
@@ -297,7 +298,8 @@ def try_clone(debian: Debian, checks: bool) -> None:
         said = debian.run('./check', '--quick', user=USER, folder=f'{WORK}/editor').splitlines()
         print('\n'.join(it for it in said if not it.startswith('ok ')))
         print(
-            f'./check --quick: {time.monotonic() - begun:.0f} s (load {os.getloadavg()[0]:.1f} on {os.cpu_count()})'
+            f'./check --quick: {time.monotonic() - begun:.0f} s '
+            f'(load {os.getloadavg()[0]:.1f} on {os.cpu_count()})'
         )
     if bad:
         raise Stop('\n'.join(bad))

@@ -26,7 +26,8 @@ def python() -> str:
         if not done.returncode:
             return path
     raise Stop(
-        f'no python3 has {", ".join(MODULES)}: apt-get install python3-pip python3-setuptools python3-wheel',
+        f'no python3 has {", ".join(MODULES)}: apt-get install '
+        'python3-pip python3-setuptools python3-wheel',
         127,
     )
 

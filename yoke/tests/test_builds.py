@@ -84,6 +84,8 @@ class BuildsTest(unittest.TestCase):
         self.assertIsNone(self.build(), 'it is no checkout without launcher/')
         (self.checkout / 'launcher').mkdir()
         self.assertEqual(builds.Build('plain', '0.2.0', SUM, OTHER), self.build())
+        self.put(self.checkout / 'RELEASE', release.replace('plain-sha256', 'plain-static-sha256'))
+        self.assertEqual(builds.Build('plain', '0.2.0', SUM, OTHER), self.build())
         self.put(self.checkout / 'RELEASE', f'version: 0.1.0\nsha256: {SUM}\n')
         self.assertEqual(builds.Build('proved', '0.1.0', SUM), self.build())
 
