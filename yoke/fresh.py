@@ -215,9 +215,10 @@ def new_things(found: Table, keys: Optional[Iterable[str]] = None) -> List[Thing
     wanted = None if keys is None else set(keys)
     mine = _Mine(found)
     things = []
-    for key, known in found.things.items():
-        if known.base is None and (wanted is None or key in wanted):
-            thing = thing_of(mine, key) if own_tags(known.mine.tags if known.mine else {}) else None
+    for key in found.new():
+        known = found.mine(key)
+        if known is not None and (wanted is None or key in wanted):
+            thing = thing_of(mine, key) if own_tags(known.tags) else None
             if thing is not None:
                 things.append(thing)
     return things

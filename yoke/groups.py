@@ -56,9 +56,7 @@ Group = Tuple[str, ...]  # keys by rank
 
 def edits(found: Table) -> Dict[str, Known]:
     """The objects of a session that are edited or in conflict, by key and by rank."""
-    return {
-        key: known for key, known in found.things.items() if known.edit or known.conflict != 'none'
-    }
+    return found.edits()
 
 
 def divide(found: Table) -> List[Group]:

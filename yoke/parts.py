@@ -292,7 +292,7 @@ class Parts:
         size.
         """
         text = self.day.last().text()
-        found = table.read(text)
+        found = table.of_file(self.day.last().path)
         named = named_by(self.session, found, self.wanted.only)
         review = self.wanted.reviewed(self.session, found) if self.wanted.reviewed else None
         chosen = choose(found, self.wanted, named, self.sending.sent, review)
@@ -307,7 +307,7 @@ class Parts:
             if len(chunk) < self.sending.room() and self.sending.max_extent is None:
                 return True  # it is all that is left
             if not divided:
-                divided.extend(groups.divide(table.read(self.day.last().text())))
+                divided.extend(groups.divide(table.of_file(self.day.last().path)))
             keys = {thing.key for _, thing in chunk}
             return all(keys.issuperset(group) for group in divided if not keys.isdisjoint(group))
 
@@ -412,7 +412,7 @@ def preview(session: Session, size: int, wanted: Wanted) -> Tuple[Answer, Dict[s
     if wanted.is_all:
         return session.ask([f'upload {size}']), {}
     text = session.day.last().text()
-    found = table.read(text)
+    found = table.of_file(session.day.last().path)
     review = wanted.reviewed(session, found) if wanted.reviewed else None
     chosen = choose(found, wanted, named_by(session, found, wanted.only), 0, review)
     back = set(groups.edits(found)).difference(*chosen.groups)
@@ -432,10 +432,9 @@ def too_wide(group: Group, box: Optional[extent.Box], widest: Optional[int]) -> 
 
 
 def look(
-    session: Session, text: str, wanted: Wanted, server: Server, note: Callable[[str], Any]
+    session: Session, found: Table, wanted: Wanted, server: Server, note: Callable[[str], Any]
 ) -> fresh.Look:
     """What stands at the server where the new objects of a send are to go."""
-    found = table.read(text)
     if wanted.is_all:
         return fresh.look(server, found, note)
     review = wanted.reviewed(session, found) if wanted.reviewed else None

@@ -47,9 +47,14 @@ class Known:
         return self.base if self.base and not self.base.deleted else None
 
     @property
+    def is_new(self):
+        """Whether it was made here, and no server has it."""
+        return 'base' not in self._lines
+
+    @property
     def edit(self):
         """`new`, `changed` or `deleted`; None where nothing was edited. This is what `count` counts as changed."""
-        if 'base' not in self._lines:
+        if self.is_new:
             return 'new'
         if self._same:
             return None

@@ -13,6 +13,8 @@ from yoke import opl, saved
 
 _FIRST = re.compile(rb'(?:known|incomplete) ([nwr]-?[0-9]+)')
 _EDITED = re.compile(rb'\nknown ([nwr]-?[0-9]+) [a-z]+ (?:own|none) [a-z]+')
+_TOUCHED = re.compile(rb'\nknown [nwr]-?[0-9]+ [a-z]+ (?:(?:own|none) [a-z]+|same (?!none)[a-z]+)')
+_NEW = re.compile(rb'\nknown ([nwr]-?[0-9]+) new ')
 END = b'session end\n'
 Rank = Tuple[int, bool, int]
 WAYS: Rank = (1, False, 0)      # before all ways and relations: a node refers to nothing
@@ -70,6 +72,22 @@ class Stored:
     def edited(self) -> List[str]:
         """The keys of the objects that are changed, new or deleted here, by rank. Some may be changed to what they were."""
         return [found[1].decode('ascii') for found in _EDITED.finditer(self.data)]
+
+    def edits(self) -> Iterator[saved.Known]:
+        """The objects that are edited or in conflict, by rank."""
+        for found in _TOUCHED.finditer(self.data):
+            known = self._known(found.start() + 1)
+            if known.edit or known.conflict != 'none':
+                yield known
+
+    def new(self) -> List[str]:
+        """The keys of the objects that were made here and that no server has, by rank."""
+        return [found[1].decode('ascii') for found in _NEW.finditer(self.data)]
+
+    def keys(self, word: str) -> Iterator[str]:
+        """The keys of all objects, by rank: of those that are `known`, or of those that are `incomplete`."""
+        for found in re.finditer(rb'\n%s ([nwr]-?[0-9]+)' % word.encode('ascii'), self.data):
+            yield found[1].decode('ascii')
 
     def of_kind(self, letter: str) -> Iterator[saved.Known]:
         """The objects of a kind, `n`, `w` or `r`, by rank."""

@@ -36,6 +36,21 @@ class Stored(FolderTest):
                 self.assertIsNone(session.get(key))
                 self.assertEqual(key in whole.incomplete, session.is_incomplete(key), key)
 
+    def test_a_table_of_it_is_the_same(self) -> None:
+        self.begin('node x13.5 y52 T', 'way T Nn3,n-1', 'tag n7 Tref=1', 'delete r10', 'tag n8 Tref=1', 'tag n8 Tref=', 'delete n30', town=TOWN)
+        self.write('newer.opl', 'n7 v2 x13.007 y52 Tref=2\nn9 v2 x13.009 y52 Tname=a\nn40 v1 x13.04 y52\n')
+        self.do('download newer.opl')
+        path = self.day.last().path
+        whole, found = table.read(path.read_text()), table.of_file(path)
+        path.unlink()
+        self.assertEqual('changed', whole.things['n7'].conflict)
+        self.assertEqual((list(whole.things), len(whole.things)), (list(found.things), len(found.things)))
+        self.assertEqual((set(whole.incomplete), whole.next_new, whole.new()), (set(found.incomplete), found.next_new, found.new()))
+        self.assertEqual(list(whole.edits()), list(found.edits()))
+        for key in (*whole.things, 'n77', 'n99'):
+            self.assertEqual((whole.mine(key), whole.base(key), whole.refers(key), whole.users(key)),
+                             (found.mine(key), found.base(key), found.refers(key), found.users(key)), key)
+
     def test_a_session_without_objects(self) -> None:
         (self.folder / 'empty.saved').write_text('session 1 1\nsession end\n')
         with stored.opened('empty.saved') as session:

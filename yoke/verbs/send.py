@@ -3,7 +3,7 @@ import argparse
 import re
 from decimal import Decimal
 
-from yoke import api, extent, fresh, journal, ledger, opl, osc, parts, results, sending, sides, words
+from yoke import api, extent, fresh, journal, ledger, opl, osc, parts, results, sending, sides, table, words
 from yoke.parts import Parts, Wanted
 from yoke.progress import note
 from yoke.review import reviewing
@@ -88,11 +88,13 @@ def look(session, server, wanted):
 
     Where a send was stopped it was looked at before that.
     """
-    text = session.day.last().text()
-    if session.day.pending() or session.day.held() or '\nmine n-' not in text and '\nmine w-' not in text:
+    if session.day.pending() or session.day.held():
+        return
+    found = table.of_file(session.day.last().path)
+    if not any(key[0] != 'r' for key in found.new()):
         return
     sending.check_server(session.day, server)
-    area = parts.look(session, text, wanted, server, note)
+    area = parts.look(session, found, wanted, server, note)
     for line in fresh.told(session.day, area):
         note(line)
     results.put(candidates=[{'key': one.key, 'there': one.there.key, 'why': one.why, 'metres': round(one.metres, 1)} for one in area.candidates])
