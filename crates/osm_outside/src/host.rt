@@ -1,10 +1,11 @@
 // The shelf and the sink of a program: over a folder, and over a writer.
-ghost use Rattle.std.specs.Prelude.{◌≡◌, None, is_some, false, IsTrue, IsErr, IfOk, IfSome, not};
+ghost use Rattle.std.specs.Prelude.{◌≡◌, ◌∷◌, ◌++◌, [], None, is_some, false, IsTrue, IsErr, IfOk, IfSome, not};
 ghost use Rattle.std.specs.Str.{IsUtf8};
 ghost use Rattle.std.specs.Io.KnownBytes.{Appends};
 ghost use Rattle.osm_outside.specs.Folder.{rest_of};
 ghost use Rattle.osm_outside.specs.Outside.{held, answered, Begins, HasCause, AppendsFront};
 
+use crate::notes::Notes;
 use crate::outside::counted_fault;
 use crate::{Failed, Folder, Shelf, Sink};
 use std::io::{ErrorKind, Read, Write};
@@ -19,6 +20,7 @@ pub struct HostShelf<F: Folder> {
     folder: F,
     file: Option<F::File>,
     faults: u64,
+    notes: Notes,
 }
 
 impl<F: Folder> HostShelf<F> {
@@ -26,12 +28,14 @@ impl<F: Folder> HostShelf<F> {
     pub fn new(folder: F) -> HostShelf<F>
         ensures told { ⟦<HostShelf<F> as Shelf>⟧.told result ≡ F.files folder }
         ensures begun { ⟦<HostShelf<F> as Shelf>⟧.begun result ≡ false }
+        ensures noted { ⟦<HostShelf<F> as Shelf>⟧.noted result ≡ [] }
         ensures faults { ⟦<HostShelf<F> as Shelf>⟧.faults result ≡ 0 }
     {
         HostShelf {
             folder,
             file: None,
             faults: 0,
+            notes: Notes::new(),
         }
     }
 }
@@ -43,18 +47,22 @@ impl<F: Folder> Shelf for HostShelf<F> {
 
     ghost begun = { λ shelf. is_some shelf.file };
 
+    ghost noted = { λ shelf. shelf.notes.list };
+
     ghost faults = { λ shelf. shelf.faults };
 
     // A file that isn't there is no fault: a call fails only at a name that isn't UTF-8, or at
     // which the folder says that opening may fail.
-    fn begin(&mut self, name: &[u8]) -> Result<bool, Failed>
+    fn begin<K: Sink>(&mut self, name: &[u8], out: &K) -> Result<bool, Failed>
         ensures told { F.files self.new.folder ≡ F.files self.old.folder }
         ensures begun { is_some self.new.file ≡ answered result }
+        ensures noted { self.new.notes.list ≡ self.old.notes.list ++ (name.now, K.taken out.now) ∷ [] }
         ensures found { IfOk result (λ found. IfSome (F.files self.old.folder) (λ files. Begins (held files name.now) found (rest_of F.File.remaining self.new.file))) }
         ensures cause { HasCause self.old.faults self.new.faults result }
         ensures failed { IsErr result → IsUtf8 name.now → F.may_fail self.old.folder name.now }
     {
         self.file = None;
+        self.notes = self.notes.with(name, out);
         let Ok(name) = str::from_utf8(name) else {
             return Err(counted_fault(&mut self.faults));
         };
@@ -138,7 +146,7 @@ fn write_whole<W: Write>(to: &mut W, piece: &[u8]) -> bool
 #[cfg(test)]
 mod tests {
     use super::*;
-    use crate::Files;
+    use crate::{Calls, Files, MemorySink};
     use std::io;
     use std::test::Fail;
 
@@ -218,13 +226,14 @@ mod tests {
     #[test]
     fn shelf_has_faults_and_missing_files(rt: HostRuntime) -> Result<(), Fail> {
         let mut shelf = HostShelf::new(rt.clone()?);
-        assert_eq!(rt; shelf.begin(b"no such file"), Ok(false));
-        assert_eq!(rt; shelf.begin(b""), Ok(false));
+        let out = MemorySink::new(rt.alloc(), Calls::new(rt.alloc()));
+        assert_eq!(rt; shelf.begin(b"no such file", &out), Ok(false));
+        assert_eq!(rt; shelf.begin(b"", &out), Ok(false));
         assert_eq!(rt; shelf.faults, 0);
-        assert_eq!(rt; shelf.begin(&[255]), Err(Failed), "not UTF-8");
+        assert_eq!(rt; shelf.begin(&[255], &out), Err(Failed), "not UTF-8");
         assert_eq!(rt; shelf.faults, 1);
         let mut buffer = [0u8; 4];
-        let folder = shelf.begin(b".");
+        let folder = shelf.begin(b".", &out);
         let read = if folder == Ok(true) {
             shelf.next(&mut buffer).is_ok()
         } else {
@@ -240,10 +249,11 @@ mod tests {
         let mut files = Files::new(rt.alloc());
         files.push(b"town.opl", b"abc")?;
         let mut shelf = HostShelf::new(files);
-        assert_eq!(rt; shelf.begin(b"city.opl"), Ok(false));
+        let out = MemorySink::new(rt.alloc(), Calls::new(rt.alloc()));
+        assert_eq!(rt; shelf.begin(b"city.opl", &out), Ok(false));
         let mut front = [0u8; 2];
         let mut back = [0u8; 2];
-        let begun = shelf.begin(b"town.opl");
+        let begun = shelf.begin(b"town.opl", &out);
         let reads = if begun == Ok(true) {
             [
                 shelf.next(&mut front),
