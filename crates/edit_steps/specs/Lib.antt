@@ -12,6 +12,7 @@ pub mod Looks
 pub mod Needs
 pub mod Planned
 pub mod Printed
+pub mod Reads
 pub mod Searched
 pub mod Send
 pub mod Sent

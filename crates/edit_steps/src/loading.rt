@@ -1,6 +1,7 @@
 //! What a step finds on the shelf: the job that the objects of its file make, or the bytes of its file.
-ghost use Rattle.std.specs.Prelude.{◌≡◌, ◌<◌, [], true, length, Result, Ok, IfOk, IfSome};
+ghost use Rattle.std.specs.Prelude.{◌≡◌, ◌<◌, ◌∷◌, ◌++◌, [], true, length, Result, Ok, IfOk, IfSome};
 ghost use Rattle.std.specs.Option.{option_copied, option_map};
+ghost use Rattle.osm_outside.specs.Noted.{note_of};
 ghost use Rattle.osm_outside.specs.Outside.{held};
 ghost use Rattle.opl_line.specs.declared.mode.Mode.TheVariants as modes;
 ghost use Rattle.opl_file.specs.Feeding.{reads_on};
@@ -12,6 +13,7 @@ ghost use Rattle.tool_api.specs.declared.verb.Verb.TheVariants as verbs;
 ghost use Rattle.edit_steps.specs.Fetch.{reading};
 ghost use Rattle.edit_steps.specs.Given.{AreBytes, Finds};
 ghost use Rattle.edit_steps.specs.Load.{job_found, bytes_found, objects_found, file_found, AreRead, AreServable, IsFor, IsFoundIn, MayFind, MayFindFor, FinishCause};
+ghost use Rattle.edit_steps.specs.Reads.{begins_in};
 ghost use Rattle.edit_steps.specs.Stop.{ReadCause};
 
 use crate::doing::is_given_up;
@@ -25,7 +27,7 @@ use import_tool::new_objects;
 use opl_file::{FileAnswer, FileFault, Objects, Reader};
 use opl_line::Mode;
 use osm_base::{Area, Tags};
-use osm_outside::Shelf;
+use osm_outside::{Shelf, Sink};
 use osm_table::Shared;
 use std::alloc::Global;
 use tool_api::Job;
@@ -46,28 +48,37 @@ pub enum Found {
 }
 
 /// Reads the file that an act names, piece by piece. In a group that was given up it reads none. It costs what the file
-/// costs.
+/// costs. The shelf notes what the sink has taken then.
 ///
 /// # Errors
 /// The shelf failed, or no memory was left.
-pub fn find<S: Shelf>(
+pub fn find<S: Shelf, K: Sink>(
     alloc: Global,
     limits: Limits,
     shelf: &mut S,
+    out: &K,
     group: Group,
     act: &Act,
 ) -> Result<Found, Stop>
     ensures told { S.told shelf.new ≡ S.told shelf.old }
     ensures found { IfOk result (IsFoundIn (S.told shelf.old) limits group act.now) }
     ensures may_be_found { IfOk result (MayFind act.now) }
+    ensures noted { S.noted shelf.new ≡ S.noted shelf.old ++ note_of (begins_in group act.now) (K.taken out.now) }
     ensures cause { ReadCause (S.faults shelf.old) (S.faults shelf.new) result }
 {
     if is_given_up(group) {
         return Ok(Found::Nothing);
     }
     match act {
-        Act::File { name, purpose } => find_file(alloc, limits, shelf, name.as_bytes(), purpose),
-        Act::Serve { name } => find_objects(alloc, shelf, name.as_bytes(), limits.file),
+        Act::File { name, purpose } => find_file(
+            alloc,
+            limits,
+            shelf,
+            out,
+            name.as_bytes(),
+            purpose,
+        ),
+        Act::Serve { name } => find_objects(alloc, shelf, out, name.as_bytes(), limits.file),
         Act::Job(_) => Ok(Found::Nothing),
         Act::Generate { .. } => Ok(Found::Nothing),
         Act::History(_) => Ok(Found::Nothing),
@@ -78,33 +89,36 @@ pub fn find<S: Shelf>(
 }
 
 // What is found in a file, by what it is read for.
-fn find_file<S: Shelf>(
+fn find_file<S: Shelf, K: Sink>(
     alloc: Global,
     limits: Limits,
     shelf: &mut S,
+    out: &K,
     name: &[u8],
     purpose: &Purpose,
 ) -> Result<Found, Stop>
     ensures told { S.told shelf.new ≡ S.told shelf.old }
     ensures found { IfOk result (λ found. Finds (S.told shelf.old) (λ files. held files name.now) found (file_found limits purpose.now)) }
     ensures may_be_found { IfOk result (MayFindFor purpose.now) }
+    ensures noted { S.noted shelf.new ≡ S.noted shelf.old ++ (name.now, K.taken out.now) ∷ [] }
     ensures cause { ReadCause (S.faults shelf.old) (S.faults shelf.new) result }
 {
     let limit = limits.file;
     match purpose {
         Purpose::Download { area, wanted } => {
-            find_map(alloc, shelf, name, limit, *area, wanted.as_ref())
+            find_map(alloc, shelf, out, name, limit, *area, wanted.as_ref())
         }
-        Purpose::Import => find_new(alloc, shelf, name, limit),
-        Purpose::Confirm => find_bytes(alloc, shelf, name, limit),
-        Purpose::Resume => find_bytes(alloc, shelf, name, limit),
+        Purpose::Import => find_new(alloc, shelf, out, name, limit),
+        Purpose::Confirm => find_bytes(alloc, shelf, out, name, limit),
+        Purpose::Resume => find_bytes(alloc, shelf, out, name, limit),
     }
 }
 
 // The job that merges what is wanted of a file that a server gave.
-fn find_map<S: Shelf>(
+fn find_map<S: Shelf, K: Sink>(
     alloc: Global,
     shelf: &mut S,
+    out: &K,
     name: &[u8],
     limit: u64,
     area: Option<Area>,
@@ -113,9 +127,10 @@ fn find_map<S: Shelf>(
     ensures told { S.told shelf.new ≡ S.told shelf.old }
     ensures found { IfOk result (λ found. Finds (S.told shelf.old) (λ files. held files name.now) found (λ given. job_found (λ objects. jobs.Merge (filtered objects area (option_copied wanted.entry))) (option_map (objects_of modes.Download limit) given))) }
     ensures may_be_found { IfOk result (IsFor verbs.Merge) }
+    ensures noted { S.noted shelf.new ≡ S.noted shelf.old ++ (name.now, K.taken out.now) ∷ [] }
     ensures cause { ReadCause (S.faults shelf.old) (S.faults shelf.new) result }
 {
-    match load(alloc, shelf, name, Mode::Download, limit)? {
+    match load(alloc, shelf, out, name, Mode::Download, limit)? {
         None => Ok(Found::Nothing),
         Some(Err(fault)) => Ok(Found::Bad(fault)),
         Some(Ok(objects)) => {
@@ -127,13 +142,20 @@ fn find_map<S: Shelf>(
 }
 
 // The job that imports the new objects of a file.
-fn find_new<S: Shelf>(alloc: Global, shelf: &mut S, name: &[u8], limit: u64) -> Result<Found, Stop>
+fn find_new<S: Shelf, K: Sink>(
+    alloc: Global,
+    shelf: &mut S,
+    out: &K,
+    name: &[u8],
+    limit: u64,
+) -> Result<Found, Stop>
     ensures told { S.told shelf.new ≡ S.told shelf.old }
     ensures found { IfOk result (λ found. Finds (S.told shelf.old) (λ files. held files name.now) found (λ given. job_found (λ objects. jobs.Import (new_objects_of objects)) (option_map (objects_of modes.Import limit) given))) }
     ensures may_be_found { IfOk result (IsFor verbs.Import) }
+    ensures noted { S.noted shelf.new ≡ S.noted shelf.old ++ (name.now, K.taken out.now) ∷ [] }
     ensures cause { ReadCause (S.faults shelf.old) (S.faults shelf.new) result }
 {
-    match load(alloc, shelf, name, Mode::Import, limit)? {
+    match load(alloc, shelf, out, name, Mode::Import, limit)? {
         None => Ok(Found::Nothing),
         Some(Err(fault)) => Ok(Found::Bad(fault)),
         Some(Ok(objects)) => {
@@ -144,18 +166,20 @@ fn find_new<S: Shelf>(alloc: Global, shelf: &mut S, name: &[u8], limit: u64) -> 
 }
 
 // The objects of a file that a server gets.
-fn find_objects<S: Shelf>(
+fn find_objects<S: Shelf, K: Sink>(
     alloc: Global,
     shelf: &mut S,
+    out: &K,
     name: &[u8],
     limit: u64,
 ) -> Result<Found, Stop>
     ensures told { S.told shelf.new ≡ S.told shelf.old }
     ensures found { IfOk result (λ found. Finds (S.told shelf.old) (λ files. held files name.now) found (λ given. objects_found (option_map (objects_of modes.Download limit) given))) }
     ensures servable { IfOk result AreServable }
+    ensures noted { S.noted shelf.new ≡ S.noted shelf.old ++ (name.now, K.taken out.now) ∷ [] }
     ensures cause { ReadCause (S.faults shelf.old) (S.faults shelf.new) result }
 {
-    match load(alloc, shelf, name, Mode::Download, limit)? {
+    match load(alloc, shelf, out, name, Mode::Download, limit)? {
         None => Ok(Found::Nothing),
         Some(Err(fault)) => Ok(Found::Bad(fault)),
         Some(Ok(objects)) => {
@@ -166,17 +190,19 @@ fn find_objects<S: Shelf>(
 }
 
 // The bytes of a file.
-fn find_bytes<S: Shelf>(
+fn find_bytes<S: Shelf, K: Sink>(
     alloc: Global,
     shelf: &mut S,
+    out: &K,
     name: &[u8],
     limit: u64,
 ) -> Result<Found, Stop>
     ensures told { S.told shelf.new ≡ S.told shelf.old }
     ensures found { IfOk result (λ found. Finds (S.told shelf.old) (λ files. held files name.now) found (λ given. bytes_found (reading limit given))) }
+    ensures noted { S.noted shelf.new ≡ S.noted shelf.old ++ (name.now, K.taken out.now) ∷ [] }
     ensures cause { ReadCause (S.faults shelf.old) (S.faults shelf.new) result }
 {
-    match fetch(alloc, shelf, name, limit as usize)? {
+    match fetch(alloc, shelf, out, name, limit as usize)? {
         Fetched::Missing => Ok(Found::Nothing),
         Fetched::TooLong => Ok(Found::Bad(FileFault::FileTooLong)),
         Fetched::Whole(bytes) => Ok(Found::Bytes(bytes)),
@@ -184,9 +210,10 @@ fn find_bytes<S: Shelf>(
 }
 
 // Reads the objects of a file, where the shelf has it.
-fn load<S: Shelf>(
+fn load<S: Shelf, K: Sink>(
     alloc: Global,
     shelf: &mut S,
+    out: &K,
     name: &[u8],
     mode: Mode,
     limit: u64,
@@ -194,9 +221,10 @@ fn load<S: Shelf>(
     ensures told { S.told shelf.new ≡ S.told shelf.old }
     ensures loaded { IfOk result (λ file. Finds (S.told shelf.old) (λ files. held files name.now) file (option_map (objects_of mode limit))) }
     ensures read { IfOk result (λ file. IfSome file (AreRead mode limit)) }
+    ensures noted { S.noted shelf.new ≡ S.noted shelf.old ++ (name.now, K.taken out.now) ∷ [] }
     ensures cause { ReadCause (S.faults shelf.old) (S.faults shelf.new) result }
 {
-    let Ok(found) = shelf.begin(name) else {
+    let Ok(found) = shelf.begin(name, out) else {
         return Err(Stop::ReadFault);
     };
     if !found {
@@ -221,6 +249,7 @@ fn read_objects<S: Shelf>(
     ensures objects { IfOk result (λ read. IfSome (S.rest shelf.old) (λ bytes. read ≡ objects_of mode limit bytes)) }
     ensures bytes { IfOk result (λ read. AreBytes read (objects_of mode limit)) }
     ensures read { IfOk result (AreRead mode limit) }
+    ensures noted { S.noted shelf.new ≡ S.noted shelf.old }
     ensures cause { ReadCause (S.faults shelf.old) (S.faults shelf.new) result }
 {
     let mut reader = Reader::new(alloc, mode, limit);

@@ -1,12 +1,15 @@
 //! The steps of a script, run one after the other.
-ghost use Rattle.std.specs.Prelude.{◌≡◌, false, OnOk, OnErr, IsErrOf};
+ghost use Rattle.std.specs.Prelude.{◌≡◌, ◌++◌, false, OnOk, OnErr, IsErrOf};
 ghost use Rattle.std.specs.Io.KnownBytes.{Appends};
+ghost use Rattle.osm_outside.specs.Noted.{note_of};
 ghost use Rattle.osm_outside.specs.Outside.{AppendsFront};
 ghost use Rattle.edit_script.specs.Order.{IsOrderly};
 ghost use Rattle.edit_steps.specs.Asked.{MayTake, MayRunAll};
 ghost use Rattle.edit_steps.specs.Load.{MayFind};
 ghost use Rattle.edit_steps.specs.Planned.{IsSized};
 ghost use Rattle.edit_history.specs.Moved.{Fits};
+ghost use Rattle.edit_history.specs.Shown.{shown};
+ghost use Rattle.edit_steps.specs.Reads.{begins_in};
 ghost use Rattle.edit_steps.specs.Send.{Plays, RunsNext};
 ghost use Rattle.edit_steps.specs.States.{StepsRan};
 ghost use Rattle.edit_steps.specs.Stop.{StopCause, WriteCause};
@@ -42,7 +45,7 @@ pub fn run_steps<S: Shelf, K: Sink>(
     requires fits { Fits (λ b. done (b.vtable, b.value)) (λ b. undone (b.vtable, b.value)) (λ b. kind (b.vtable, b.value)) history.old (MayRunAll steps.now) }
     requires orderly { IsOrderly false steps.now }
     ensures told { S.told shelf.new ≡ S.told shelf.old }
-    ensures ran { StepsRan limits (S.told shelf.old) (K.taken out.old) (K.taken out.new) result steps.now }
+    ensures ran { StepsRan limits (S.told shelf.old) (K.taken out.old) (K.taken out.new) (S.noted shelf.old) (S.noted shelf.new) result steps.now }
     ensures cause { StopCause (S.faults shelf.old) (S.faults shelf.new) (K.faults out.old) (K.faults out.new) result }
 {
     for step in steps {
@@ -63,12 +66,14 @@ fn run_next<S: Shelf, K: Sink>(
     requires { Fits (λ b. done (b.vtable, b.value)) (λ b. undone (b.vtable, b.value)) (λ b. kind (b.vtable, b.value)) history.old (MayTake step.now.act) }
     ensures told { S.told shelf.new ≡ S.told shelf.old }
     ensures runs { RunsNext (λ b. done (b.vtable, b.value)) (λ b. undone (b.vtable, b.value)) (λ b. kind (b.vtable, b.value)) limits (S.told shelf.old) history.old history.new (K.taken out.old) (K.taken out.new) result step.now }
-    // A read that fails leaves the sink as it was.
+    // It begins its file before it writes,
+    ensures noted { S.noted shelf.new ≡ S.noted shelf.old ++ note_of (begins_in (shown (λ b. done (b.vtable, b.value)) (λ b. undone (b.vtable, b.value)) history.old).group step.now.act) (K.taken out.old) }
+    // and a read that fails leaves the sink as it was.
     ensures unwritten { IsErrOf result Stop.ReadFault → out.new ≡ out.old }
     ensures cause { StopCause (S.faults shelf.old) (S.faults shelf.new) (K.faults out.old) (K.faults out.new) result }
 {
     history.ds().sound();
-    let found = find(alloc, limits, shelf, history.group(), &step.act)?;
+    let found = find(alloc, limits, shelf, out, history.group(), &step.act)?;
     let ran = run_step(alloc, limits, out, history, step, &found);
     drop(found);
     ran

@@ -6,6 +6,7 @@ pub loop-count-init : goal.loop-count-init
 loop-count-init g c = record {
   told = search rules;
   begun = c.requires.begun;
+  noted = search rules;
   quiet = search rules;
   fed = fed_first c.args.mode c.args.limit c.new-reader.result c.new-reader.ensures.reads;
   so_far = feeds-start c.args.mode c.args.limit c.new-reader.result (g.S.Shelf.rest c.args.shelf.now) c.new-reader.ensures.reads;
@@ -18,6 +19,7 @@ loop-count-preserved g c =
     record {
       told = next.told ∙ before.told;
       begun = next.begun;
+      noted = next.noted ∙ before.noted;
       quiet = next.cause.quiet ∙ before.quiet;
       fed = fed_more c.args.mode c.args.limit c.loop-count.left c.in-Ok.count c.loop-count.reader c.feed.new.self before.fed (take c.in-Ok.count c.next.new.into) c.in_ok-feed.ensures.reads next.count.1 (omega arith);
       so_far = feeds-more c.args.mode c.args.limit c.loop-count.left c.in-Ok.count c.loop-count.reader c.feed.new.self _ _ _ (take c.in-Ok.count c.next.new.into)

@@ -12,7 +12,7 @@ loop-step-init g c = record {
   valid = c.requires.fits.valid;
   orderly = orderly_first c.args.steps.now _ c.requires.fits.asked.first c.requires.orderly;
   there = record { editor = 1; some = omega arith; none = c.requires.fits.asked.there };
-  goes = steps_start c.args.limits _ _ c.args.steps.now _ c.requires.fits.asked.first;
+  goes = steps_start c.args.limits _ _ _ c.args.steps.now _ c.requires.fits.asked.first;
 }
 
 pub run_next-requires : goal.run_next-requires
@@ -42,7 +42,7 @@ loop-step-preserved g c =
       valid = runs.plays.valid;
       orderly = orderly_on c.args.limits runs.found c.step-item.result.act _ _ (drop (c.loop-step.step-index + 1) c.args.steps.now) here.1 runs.plays.state here.2;
       there = subst (λ verbs. NoneMissing verbs (drop (c.loop-step.step-index + 1) c.args.steps.now)) (sym runs.plays.verbs) tools.1;
-      goes = steps_go_on c.args.limits _ _ _ c.loop-step.step-index c.args.steps.now _ before.goes c.step-item.result runs.found (omega arith) c.step-item.is runs.table (rw before.told at runs.finds) _ _ runs.plays.ok runs.plays.state;
+      goes = steps_go_on c.args.limits _ _ _ _ _ c.loop-step.step-index c.args.steps.now _ before.goes c.step-item.result runs.found (omega arith) c.step-item.is runs.table (rw before.told at runs.finds) _ _ _ runs.plays.ok next.noted runs.plays.state;
     }
 
 pub returns-in_err-run_next-clause-ran : goal.returns-in_err-run_next-clause-ran
@@ -50,7 +50,7 @@ returns-in_err-run_next-clause-ran g c =
     let before = c.loop-step.invariant in
     let runs = c.in_err-run_next.ensures.runs in
     let p = err_from_is_err_and c.from_residual.result c.from_residual.ensures.1 in
-    rw p.1 (steps_fail c.args.limits _ _ _ c.loop-step.step-index c.args.steps.now _ before.goes c.step-item.result runs.found (omega arith) c.step-item.is runs.table (rw before.told at runs.finds) p.0 _ (λ is. ap g.K.Sink.taken (c.in_err-run_next.ensures.unwritten (search rules))) runs.plays.err)
+    rw p.1 (steps_fail c.args.limits _ _ _ _ _ c.loop-step.step-index c.args.steps.now _ before.goes c.step-item.result runs.found (omega arith) c.step-item.is runs.table (rw before.told at runs.finds) p.0 _ _ (λ is. ap g.K.Sink.taken (c.in_err-run_next.ensures.unwritten (search rules))) runs.plays.err c.in_err-run_next.ensures.noted)
 
 pub returns-clause-ran : goal.returns-clause-ran
-returns-clause-ran g c = steps_end c.args.limits _ _ _ c.loop-step.step-index c.args.steps.now _ c.loop-step.invariant.goes _ (omega arith)
+returns-clause-ran g c = steps_end c.args.limits _ _ _ _ _ c.loop-step.step-index c.args.steps.now _ c.loop-step.invariant.goes _ (omega arith)

@@ -14,6 +14,6 @@ invariant-loop-step g l = record {
   valid : Valid (λ b. (goal.Tool-dyn g (b.vtable, b.value)).done b.value) (λ b. (goal.Tool-dyn g (b.vtable, b.value)).undone b.value) l.history;
   orderly : IsOrderly (is_open (shown (λ b. (goal.Tool-dyn g (b.vtable, b.value)).done b.value) (λ b. (goal.Tool-dyn g (b.vtable, b.value)).undone b.value) l.history).group) (drop l.step-index l.steps);
   there : NoneMissing (verbs_of (λ b. (goal.Tool-dyn g (b.vtable, b.value)).kind b.value) l.history) (drop l.step-index l.steps);
-  goes : StepsGo l.limits (g.S.Shelf.told l.fn.shelf) (g.K.Sink.taken l.fn.out) (g.K.Sink.taken l.out) l.step-index l.steps
+  goes : StepsGo l.limits (g.S.Shelf.told l.fn.shelf) (g.K.Sink.taken l.fn.out) (g.S.Shelf.noted l.fn.shelf) (g.K.Sink.taken l.out) (g.S.Shelf.noted l.shelf) l.step-index l.steps
       (shown (λ b. (goal.Tool-dyn g (b.vtable, b.value)).done b.value) (λ b. (goal.Tool-dyn g (b.vtable, b.value)).undone b.value) l.history);
 }
