@@ -4,7 +4,9 @@ use Rattle.std.specs.List.{All}
 use Rattle.std.proofs.lemmas.List.Elements.{All-nil, All-take}
 use Rattle.std.specs.Io.KnownBytes.{Appends}
 use Rattle.std.proofs.KnownBytes.{Appends-nil}
-use Rattle.osm_outside.specs.Outside.{AppendsFront, Shelved}
+use Rattle.osm_outside.specs.Noted.{Noted, NotedFirst, Read}
+use Rattle.osm_outside.specs.Outside.{AppendsFront, Note, Shelved}
+use Rattle.osm_outside.proofs.Noting.{noted_none}
 use Rattle.dataset.specs.Sound.{IsSound}
 use Rattle.edit_script.specs.declared.step.Act.TheVariants.{Look}
 use Rattle.edit_script.specs.declared.step.Look.TheVariants.{Upload}
@@ -17,12 +19,13 @@ use Rattle.edit_steps.specs.declared.stop.Stop.{Stop}
 use Rattle.edit_steps.specs.Given.{Given}
 use Rattle.edit_steps.specs.LineEnds.{AreLines}
 use Rattle.edit_steps.specs.Turn.{step_text}
-use Rattle.edit_steps.specs.States.{states_before, texts, AreSound, StepsRan, StepsReached}
+use Rattle.edit_steps.specs.States.{reads, states_before, texts, AreSound, StepsRan, StepsReached}
 use Rattle.edit_steps.proofs.Gives.{none_yet, rest_given}
 use Rattle.edit_steps.proofs.LineEnds.{all_lines, response_lines}
 use Rattle.edit_session.specs.Meet.{Seat, meet_step_text, meet_texts}
 use Rattle.edit_session.specs.Met.{AreBegun, AreMet, IsBegun, IsMet}
 use Rattle.edit_session.specs.Parts.{StepLeavesParts}
+use Rattle.edit_session.specs.Reads.{meet_reads, step_reads}
 use Rattle.edit_session.specs.Runs.{Promised, Ran, Reached}
 use Rattle.edit_session.specs.SaidMet.{AreKeptMet, IsKeptMet}
 use Rattle.edit_session.specs.Session.{first_output, met, output, run}
@@ -83,20 +86,29 @@ module _ (limits : Limits) (given : List Given) (steps : List Step) (alone : is_
   written_alone : P (texts limits (states_before limits given steps first_state)) → P (output limits given steps)
   written_alone is = subst (λ (meets : Bool). P (if meets then meet_texts limits (met limits given steps) else texts limits (states_before limits given steps first_state))) (sym alone) is
 
-pub ran_alone : {T : Type 0} (limits : Limits) (o : Option Shelved) (old new : Option (List ℕ)) (result : Result T Stop) (steps : List Step) → IsOrderly false steps → is_meeting steps ≡ false → StepsRan limits o old new result steps → Ran limits o old new result steps
-ran_alone limits o old new (Ok x) steps orderly alone ran = record {
+-- And what they read is what its steps do.
+module _ (limits : Limits) (given : List Given) (steps : List Step) (alone : is_meeting steps ≡ false) (P : List Read → Type 0) where
+  read_alone : P (reads limits (states_before limits given steps first_state)) → P (step_reads limits given steps)
+  read_alone is = subst (λ (meets : Bool). P (if meets then meet_reads limits (met limits given steps) else reads limits (states_before limits given steps first_state))) (sym alone) is
+
+pub ran_alone : {T : Type 0} (limits : Limits) (o : Option Shelved) (old new : Option (List ℕ)) (seen seen_then : List Note) (result : Result T Stop) (steps : List Step) → IsOrderly false steps → is_meeting steps ≡ false → StepsRan limits o old new seen seen_then result steps → Ran limits o old new seen seen_then result steps
+ran_alone limits o old new seen seen_then (Ok x) steps orderly alone ran = record {
   given = ran.given;
   by_files = ran.by_files;
   ok = written_alone limits ran.given steps alone (Appends old new) ran.ok;
   err = tt;
+  noted = read_alone limits ran.given steps alone (Noted old seen seen_then) ran.noted;
+  noted_first = tt;
   promised = promised_alone limits ran.given steps orderly alone ran.sound;
   reached = tt;
 }
-ran_alone limits o old new (Err stop) steps orderly alone ran = record {
+ran_alone limits o old new seen seen_then (Err stop) steps orderly alone ran = record {
   given = ran.given;
   by_files = ran.by_files;
   ok = tt;
   err = written_alone limits ran.given steps alone (AppendsFront old new) ran.err;
+  noted = tt;
+  noted_first = read_alone limits ran.given steps alone (NotedFirst old seen seen_then) ran.noted_first;
   promised = tt;
   reached = reached_alone limits ran.given steps orderly alone old new stop ran.reached;
 }
@@ -122,13 +134,18 @@ reached_none limits old stop given steps front = record {
   finished = λ is. record { count = 0; text = subst (Appends old old) (sym (neither (is_meeting steps))) (Appends-nil old); lines = first_lines limits given steps 0 };
 }
 
+pub nothing_noted : (taken : Option (List ℕ)) (seen : List Note) (reads : List Read) → NotedFirst taken seen seen reads
+nothing_noted taken seen reads = record { count = 0; noted = noted_none taken seen }
+
 -- Nothing was read or written.
-pub ran_nothing : {T : Type 0} (limits : Limits) (o : Option Shelved) (old : Option (List ℕ)) (steps : List Step) (stop : Stop) (front : (all : List ℕ) → AppendsFront old old all) → Ran {T = T} limits o old old (Err stop) steps
-ran_nothing limits o old steps stop front = record {
+pub ran_nothing : {T : Type 0} (limits : Limits) (o : Option Shelved) (old : Option (List ℕ)) (seen : List Note) (steps : List Step) (stop : Stop) (front : (all : List ℕ) → AppendsFront old old all) → Ran {T = T} limits o old old seen seen (Err stop) steps
+ran_nothing limits o old seen steps stop front = record {
   given = rest_given o steps;
   by_files = none_yet o steps;
   ok = tt;
   err = front (output limits (rest_given o steps) steps);
+  noted = tt;
+  noted_first = nothing_noted old seen (step_reads limits (rest_given o steps) steps);
   promised = tt;
   reached = reached_none limits old stop (rest_given o steps) steps front;
 }

@@ -10,14 +10,16 @@ use Rattle.edit_steps.specs.declared.stop.Stop.TheVariants as stops
 use Rattle.edit_steps.specs.Needs.{count_verb}
 use Rattle.edit_session.specs.Moment.{Outside}
 use Rattle.edit_session.specs.Right.{IsRight}
+use Rattle.edit_session.specs.Reads.{reads_by}
 use Rattle.edit_session.specs.Runs.{LinePromised, LineReached, LineStopped}
 use Rattle.edit_session.specs.Session.{outcome_by, line_given, IsAsked, IsEarly, IsEnd, IsStop}
 use Rattle.edit_steps.specs.Stop.{StopCause}
 use Rattle.edit_session.specs.StopStatus.{status_of}
+use Rattle.edit_session.proofs.Alone.{nothing_noted}
 use Rattle.edit_session.proofs.Confirms.{confirmed_by}
 use Rattle.edit_session.proofs.Missing.{missed_by}
 use Rattle.edit_session.proofs.Script.{comes_stop, line_none}
-use Rattle.edit_session.proofs.Words.{ComesTo, agrees_by, cut_short, keeps_by, meetings_by, no_stop, saves_by, stopped_by, tables_by, that_stop, uploads_by}
+use Rattle.edit_session.proofs.Words.{ComesTo, agrees_by, cut_short, first_noted, keeps_by, meetings_by, no_stop, noted_by, saves_by, stopped_by, tables_by, that_stop, uploads_by}
 
 -- what words that ask for nothing come to
 abbrev IsBad : Result Status Stop → Type 0
@@ -76,7 +78,7 @@ not_done stops.WriteFault is = cc
 not_done stops.Memory is = cc
 
 module _ {S K : Type 0} (verbs : List Verb) (words : List (List ℕ)) (before after : Outside S K) where
-  pub right_ended : (answer : Status) → IsEnd answer → ComesTo before.files verbs words before.text after.text (Ok answer)
+  pub right_ended : (answer : Status) → IsEnd answer → ComesTo before.files verbs words before.text after.text before.noted after.noted (Ok answer)
       → StopCause {T = Status} before.read_faults after.read_faults before.write_faults after.write_faults (Ok answer)
       → after.files ≡ before.files → (IsEarly answer → after.sink ≡ before.sink) → IsAsked after.begun answer
       → ((verb : Verb) → answer ≡ status.NoTool verb → count_verb verbs verb < 4) → (answer ≡ status.BadWords → command_of words ≡ None)
@@ -89,6 +91,7 @@ module _ {S K : Type 0} (verbs : List Verb) (words : List (List ℕ)) (before af
         by_files = comes.by_files;
         outcome = agrees_by before.text after.text answer (outcome_by verbs words given) end comes.ok;
         stopped = no_stop answer (λ stop. LineStopped (command_of words) before.text after.text stop given) end;
+        noted = noted_by before.text before.noted after.noted answer (reads_by verbs words given) end comes.noted;
         complete = λ done no_read no_write. inl (comes.ok.0 ∙ done);
         read = λ is. absurd (subst IsEnd is end);
         write = λ is. absurd (subst IsEnd is end);
@@ -110,7 +113,7 @@ module _ {S K : Type 0} (verbs : List Verb) (words : List (List ℕ)) (before af
         keeps = λ done. keeps_by (command_of words) given (comes.done done);
       }
 
-  pub right_stopped : (stop : Stop) → ComesTo before.files verbs words before.text after.text (Err stop)
+  pub right_stopped : (stop : Stop) → ComesTo before.files verbs words before.text after.text before.noted after.noted (Err stop)
       → StopCause {T = Status} before.read_faults after.read_faults before.write_faults after.write_faults (Err stop)
       → after.files ≡ before.files → (command_of words ≡ None → IsBad (Err stop)) → (command_of words ≡ None → (after.shelf ≡ before.shelf) × (after.sink ≡ before.sink))
       → IsRight verbs words before after (status_of stop)
@@ -121,6 +124,7 @@ module _ {S K : Type 0} (verbs : List Verb) (words : List (List ℕ)) (before af
         by_files = comes.by_files;
         outcome = cut_short before.text after.text stop (outcome_by verbs words given) comes.err;
         stopped = that_stop stop (λ s. LineStopped (command_of words) before.text after.text s given) (stopped_by (command_of words) before.text after.text stop given comes.stopped);
+        noted = first_noted before.text before.noted after.noted stop (reads_by verbs words given) comes.noted_first;
         complete = λ done no_read no_write. inr (by_memory stop (Rose before.read_faults after.read_faults) (Rose before.write_faults after.write_faults)
             (λ is. cause.read (ap Err is)) (λ is. cause.write (ap Err is)) no_read no_write);
         read = λ is. cause.read (ap Err (read_told stop is));
@@ -151,6 +155,6 @@ with_verbs verbs others words before after answer same right = subst (λ vs. IsR
 pub memory_at_once : {S K : Type 0} (verbs : List Verb) (words : List (List ℕ)) (before : Outside S K) → IsRight verbs words before before status.Memory
 memory_at_once verbs words before =
     right_stopped verbs words before before stops.Memory
-    (comes_stop before.files (line_given (command_of words)) before.text stops.Memory (outcome_by verbs words) (λ given. LinePromised (command_of words) given) (LineReached (command_of words) before.text before.text) (line_none (command_of words) before.text stops.Memory))
+    (comes_stop before.files (line_given (command_of words)) before.text before.noted before.noted stops.Memory (outcome_by verbs words) (reads_by verbs words) (λ given. LinePromised (command_of words) given) (LineReached (command_of words) before.text before.text) (λ given. nothing_noted before.text before.noted (reads_by verbs words given)) (line_none (command_of words) before.text stops.Memory))
     (record { read_later = omega arith; write_later = omega arith; read = λ is. absurd cc; write = λ is. absurd cc; read_quiet = λ other. refl; write_quiet = λ other. refl })
     refl (λ none. inr refl) (λ none. (refl, refl))

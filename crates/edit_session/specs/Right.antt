@@ -15,6 +15,7 @@ use Rattle.edit_session.specs.Missed.{MissesBy}
 use Rattle.edit_session.specs.Moment.{Outside}
 use Rattle.edit_steps.specs.Given.{Given}
 use Rattle.edit_session.specs.Runs.{AreSoundBy, LineStopped}
+use Rattle.edit_session.specs.Reads.{reads_by, AreNoted}
 use Rattle.edit_session.specs.Saves.{AreSavesBy}
 use Rattle.edit_session.specs.Session.{outcome_by, line_given, Agrees, IfStop, IsAsked, IsEarly}
 use Rattle.edit_session.specs.Uploads.{AreUploadsBy}
@@ -31,6 +32,10 @@ pub record IsRight {S K : Type 0} (verbs : List Verb) (asked_for : List (List �
   -- That front is one of the text of the steps that were reached, for which the promises hold. After a read fault it is the whole
   -- text of some first steps.
   pub stopped : IfStop answer (λ stop. LineStopped (command_of asked_for) before.text after.text stop given)
+  -- What the shelf noted of its reads: the script first, before anything was written, and then each file that a step begins, when the
+  -- sink had taken the whole text of all steps before it, and no more. So each step's text is handed on before the next one reads.
+  -- After a fault or want of memory these are the first reads.
+  pub noted : AreNoted before.text before.noted after.noted answer (reads_by verbs asked_for given)
   -- It doesn't give up by itself, but for memory.
   pub complete : (outcome_by verbs asked_for given).0 ≡ status.Done
       → (Rose before.read_faults after.read_faults → ⊥) → (Rose before.write_faults after.write_faults → ⊥)

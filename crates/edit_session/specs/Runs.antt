@@ -1,7 +1,8 @@
 -- What every session does, whatever its reads give.
 use Rattle.std.specs.Prelude.{◌≡◌, ℕ, List, drop, take, Option, None, Some, IfSome, Result, OnOk, OnErr, IfErr}
 use Rattle.std.specs.Io.KnownBytes.{Appends}
-use Rattle.osm_outside.specs.Outside.{Shelved, AppendsFront}
+use Rattle.osm_outside.specs.Noted.{Noted, NotedFirst}
+use Rattle.osm_outside.specs.Outside.{Note, Shelved, AppendsFront}
 use Rattle.command_line.specs.Words.{CommandLineValue}
 use Rattle.edit_script.specs.declared.step.Step.{Step}
 use Rattle.edit_steps.specs.declared.limits.Limits.{Limits}
@@ -17,6 +18,7 @@ use Rattle.edit_session.specs.Invents.{AreAsked}
 use Rattle.edit_session.specs.Groups.{AreTakenBack}
 use Rattle.edit_session.specs.Met.{AreBegun, AreMet}
 use Rattle.edit_session.specs.Parts.{LeaveParts}
+use Rattle.edit_session.specs.Reads.{step_reads}
 use Rattle.edit_session.specs.Said.{AreKept, alone}
 use Rattle.edit_session.specs.SaidMet.{AreKeptMet}
 use Rattle.edit_session.specs.Saves.{AreSaves}
@@ -83,11 +85,13 @@ LineStopped None old new stop given = Unit {0}
 LineStopped (Some line) old new stop given = Stopped (limits_of line) old new stop (drop 1 given) (steps_in (reading (limits_of line).script (first_given given)))
 
 -- The run of a script where each step ran.
-pub record Ran {T : Type 0} (limits : Limits) (told : Option Shelved) (old new : Option (List ℕ)) (result : Result T Stop) (steps : List Step) : Type 0 where
+pub record Ran {T : Type 0} (limits : Limits) (told : Option Shelved) (old new : Option (List ℕ)) (seen seen_then : List Note) (result : Result T Stop) (steps : List Step) : Type 0 where
   pub given : List Given
   pub by_files : IfSome told (λ files. given ≡ all_given files steps)
   pub ok : OnOk result (Appends old new (output limits given steps))
   pub err : OnErr result (AppendsFront old new (output limits given steps))
+  pub noted : OnOk result (Noted old seen seen_then (step_reads limits given steps))
+  pub noted_first : OnErr result (NotedFirst old seen seen_then (step_reads limits given steps))
   pub promised : OnOk result (Promised limits given steps)
   pub reached : IfErr result (λ stop. Reached limits old new stop given steps)
 

@@ -40,7 +40,7 @@ pub fn run_editor<S: Shelf, K: Sink>(
     out: &mut K,
 ) -> Result<Status, AllocError>
     // Right in all that `IsRight` names, with four tools of each verb.
-    ensures right { IfOk result (IsRight four_of_each (map string_bytes words.now) (outside S.told S.begun S.faults K.taken K.faults shelf.old out.old) (outside S.told S.begun S.faults K.taken K.faults shelf.new out.new)) }
+    ensures right { IfOk result (IsRight four_of_each (map string_bytes words.now) (outside S.told S.begun S.noted S.faults K.taken K.faults shelf.old out.old) (outside S.told S.begun S.noted S.faults K.taken K.faults shelf.new out.new)) }
     // No step misses its tool.
     ensures tools { (verb : Verb) → IfOk result (λ status. status ≡ Status.NoTool verb → ⊥) }
     ensures err { OnErr result ((shelf.new ≡ shelf.old) × (out.new ≡ out.old)) }

@@ -135,7 +135,7 @@ fn run_with<S: Shelf, K: Sink>(
     shelf: &mut S,
     out: &mut K,
 ) -> Status
-    ensures right { IsRight four_of_each (map string_bytes words.now) (outside S.told S.begun S.faults K.taken K.faults shelf.old out.old) (outside S.told S.begun S.faults K.taken K.faults shelf.new out.new) result }
+    ensures right { IsRight four_of_each (map string_bytes words.now) (outside S.told S.begun S.noted S.faults K.taken K.faults shelf.old out.old) (outside S.told S.begun S.noted S.faults K.taken K.faults shelf.new out.new) result }
     ensures tools { (verb : Verb) → result ≡ Status.NoTool verb → ⊥ }
 {
     match run_editor(alloc, words, shelf, out) {
