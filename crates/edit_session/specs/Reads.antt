@@ -2,7 +2,7 @@
 --
 -- For example where the script s is `tag n1 Ta=1`, `download f`, `print` and `download g`, the reads are s with no text, f with that
 -- of the tag, and g with the texts of the tag, the download of f and the print.
-use Rattle.std.specs.Prelude.{ℕ, Bool, List, [], ◌∷◌, drop, is_some, if◌then◌else◌, Option, None, Some, Result, Ok, Err}
+use Rattle.std.specs.Prelude.{ℕ, List, [], ◌∷◌, drop, is_some, if◌then◌else◌, Option, None, Some, Result, Ok, Err}
 use Rattle.osm_outside.specs.Noted.{Noted, NotedFirst, Read, reads_in}
 use Rattle.osm_outside.specs.Outside.{Note}
 use Rattle.command_line.specs.Words.{CommandLineValue, command_of}
