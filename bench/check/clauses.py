@@ -1,8 +1,8 @@
 #!/usr/bin/env python3
-"""clauses.py [--explained FILE] BEFORE [AFTER]: which promises differ between two states of this repository.
+"""clauses.py [--explained FILE] [BEFORE [AFTER]]: which promises differ between two states of this repository.
 
-BEFORE and AFTER are folders of a checkout, or commits of this one; AFTER is by default the files as
-they stand. It compares
+BEFORE and AFTER are folders of a checkout, or commits of this one; BEFORE is by default the release
+that RELEASE names, and AFTER the files as they stand. It compares
 
 - each clause of each function that a crate lends to those above: an `ensures` that is gone or reads
   otherwise, a `requires` that is new or reads otherwise, and a function that isn't lent any more;
@@ -14,9 +14,10 @@ Each difference has a line
 
     KIND CRATE NAME: WHAT
 
-A line of FILE explains one, as `CRATE NAME: why no promise is weaker`; NAME may end with `*`. The status
-is 0 where each difference is explained and each explanation is of one. It compares the text, without
-layout and comments, and judges no meaning: that is for who reads its lines.
+A line of FILE explains one, as `CRATE NAME: why no promise is weaker`; NAME may end with `*`. Since the
+release that is bench/check/clauses.txt. The status is 0 where each difference is explained and each
+explanation is of one. It compares the text, without layout and comments, and judges no meaning: that is
+for who reads its lines. Where the checkout has no history, the release can't be read, and it says so.
 """
 import argparse
 import fnmatch
@@ -28,6 +29,9 @@ from dataclasses import dataclass
 from typing import Dict, Iterator, List, Mapping, Optional, Protocol, Tuple
 
 TOP = pathlib.Path(__file__).resolve().parents[2]
+
+# why no promise is weaker than in the release
+EXPLAINED = TOP / 'bench/check/clauses.txt'
 
 FUNCTION = re.compile(r'^( *)(pub(?:\([a-z]+\))? )?(?:const )?fn (\w+)')
 CLAUSE = re.compile(r'^\s*(ensures|requires)\b ?(\w*) ?\{')
@@ -267,30 +271,57 @@ def source_of(word: str) -> Source:
     return Commit(TOP, word)
 
 
+def released(text: str) -> str:
+    """The commit of the release, from the text of RELEASE."""
+    found = re.search(r'^commit: ([0-9a-f]{40})$', text, re.M)
+    if not found:
+        raise ValueError('RELEASE names no commit')
+    return found[1]
+
+
+def is_there(commit: str) -> bool:
+    """Whether this checkout has the commit."""
+    asked = ['git', '-C', str(TOP), 'cat-file', '-e', f'{commit}^{{commit}}']
+    return subprocess.run(asked, stderr=subprocess.DEVNULL, check=False).returncode == 0
+
+
+def compare(before: Promises, after: Promises, listed: Mapping[str, str],
+            everything: bool = False) -> Tuple[List[str], List[str]]:
+    """The lines of the differences, and what isn't as it has to be: a difference that no line explains, and
+    an explanation of none."""
+    used, told, wrong = set(), [], []
+    for it in differences(before, after, everything):
+        why = explained_by(it, listed)
+        used.add(why)
+        line = f'{it.kind} {it.crate} {it.name}: {it.text}'
+        told.append(line + (f' ({listed[why]})' if why else ''))
+        if why is None and (it.text != 'new' or it.kind == 'requires'):
+            wrong.append(f'nothing explains: {line}')
+    wrong += [f'there is no such difference: {name}' for name in listed if name not in used]
+    return told, wrong
+
+
 def main() -> int:
     """Prints the differences; 1 where one isn't explained, or an explanation is of none."""
     words = argparse.ArgumentParser(
         description=__doc__, formatter_class=argparse.RawDescriptionHelpFormatter)
-    words.add_argument('before')
+    words.add_argument('before', nargs='?')
     words.add_argument('after', nargs='?', default=str(TOP))
     words.add_argument('--explained', metavar='FILE', type=pathlib.Path)
     words.add_argument('--all', action='store_true', help='what is only added too')
     given = words.parse_args()
-    listed = explanations(given.explained.read_text(encoding='utf-8')) if given.explained else {}
-    before, after = said_in(source_of(given.before)), said_in(source_of(given.after))
-    used = set()
-    told = unexplained = 0
-    for it in differences(before, after, given.all):
-        why = explained_by(it, listed)
-        used.add(why)
-        told += 1
-        unexplained += why is None and (it.text != 'new' or it.kind == 'requires')
-        print(f'{it.kind} {it.crate} {it.name}: {it.text}' + (f' ({listed[why]})' if why else ''))
-    unused = [name for name in listed if name not in used]
-    for name in unused:
-        print(f'clauses: there is no such difference: {name}', file=sys.stderr)
-    print(f'{told} differences, {unexplained} not explained')
-    return 1 if unexplained or unused else 0
+    before = given.before or released((TOP / 'RELEASE').read_text(encoding='utf-8'))
+    file = given.explained or (None if given.before else EXPLAINED)
+    if not given.before and not is_there(before):
+        print(f'clauses: not compared: this checkout has no history, so not the release at {before}')
+        return 0
+    listed = explanations(file.read_text(encoding='utf-8')) if file else {}
+    told, wrong = compare(said_in(source_of(before)), said_in(source_of(given.after)), listed, given.all)
+    print('\n'.join(told))
+    for line in wrong:
+        print(f'clauses: {line}', file=sys.stderr)
+    print(f'{len(told)} differences, {len(wrong)} not explained or not there')
+    return 1 if wrong else 0
 
 
 if __name__ == '__main__':

@@ -125,6 +125,28 @@ class Differences(unittest.TestCase):
         with self.assertRaises(ValueError):
             clauses.explanations('low IsRight small\n')
 
+    def test_compared(self) -> None:
+        """Each difference has its line, and each line its difference."""
+        old = {('low', 'field', 'IsRight small'): 'n ≤ 4', ('low', 'call', 'law'): ''}
+        new = {('low', 'field', 'IsRight small'): 'n ≤ 3', ('low', 'call', 'law'): ''}
+        told, wrong = clauses.compare(old, new, {'low IsRight small': 'a smaller number'})
+        self.assertEqual(['field low IsRight small: reads otherwise (a smaller number)'], told)
+        self.assertEqual([], wrong)
+        _, wrong = clauses.compare(old, new, {})
+        self.assertEqual(['nothing explains: field low IsRight small: reads otherwise'], wrong)
+        _, wrong = clauses.compare(old, old, {'low IsRight small': 'a smaller number'})
+        self.assertEqual(['there is no such difference: low IsRight small'], wrong)
+
+    def test_released(self) -> None:
+        """The release is the commit that RELEASE names."""
+        self.assertEqual('a' * 40, clauses.released('version: 1\ncommit: ' + 'a' * 40 + '\n'))
+        with self.assertRaises(ValueError):
+            clauses.released('version: 1\n')
+
+    def test_as_it_stands(self) -> None:
+        """Each line of the file is an explanation."""
+        self.assertTrue(clauses.explanations(clauses.EXPLAINED.read_text(encoding='utf-8')))
+
 
 if __name__ == '__main__':
     unittest.main()

@@ -73,6 +73,7 @@ def listed() -> list[Step]:
         own('bench/check/believe', '--page'),
         own('bench/check/axioms', '--page', needs=('command rt',)),
         own('bench/check/promises', '--page'),
+        own('bench/check/clauses.py'),
         own('bench/check/numbers'),
         own('bench/check/launcher', when=FULL),
         Step('packages of the last commit, made twice', (PYTHON, '-m', 'tools.release', '--check'),
