@@ -19,7 +19,7 @@ STATIC = '-C target-feature=+crt-static'
 
 @dataclass(frozen=True)
 class Programs:
-    """Two builds of one program: paths, the Rust that compiled them, and the hash of the sources."""
+    """Two builds of a program: paths, the Rust that compiled them, the hash of the sources."""
 
     shared: pathlib.Path
     static: pathlib.Path

@@ -4,9 +4,9 @@
     python3 -m tools.release.try_package clone [--base FOLDER] [--check]
 
 `package` installs the package by apt, runs what README.md has under "First run" and "A day with
-yoke" as a user without rights, removes the package, and fails where a file is left. `clone` installs
-cargo-web and rustc-web, clones this checkout, and times README's first command on two processors,
-once more, and after a change in a crate at the top; --check runs ./check --quick too.
+yoke" as a user without rights, removes the package, and fails where a file is left. `clone`
+installs cargo-web and rustc-web, clones this checkout, and times README's first command on two
+processors, once more, and after a change in a crate at the top; --check runs ./check --quick too.
 
 Needs root, debootstrap and Debian's archive. The new system goes into a temporary folder; --base
 keeps it before anything is installed, so that the next trial begins at once. No process that it

@@ -51,7 +51,8 @@ class Completion(unittest.TestCase):
     def completed(self, program: str, *words: str) -> list[str]:
         """What bash offers where the last of some words is begun."""
         line = ' '.join(f"'{it}'" for it in (program, *words))
-        text = f'COMP_WORDS=({line}); COMP_CWORD={len(words)}; _{program}; printf "%s\\n" "${{COMPREPLY[@]}}"'
+        text = f'COMP_WORDS=({line}); COMP_CWORD={len(words)}; _{program}; '
+        text += 'printf "%s\\n" "${COMPREPLY[@]}"'
         done = subprocess.run(
             ['bash', '-euc', completion.of()[program] + text],
             cwd=TOP / 'examples',
