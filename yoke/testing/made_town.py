@@ -1,8 +1,8 @@
 """A made town of blocks for trials: streets, buildings with addresses, shops, trees, bus routes, turn restrictions, and slips.
 
-    python3 -m yoke.testing.made_town BLOCKS FILE.opl [--seed N] [--slips]
+    python3 -m yoke.testing.made_town BLOCKS FILE.opl [--seed N] [--slips] [--towns NxM]
 
-Streets cross at shared nodes. With `--slips` there are repeated nodes, doubled nodes, rings that aren't closed, and old tags.
+Streets cross at shared nodes. `--towns` makes a country of copies of the town, side by side. With `--slips` there are repeated nodes, doubled nodes, rings that aren't closed, and old tags.
 """
 from __future__ import annotations
 
@@ -137,16 +137,42 @@ def _routes(town: Town) -> None:
                                {'type': 'restriction', 'restriction': 'no_left_turn'}))
 
 
-def lines(town: Town) -> Iterator[str]:
-    """The town as lines of OPL."""
-    def head(kind: str, number: int, tags: Tags) -> str:
-        return f'{kind}{number} v{1 + number % 4} dV c1 t2024-05-06T07:10:00Z i23 umapper T{opl.tags(tags)}'
-    for number, (lon, lat, tags) in enumerate(town.nodes, 1):
-        yield f'{head("n", number, tags)} x{opl.degrees(lon)} y{opl.degrees(lat)}'
-    for number, (refs, tags) in enumerate(town.ways, 1):
-        yield f'{head("w", number, tags)} N{",".join(f"n{ref}" for ref in refs)}'
-    for number, (members, tags) in enumerate(town.relations, 1):
-        yield f'{head("r", number, tags)} M{",".join(f"{kind}{ref}@{role}" for kind, ref, role in members)}'
+def lines(town: Town, wide: int = 1, high: int = 1) -> Iterator[str]:
+    """The town as lines of OPL; with `wide` or `high` a country of so many columns and rows of it, of which no more than one
+    town is held in memory. The ids of each town go on from those of the one before, in rows from the south.
+    """
+    copies = [(x, y) for y in range(high) for x in range(wide)]
+    side = round((max(lon for lon, _, _ in town.nodes) - WEST) / WIDE) + 1      # blocks, with one between two towns
+    nodes = [(_head(number, tags), _units(lon), _units(lat)) for number, (lon, lat, tags) in enumerate(town.nodes, 1)]
+    for copy, (x, y) in enumerate(copies):
+        east, north, ids = _units(x * side * WIDE), _units(y * side * HIGH), copy * len(nodes)
+        for number, (head, lon, lat) in enumerate(nodes, ids + 1):
+            yield f'n{number}{head} x{_degrees(lon + east)} y{_degrees(lat + north)}'
+    ways = [(_head(number, tags), refs) for number, (refs, tags) in enumerate(town.ways, 1)]
+    for copy in range(len(copies)):
+        for number, (head, refs) in enumerate(ways, copy * len(ways) + 1):
+            yield f'w{number}{head} N{",".join([f"n{copy * len(nodes) + ref}" for ref in refs])}'
+    more = {'n': len(nodes), 'w': len(ways)}
+    for copy in range(len(copies)):
+        for number, (members, tags) in enumerate(town.relations, 1):
+            listed = ','.join(f'{kind}{copy * more[kind] + ref}@{role}' for kind, ref, role in members)
+            yield f'r{copy * len(town.relations) + number}{_head(number, tags)} M{listed}'
+
+
+def _head(number: int, tags: Tags) -> str:
+    """What stands between the id and the place, the nodes or the members."""
+    return f' v{1 + number % 4} dV c1 t2024-05-06T07:10:00Z i23 umapper T{opl.tags(tags)}'
+
+
+def _units(degrees: float) -> int:
+    """Degrees in units of a ten-millionth."""
+    return round(degrees * 10_000_000)
+
+
+def _degrees(units: int) -> str:
+    """Such units, none below zero, as degrees."""
+    whole, part = divmod(units, 10_000_000)
+    return f'{whole}.{part:07}'.rstrip('0').rstrip('.')
 
 
 def main() -> None:
@@ -155,11 +181,13 @@ def main() -> None:
     words.add_argument('file')
     words.add_argument('--seed', type=int, default=1)
     words.add_argument('--slips', action='store_true')
+    words.add_argument('--towns', metavar='NxM', default='1x1', help='columns and rows of copies of the town (%(default)s)')
     said = words.parse_args()
+    wide, high = map(int, said.towns.split('x'))
     town = make(said.blocks, said.seed, said.slips)
     with open(said.file, 'x', encoding='utf-8') as file:
-        file.writelines(line + '\n' for line in lines(town))
-    print(len(town), 'objects')
+        file.writelines(line + '\n' for line in lines(town, wide, high))
+    print(len(town) * wide * high, 'objects')
 
 
 if __name__ == '__main__':

@@ -4,8 +4,12 @@ What cuts files needs osmium, and what hands tiles to workers needs Dask; where 
 """
 from __future__ import annotations
 
+import gzip
+import json
 import os
 import pathlib
+import re
+import resource
 import shutil
 import signal
 import subprocess
@@ -38,6 +42,7 @@ from yoke.tiles.edit import Change, Edited
 from yoke.tiles.grid import Grid
 from yoke.tiles.worker import Done, Job
 from yoke.trouble import Busy, Refused, Trouble, Usage
+from yoke.verbs import NAMES
 
 needs_osmium = unittest.skipUnless(shutil.which('osmium'), 'osmium isn\'t installed (Debian: apt-get install osmium-tool)')
 needs_dask = unittest.skipUnless(distributed, 'Dask isn\'t installed (Debian: apt-get install python3-distributed)')
@@ -158,7 +163,7 @@ class Trials(FolderTest):
     def test_random_scripts_come_out_as_in_one_session(self) -> None:
         changes = 0
         for seed in range(1, 7):
-            with mock.patch('yoke.tiles.worker.Program', lambda path: program()):
+            with mock.patch('yoke.tiles.worker.Program', lambda path, most=0: program()):
                 count, differences = tiles_trial.trial(program(), seed, 16, self.folder)
             changes += count
             self.assertEqual([], differences, seed)
@@ -186,7 +191,7 @@ class TileTest(FolderTest):
 class Runs(TileTest):
     def setUp(self) -> None:
         super().setUp()
-        patch = mock.patch('yoke.tiles.worker.Program', lambda path: program())
+        patch = mock.patch('yoke.tiles.worker.Program', lambda path, most=0: program())
         patch.start()
         self.addCleanup(patch.stop)
 
@@ -213,12 +218,64 @@ class Runs(TileTest):
         self.assertEqual(['tile-00001'], [done.name for done in again.done if not done.is_kept])
         self.assertEqual(first.changes, again.changes)
 
-    def test_a_full_disk(self) -> None:
-        with mock.patch('yoke.tiles.worker.gzip.open', side_effect=OSError(28, 'No space left on device')):
-            with self.assertRaises(OSError):
-                engine.run(program(), self.asked(), tiles_trial.in_turn)
-        self.assertEqual([], list((self.folder / 'tiles').glob('*.json.gz')))
-        self.assertEqual([], [path for path in (self.folder / 'tiles').iterdir() if path.is_dir() and not path.name.startswith('cut-')])
+    def attempt(self, folder: pathlib.Path) -> str:
+        """What stopped a run in a folder; empty where it came to its end. What stands under a name that counts is whole."""
+        asked = self.asked(folder=folder / 'tiles')
+        stopped = ''
+        try:
+            engine.write(engine.run(program(), asked, tiles_trial.in_turn), asked, str(folder / 'done'))
+        except (OSError, Trouble) as error:
+            stopped = str(error)
+        for path in (folder / 'tiles').glob('*.json.gz'):
+            worker.of_data(json.loads(gzip.decompress(path.read_bytes()))['edited'])
+        for path in (folder / 'tiles').glob('cut-*/tile-*.osm.pbf'):
+            if not path.parent.name.endswith('.begun'):
+                subprocess.run(['osmium', 'fileinfo', '-e', str(path)], check=True, stdout=subprocess.DEVNULL)
+        if (folder / 'done.osc').exists():
+            osc.changes((folder / 'done.osc').read_text(encoding='utf-8'))
+        return stopped
+
+    def results(self, folder: pathlib.Path) -> list[str]:
+        return [(folder / name).read_text(encoding='utf-8') for name in ('done.osc', 'done.opl')]
+
+    @unittest.skipUnless(hasattr(os, 'geteuid') and os.geteuid() == 0, 'a disk of some kilobytes can be made by root alone')
+    def test_a_full_disk_at_any_place(self) -> None:
+        self.assertEqual('', self.attempt(self.folder))
+        small = self.folder / 'small'
+        small.mkdir()
+        if subprocess.run(['mount', '-t', 'tmpfs', '-o', 'size=2m', 'none', str(small)], stderr=subprocess.DEVNULL).returncode:
+            self.skipTest('mount isn\'t allowed here')
+        self.addCleanup(subprocess.run, ['umount', '-l', str(small)], check=True)
+        seen = []
+        for room in (0, 12, 40, 90, None):
+            filler = small / 'filler'
+            filler.unlink(missing_ok=True)
+            if room is not None:
+                free = os.statvfs(small)
+                filler.write_bytes(bytes(max(0, free.f_bavail * free.f_frsize - room * 1024)))
+            seen.append(self.attempt(small))
+        self.assertEqual('', seen[-1])
+        self.assertGreater(len({re.sub('[0-9]+', '', why) for why in seen if why}), 1, seen)
+        self.assertTrue(all('No space left' in why for why in seen if why), seen)
+        self.assertEqual(self.results(self.folder), self.results(small))
+
+    def test_files_that_can_be_written_in_part_alone(self) -> None:
+        self.assertEqual('', self.attempt(self.folder))
+        small = self.folder / 'small'
+        small.mkdir()
+        soft, hard = resource.getrlimit(resource.RLIMIT_FSIZE)
+        self.addCleanup(resource.setrlimit, resource.RLIMIT_FSIZE, (soft, hard))
+        stopped = 0
+        for most in (0, 2_000, 20_000, soft):
+            resource.setrlimit(resource.RLIMIT_FSIZE, (most, hard))
+            try:
+                why = self.attempt(small)
+            finally:
+                resource.setrlimit(resource.RLIMIT_FSIZE, (soft, hard))
+            stopped += why != ''
+        self.assertEqual('', why)
+        self.assertGreater(stopped, 1)
+        self.assertEqual(self.results(self.folder), self.results(small))
 
     def test_only_tiles_in_which_something_differs(self) -> None:
         lines = (self.folder / 'town.opl').read_text(encoding='utf-8').split('\n')
@@ -229,6 +286,31 @@ class Runs(TileTest):
         found = engine.run(program(), self.asked(file='newer.osm.pbf', since='town.osm.pbf', lines=SCRIPT[:1]), tiles_trial.in_turn)
         self.assertEqual((1, 5), (found.tiles, found.skipped))
         self.assertIn(lines[at].split(' ')[0], {thing.key for _, thing in found.changes})
+
+    def test_a_query_that_looks_at_an_object_of_another_tile(self) -> None:
+        town = made_town.make(30, slips=True)
+        asked = self.asked(file='newer.osm.pbf', since='town.osm.pbf', lines=['tag ( way and parent Tnight=1 ) Tseen=yes'],
+                           box=tiles_trial.BOX)
+        tiles = Grid.over(tiles_trial.BOX, asked.wide, asked.high)
+
+        def tile(ref: int) -> int:
+            lon, lat, _ = town.nodes[ref - 1]
+            return tiles.tile(Decimal(str(lon)), Decimal(str(lat)))
+        way, node = next((way, ref) for way, (refs, _) in enumerate(town.ways, 1) for ref in refs if tile(ref) != tile(refs[0]))
+        text = (self.folder / 'town.opl').read_text(encoding='utf-8')
+        self.write('newer.opl', re.sub(f'(?m)^n{node} v. (.*) T', rf'n{node} v9 \1 Tnight=1', text))
+        subprocess.run(['osmium', 'cat', 'newer.opl', '-o', 'newer.osm.pbf'], check=True, stderr=subprocess.DEVNULL)
+        found = engine.run(program(), asked, tiles_trial.in_turn)
+        self.assertIn(f'w{way}', {thing.key for _, thing in found.changes})
+        self.assertGreater(found.skipped, 0)
+
+    def test_nights_come_out_as_all_tiles(self) -> None:
+        changes = 0
+        for seed in (1, 3):
+            count, differences = tiles_trial.night(program(), seed, 12, self.folder / str(seed))
+            changes += count
+            self.assertEqual([], differences, seed)
+        self.assertGreater(changes, 5)
 
     def test_two_runs_in_one_folder(self) -> None:
         (self.folder / 'tiles').mkdir()
@@ -251,10 +333,23 @@ class Runs(TileTest):
         self.assertEqual(Refused.code, self.yoke(*self.words()))
         self.assertIn('done.osc is there already', self.err)
 
-    def test_without_dask_one_line_says_what_to_install(self) -> None:
-        with mock.patch.dict(sys.modules, {'distributed': None}):
-            self.assertEqual(Trouble.code, self.yoke(*self.words()))
-        self.assertIn('apt-get install python3-distributed', self.err)
+    def test_without_dask_one_line_says_what_to_install_and_all_else_works(self) -> None:
+        self.write('dask.py', 'raise ImportError("hidden")\n')
+        self.write('distributed.py', 'raise ImportError("hidden")\n')
+        environment = {**os.environ, 'PYTHONPATH': f'{self.folder}:{TOP}'}
+
+        def run(*words: str) -> 'subprocess.CompletedProcess[str]':
+            return subprocess.run([sys.executable, *words], env=environment, capture_output=True, text=True, check=False)
+        tiles = run('-m', 'yoke', *self.words())
+        self.assertEqual((Trouble.code, 1), (tiles.returncode, tiles.stderr.count('\n')), tiles.stderr)
+        self.assertIn('apt-get install python3-distributed', tiles.stderr)
+        self.assertFalse((self.folder / 'tiles').exists())
+        every = ('import importlib, pkgutil, yoke\n'
+                 'for one in pkgutil.walk_packages(yoke.__path__, "yoke."):\n'
+                 '    if ".test" not in one.name and not one.name.endswith("__main__"): importlib.import_module(one.name)\n')
+        self.assertEqual('', run('-c', every).stderr)
+        for verb in NAMES:
+            self.assertEqual(0, run('-m', 'yoke', verb, '--help').returncode, verb)
 
 
 @needs_osmium
@@ -300,6 +395,17 @@ class Workers(TileTest):
         thread.start()
         found = engine.run(self.slow(), self.asked())
         self.assertTrue(killed)
+        self.assertEqual(self.expected(), found.changes)
+
+    def test_a_tile_fails_and_all_others_are_kept(self) -> None:
+        broken = self.folder / 'broken'
+        broken.write_text(f'#!/bin/sh\nfor script; do :; done\ngrep -q tile-00002- "$script" && exit 9\nexec {self.editor().path} "$@"\n')
+        broken.chmod(0o755)
+        with self.assertRaises(Trouble) as trouble:
+            engine.run(Program(str(broken)), self.asked())
+        self.assertRegex(str(trouble.exception), '(?s)tile-00002: .*memory.*the same command goes on')
+        found = engine.run(self.editor(), self.asked())
+        self.assertEqual(['tile-00002'], [done.name for done in found.done if not done.is_kept])
         self.assertEqual(self.expected(), found.changes)
 
     def cluster(self) -> tuple[subprocess.Popen[bytes], subprocess.Popen[bytes], Where]:

@@ -15,7 +15,7 @@ from yoke.tiles.worker import Done, Job
 from yoke.trouble import Refused, Trouble, Usage
 
 INSTALL = 'Dask isn\'t there, and tiles need it (Debian: apt-get install python3-distributed; else: pip install distributed)'
-KILLS = 3       # workers that may die over one tile, before it counts as too large for them
+KEPT = 'The tiles that are done are kept: the same command goes on with the others'
 
 
 @dataclass(frozen=True)
@@ -80,7 +80,8 @@ def client_of(where: Where, folder: pathlib.Path) -> Iterator[Any]:
 def do(jobs: Sequence[Job], where: Where, folder: pathlib.Path) -> Iterator[Done]:
     """Does tiles, and answers with each as it is done. A tile whose worker dies is done again, by another one.
 
-    Trouble where a tile can't be done, or the scheduler dies: the tiles that are done stay, and the same command goes on.
+    Where a tile can't be done all others are done first; then Trouble names it. Trouble too where the scheduler dies. The tiles
+    that are done stay, and the same command goes on.
     """
     dask = library()
     waiting = [job for job in jobs if worker.kept_result(job) is None]
@@ -90,29 +91,40 @@ def do(jobs: Sequence[Job], where: Where, folder: pathlib.Path) -> Iterator[Done
             yield kept
     if not waiting:
         return
+    failed: dict[str, str] = {}
     with client_of(where, folder) as client:
         names = {client.submit(worker.run, job, key=f'{job.name}-{job.digest()[:12]}', retries=1, pure=False): job.name for job in waiting}
         try:
             for future in dask.as_completed(list(names)):
-                yield _result(dask, future, names[future])
+                try:
+                    yield _result(dask, future)
+                except _Failed as why:
+                    failed[names[future]] = str(why)
+                    note(f'{names[future]} failed: {why}')
         except (OSError, TimeoutError) as error:      # Dask's own CommClosedError is an OSError
-            raise Trouble(f'the scheduler is gone: {error or type(error).__name__}. The tiles that are done are kept: '
-                          f'the same command goes on with the others') from None
+            raise Trouble(f'the scheduler is gone: {error or type(error).__name__}. {KEPT}') from None
+    if failed:
+        name = min(failed)
+        more = f' ({len(failed) - 1} more tiles failed)' if len(failed) > 1 else ''
+        raise Trouble(f'{name}: {failed[name]}{more}. {KEPT}')
 
 
-def _result(dask: Any, future: Any, name: str) -> Done:
+class _Failed(Exception):
+    """A tile can't be done; the text says why, and what to do."""
+
+
+def _result(dask: Any, future: Any) -> Done:
     if future.status == 'cancelled':
-        raise Trouble('the scheduler is gone. The tiles that are done are kept: the same command goes on with the others')
+        raise Trouble(f'the scheduler is gone. {KEPT}')
     try:
         done: Done = future.result()
         return done
     except dask.KilledWorker:
-        raise Trouble(f'{name}: each worker that took it died, mostly for want of memory: cut smaller tiles (--grid), or take fewer '
-                      f'--workers. The tiles that are done are kept') from None
-    except (Trouble, Refused):
-        raise
+        raise _Failed('each worker that took it died, mostly for want of memory: cut smaller tiles (--grid), or take fewer --workers') from None
+    except (Trouble, Refused) as why:
+        raise _Failed(str(why)) from None
     except OSError as error:
-        raise Trouble(f'{name}: {error}. The tiles that are done are kept: make room, and run the same command again') from None
+        raise _Failed(f'{error}: make room') from None
 
 
 def told(done: Done, count: int, whole: int) -> None:

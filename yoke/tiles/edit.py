@@ -5,11 +5,12 @@ import os
 from collections.abc import Callable, Mapping, Sequence
 from dataclasses import dataclass, field
 
-from yoke import groups, opl, table
+from yoke import groups, opl, saved, words
 from yoke.program import Answer, Program
 from yoke.scripts import grammar
 from yoke.table import Table
 from yoke.tiles import script
+from yoke.tiles.extracts import Extract
 from yoke.tiles.script import Unit
 from yoke.trouble import Refused, Trouble
 from yoke.verbs import expand
@@ -47,34 +48,41 @@ class Edited:
     objects: int = 0
 
 
-def run(program: Program, extract: str, units: Sequence[Unit], owns: Callable[[Table], Owns], is_whole: bool) -> Edited:
-    """Edits an extract. `owns` makes, of what is there, the test which keys the session owns: lines over a query are done to those.
+def run(program: Program, extract: str, units: Sequence[Unit], owns: Callable[[Extract], Owns], is_whole: bool) -> Edited:
+    """Edits an extract, a file of OPL. `owns` makes, of what is there, the test which keys the session owns: lines over a query
+    are done to those.
 
     An extract that isn't `is_whole` lacks some members of its relations, and some users of the nodes outside of its tile. What
     an edit would have to know of these is left to the seam.
     """
     first = f'download {opl.escape(os.path.abspath(extract))}'
-    begun = program.run([first, 'save'])
-    for reply in begun.refused():
-        raise Trouble(f'{extract} is refused by the program: {reply.rest}')
-    there = table.read(begun.saved())
-    found = Edited(objects=len(there.things))
+    there = Extract.read(extract)
+    found = Edited(objects=len(there.lines))
     mine = owns(there)
     lines = _restricted(_written(program, first, units), units, mine)
     if not is_whole:
         lines = _without_what_needs_more(lines, units, there, mine, found)
     if not lines:
         return found
-    answer = program.run([first, *(line for line, _ in lines), 'save', f'upload {CHUNK}'])
+    answer = _answer(program, [first, *(line for line, _ in lines), f'upload {CHUNK}'])
     upload = answer.last('upload')
     if upload is None or upload.word != 'ok':
         raise Refused(f'{extract}: what the script makes can\'t be sent: {upload.rest if upload else "no upload"}')
     found.refused = [(reply.step, reply.rest) for reply in answer.refused()]
     made = {key: lines[reply.line - 2][1] for reply in answer.replies[1:len(lines) + 1] for key in reply.made()}
-    after = table.read(answer.saved())
-    found.changes = _changes(answer, after, made)
+    changes = _sent(answer)
+    after = _edited(changes, there)
+    found.changes = _in_groups(changes, after, made)
     found.sources = _sources(lines, there, after, {one.thing.key: one.group for one in found.changes})
     return found
+
+
+def _answer(program: Program, steps: Sequence[str]) -> Answer:
+    """The Answer to steps of which the first is a download; Trouble where that is refused."""
+    answer: Answer = program.run(steps)
+    if answer.replies[0].word != 'ok':
+        raise Trouble(f'{words.cut(steps[0])} is refused by the program: {words.refusal(answer.replies[0].rest)}')
+    return answer
 
 
 def _written(program: Program, first: str, units: Sequence[Unit]) -> list[tuple[str, int]]:
@@ -83,7 +91,7 @@ def _written(program: Program, first: str, units: Sequence[Unit]) -> list[tuple[
     places = [at for at, unit in enumerate(units) for _ in unit.lines]
 
     def look(steps: list[str]) -> Answer:
-        answer: Answer = program.run([first, *steps])
+        answer = _answer(program, [first, *steps])
         answer.replies.pop(0)
         for reply in answer.replies:
             reply.line -= 1
@@ -108,17 +116,17 @@ def _restricted(lines: list[tuple[str, int]], units: Sequence[Unit], mine: Owns)
 
 # ---- what is left to the seam ----
 
-def _without_what_needs_more(lines: list[tuple[str, int]], units: Sequence[Unit], there: Table, mine: Owns, found: Edited) -> list[tuple[str, int]]:
+def _without_what_needs_more(lines: list[tuple[str, int]], units: Sequence[Unit], there: Extract, mine: Owns, found: Edited) -> list[tuple[str, int]]:
     """The lines without those that would have to know more than the extract has; `found.left` gets their keys."""
-    split_relations = _relations_of_ways_with_missing_members(there)
+    cut_off = _ways_of_relations_with_missing_members(there)
     kept = []
     for line, at in lines:
-        verb, *words = grammar.words_of(line)
-        keys = words[0].split(',') if words else []
+        verb, *more = grammar.words_of(line)
+        keys = more[0].split(',') if more else []
         if verb == 'erase':
             bad = [key for key in keys if not _is_inside(there, key, mine)]
         elif verb in LOOKS_AT_OTHER_MEMBERS:
-            bad = [key for key in keys if key in split_relations]
+            bad = [key for key in keys if key in cut_off]
         else:
             bad = []
         if not bad:
@@ -126,16 +134,16 @@ def _without_what_needs_more(lines: list[tuple[str, int]], units: Sequence[Unit]
         elif units[at].is_query:
             found.left.update(bad)
             rest = [key for key in keys if key not in bad]
-            kept += [(' '.join([verb, ','.join(rest), *words[1:]]), at)] if rest else []
+            kept += [(' '.join([verb, ','.join(rest), *more[1:]]), at)] if rest else []
         else:
             found.left.update(units[at].keys)
     whole = {at for at, unit in enumerate(units) if found.left.isdisjoint(unit.keys)}
     return [(line, at) for line, at in kept if at in whole]
 
 
-def _is_inside(there: Table, key: str, mine: Owns) -> bool:
+def _is_inside(there: Extract, key: str, mine: Owns) -> bool:
     """Whether all that an `erase` of an object may take lies in the tile, so that all users of it are known."""
-    thing = there.mine(key)
+    thing = there.get(key)
     if thing is None or key[0] == 'n':
         return True
     if key[0] == 'r':
@@ -143,40 +151,52 @@ def _is_inside(there: Table, key: str, mine: Owns) -> bool:
     return all(mine(node) for node in thing.nodes)
 
 
-def _relations_of_ways_with_missing_members(there: Table) -> set[str]:
+def _ways_of_relations_with_missing_members(there: Extract) -> set[str]:
     """The ways in relations of which the extract lacks a member."""
     found: set[str] = set()
-    for key, known in there.things.items():
-        if key[0] == 'r' and known.mine and any(member in there.incomplete for member, _ in known.mine.members):
-            found.update(member for member, _ in known.mine.members if member[0] == 'w')
+    for thing in there.relations():
+        if any(member not in there.lines for member, _ in thing.members):
+            found.update(member for member, _ in thing.members if member[0] == 'w')
     return found
 
 
 # ---- what came ----
 
-def _sources(lines: list[tuple[str, int]], there: Table, after: Table, group_of: Mapping[str, int]) -> dict[int, set[str]]:
+def _sources(lines: list[tuple[str, int]], there: Extract, after: Table, group_of: Mapping[str, int]) -> dict[int, set[str]]:
     """The ways by which lines changed nodes that they don't name, by the groups of these nodes."""
     found: dict[int, set[str]] = {}
     for line, _ in lines:
-        verb, *words = grammar.words_of(line)
-        for way in words[0].split(',') if verb in script.REACHES_NODES else ():
-            for side in (there.mine(way), after.mine(way)):
+        verb, *more = grammar.words_of(line)
+        for way in more[0].split(',') if verb in script.REACHES_NODES else ():
+            for side in (there.get(way), after.mine(way)):
                 for node in side.nodes if side else ():
                     if node in group_of:
                         found.setdefault(group_of[node], set()).add(way)
     return found
 
 
-def _changes(answer: Answer, after: Table, made: Mapping[str, int]) -> list[Change]:
-    """The changes of the last `upload`, each with its group; `made` has the units of new objects."""
-    size = answer.upload_size()
+def _sent(answer: Answer) -> list[tuple[str, str]]:
+    """The changes of the last `upload`: pairs of a verb and a line of OPL."""
     lines = [line for line in answer.text('upload')[1:] if not line.startswith('chunk ')]
-    if len(lines) != size:
+    if len(lines) != answer.upload_size():
         raise Trouble('the session wrote no whole `upload`')
+    return [(verb, text) for verb, _, text in (line.partition(' ') for line in lines)]
+
+
+def _edited(changes: Sequence[tuple[str, str]], there: Extract) -> Table:
+    """The edited objects as a saved session has them: what they were, and what they are now."""
+    found = {}
+    for verb, text in changes:
+        key = text.partition(' ')[0]
+        lines = [f'known {key} live other none']
+        lines += [f'base {there.lines[key]}'] if key in there.lines else []
+        lines += [f'mine {text}'] if verb != 'delete' else []
+        found[key] = saved.known_of(lines)
+    return Table({key: found[key] for key in sorted(found, key=opl.rank)}, set(), 0)
+
+
+def _in_groups(changes: Sequence[tuple[str, str]], after: Table, made: Mapping[str, int]) -> list[Change]:
+    """The changes, each with its group; `made` has the units of new objects."""
     number = {key: at for at, group in enumerate(groups.divide(after)) for key in group}
-    found = []
-    for line in lines:
-        verb, rest = line.split(' ', 1)
-        thing = opl.parse(rest)
-        found.append(Change(verb, thing, number[thing.key], made.get(thing.key)))
-    return found
+    things = ((verb, opl.parse(text)) for verb, text in changes)
+    return [Change(verb, thing, number[thing.key], made.get(thing.key)) for verb, thing in things]

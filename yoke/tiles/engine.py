@@ -13,14 +13,14 @@ from collections.abc import Callable, Iterator, Sequence
 from dataclasses import dataclass, field, replace
 from decimal import Decimal
 
-from yoke import day, opl, osc
+from yoke import day, files, opl, osc
 from yoke.program import Program
 from yoke.progress import note
-from yoke.table import Table
+from yoke.scripts import grammar
 from yoke.tiles import cluster, edit, extracts, merge, script, worker
 from yoke.tiles.cluster import Where
 from yoke.tiles.edit import Edited
-from yoke.tiles.grid import Grid
+from yoke.tiles.grid import Box, Grid
 from yoke.tiles.merge import Changes
 from yoke.tiles.script import Unit
 from yoke.tiles.worker import Done, Job
@@ -97,7 +97,7 @@ class _Engine:
     doing: Doing
 
     def run(self) -> Outcome:
-        self._add_nodes()
+        self._add_touched()
         grid = Grid.over(self.asked.box or extracts.box_of(self.asked.file), self.asked.wide, self.asked.high)
         owner = extracts.owners(self.asked.file, {key for unit in self.units for key in unit.keys}, grid, self.place)
         shares = script.share(self.units, owner, lambda lon, lat: grid.tile(Decimal(lon), Decimal(lat)))
@@ -117,8 +117,11 @@ class _Engine:
         found.changes, found.alike = changes.in_order(), changes.alike
         return found
 
-    def _add_nodes(self) -> None:
-        """Adds to a unit that moves or erases ways the nodes of these, since it changes them too."""
+    def _add_touched(self) -> None:
+        """Adds to a unit what it touches and doesn't name: nodes of ways that it moves or erases, what an import refers to."""
+        for at, unit in enumerate(self.units):
+            for word in script.imported(unit):
+                unit = self.units[at] = replace(unit, keys=unit.keys | references_of(word))
         ways = {at: script.ways_reached(unit) for at, unit in enumerate(self.units)}
         things = extracts.get(self.asked.file, set().union(*ways.values()), self.place)
         for at, keys in ways.items():
@@ -134,9 +137,11 @@ class _Engine:
         if not self.asked.since:
             return list(range(len(grid)))
         keys = extracts.changed(self.asked.since, self.asked.file)
+        looks = script.depth(self.units) > 0
         tiles = set()
         for file in (self.asked.since, self.asked.file):
-            tiles |= set(extracts.owners(file, keys, grid, self.place).values())
+            near = extracts.beside(file, keys, self.place) if looks else set()
+            tiles |= set(extracts.owners(file, keys | near, grid, self.place).values())
         note(f'{len(keys)} objects differ from {self.asked.since}, in {len(tiles)} of {len(grid)} tiles')
         return sorted(tiles | set(shares.tiles))
 
@@ -149,17 +154,15 @@ class _Engine:
             note(f'cutting {len(wanted)} tiles out of {self.asked.file}')
             extracts.cut(self.asked.file, grid, wanted, cut)
         queries = [at for at, unit in enumerate(self.units) if unit.is_query]
-        jobs = [Job(f'tile-{number:05}', str(cut / extracts.name_of(number)), grid.box(number),
-                    *self._part(shares.tiles.get(number, queries)), self.program.path, str(self.asked.folder), stamp)
-                for number in wanted]
-        if queries:
-            jobs.append(Job(RELATIONS, self._relations(cut), None, *self._part(queries), self.program.path,
-                            str(self.asked.folder), stamp))
-        return jobs
+        ids = cut / 'ids'
+        jobs = [self._job(f'tile-{number:05}', str(cut / extracts.name_of(number)), grid.box(number), shares.tiles.get(number, queries),
+                          stamp, str(ids) if ids.is_dir() else '') for number in wanted]
+        return jobs + ([self._job(RELATIONS, self._relations(cut), None, queries, stamp, '')] if queries else [])
 
-    def _part(self, places: Sequence[int]) -> tuple[tuple[Unit, ...], tuple[int, ...]]:
-        """The units at these places, and the places."""
-        return tuple(self.units[at] for at in places), tuple(places)
+    def _job(self, name: str, extract: str, box: Box | None, places: Sequence[int], stamp: str, ids: str) -> Job:
+        """What a worker needs, which may run in another folder."""
+        return Job(name, extract, box, tuple(self.units[at] for at in places), tuple(places), os.path.abspath(self.program.path),
+                   str(self.asked.folder), stamp, ids, self.program.max_objects)
 
     def _relations(self, cut: pathlib.Path) -> str:
         """An extract of all relations; with all that they refer to where a query looks at that."""
@@ -167,7 +170,7 @@ class _Engine:
         if not to.exists():
             begun = cut / 'relations-begun.osm.pbf'
             extracts.osmium('cat', '--no-progress', '-O', '-t', 'relation', '-o', begun, self.asked.file)
-            if script.has_depth(unit for unit in self.units if unit.is_query):
+            if script.depth(self.units):
                 extracts.osmium('getid', '-r', '-O', '-I', begun, '-o', cut / 'relations-whole.osm.pbf', self.asked.file, allowed=(0, 1))
                 begun = cut / 'relations-whole.osm.pbf'
             os.replace(begun, to)
@@ -194,6 +197,9 @@ class _Engine:
             if found.rounds == ROUNDS:
                 raise Refused(f'the seam doesn\'t come to an end after {ROUNDS} rounds: cut other tiles by --grid')
             found.rounds += 1
+            for _ in range(script.depth(self.units)):
+                near = extracts.beside(self.asked.file, aside, self.place) - aside
+                aside |= merge.set_aside(changes, self.units, seam_units, near)
             note(f'the seam: {len(aside)} objects, round {found.rounds}')
             edited = self._edit_seam(aside, seam_units)
             changes.add(SEAM, edited, self._seam_places(seam_units))
@@ -210,7 +216,7 @@ class _Engine:
         path.write_text(''.join(opl.line(thing) + '\n' for thing in things), encoding='utf-8')
         units = [self.units[at] for at in self._seam_places(seam_units)]
 
-        def owns(there: Table) -> edit.Owns:
+        def owns(there: extracts.Extract) -> edit.Owns:
             return lambda key: key in aside or key[1] == '-'
         return edit.run(self.program, str(path), units, owns, is_whole=True)
 
@@ -219,17 +225,30 @@ class _Engine:
 
 def write(outcome: Outcome, asked: Asked, name: str) -> None:
     """Writes NAME.osc, the changes, and NAME.opl, what they rest on: the objects that change, and what they refer to."""
+    there = {thing.key for _, thing in outcome.changes if thing.key[1] != '-'}
+    refs = {ref for _, thing in outcome.changes for ref in thing.references if ref[1] != '-'}
     with tempfile.TemporaryDirectory(prefix='work-', dir=asked.folder) as place:
-        there = {thing.key for _, thing in outcome.changes if thing.key[1] != '-'}
-        refs = {ref for _, thing in outcome.changes for ref in thing.references if ref[1] != '-'}
-        found = extracts.get(asked.file, there | refs, pathlib.Path(place))
-        more = {ref for key in there if key in found for ref in found[key].references} - set(found)
-        found.update(extracts.get(asked.file, more, pathlib.Path(place)))
-    missing = there - set(found)
-    if missing:
-        raise Trouble(f'{asked.file} has no {min(missing, key=opl.rank)} any more: was it changed meanwhile?')
-    day.write_whole(name + '.opl', ''.join(opl.line(found[key]) + '\n' for key in sorted(found, key=opl.rank)))
+        folder, found = pathlib.Path(place), pathlib.Path(place, 'found.opl')
+        extracts.write(asked.file, there, found, folder)
+        missing = set(there)
+        for line in extracts.lines(found):
+            missing.discard(line.partition(' ')[0])
+            refs.update(opl.parse(line).references if line[0] != 'n' else ())
+        if missing:
+            raise Trouble(f'{asked.file} has no {min(missing, key=opl.rank)} any more: was it changed meanwhile?')
+        extracts.write(asked.file, there | refs, found, folder)
+        day.write_whole(name + '.opl', found.read_text(encoding='utf-8'))
     day.write_whole(name + '.osc', osc.document(outcome.changes, 0))
+
+
+def references_of(word: str) -> set[str]:
+    """The keys of a server to which the new objects of an `import` line's file refer; none where the program will refuse the file."""
+    try:
+        text = files.data_of(grammar.check_text(word, 'the file')).decode('utf-8')
+        new = [opl.parse(line) for line in text.split('\n') if line[1:2] == '-']
+    except (Trouble, ValueError):
+        return set()
+    return {ref for thing in new if not thing.deleted for ref in thing.references if ref[1] != '-'}
 
 
 def count_new(word: str) -> int:

@@ -7,7 +7,7 @@ belong to no tile: a session of their own edits them.
 from __future__ import annotations
 
 import re
-from collections.abc import Iterable, Mapping
+from collections.abc import Callable, Iterable, Mapping
 from dataclasses import dataclass
 from decimal import Decimal
 
@@ -73,7 +73,7 @@ class Grid:
 
     def owner(self, thing: opl.Object, there: Mapping[str, opl.Object]) -> int | None:
         """The tile that owns an object; None of a relation, and where no place is known. `there` has the nodes of ways."""
-        place = place_of(thing, there)
+        place = place_of(thing, there.get)
         return None if place is None else self.tile(*place)
 
 
@@ -82,9 +82,9 @@ def _sides(first: Decimal, last: Decimal, count: int, end: Decimal) -> tuple[Dec
     return (end,) + tuple((first + step * at).quantize(SEVENTH) for at in range(1, count))
 
 
-def place_of(thing: opl.Object, there: Mapping[str, opl.Object]) -> tuple[Decimal, Decimal] | None:
+def place_of(thing: opl.Object, node_of: Callable[[str], opl.Object | None]) -> tuple[Decimal, Decimal] | None:
     """The place of a node, or of the first node of a way; None where there is none."""
-    node = thing if thing.key[0] == 'n' else there.get(thing.nodes[0]) if thing.nodes else None
+    node = thing if thing.key[0] == 'n' else node_of(thing.nodes[0]) if thing.nodes else None
     if node is None or node.lon is None or node.lat is None:
         return None
     return node.lon, node.lat

@@ -140,9 +140,14 @@ def ways_reached(unit: Unit) -> set[str]:
     return found
 
 
-def has_depth(units: Iterable[Unit]) -> bool:
-    """Whether a query looks from an object at those that it refers to, or that refer to it."""
-    return any(word in ('child', 'parent') for unit in units if unit.is_query for word in grammar.words_of(unit.lines[0]))
+def imported(unit: Unit) -> list[str]:
+    """The files of the `import` lines of a unit, as they stand."""
+    return [words[1] for words in map(grammar.words_of, unit.lines) if words[0] == 'import']
+
+
+def depth(units: Iterable[Unit]) -> int:
+    """The number of queries that look from an object at those that it refers to, or that refer to it."""
+    return sum(not {'child', 'parent'}.isdisjoint(grammar.words_of(unit.lines[0])) for unit in units if unit.is_query)
 
 
 # ---- who does what ----
@@ -166,7 +171,7 @@ def share(units: Sequence[Unit], owner: Mapping[str, int], tile_at: Callable[[st
             tiles |= {owner.get(key) for key in unit.keys}
             if unit.place is not None:
                 tiles.add(tile_at(*unit.place))
-            elif not unit.keys:         # as an import
+            elif not unit.keys or imported(unit):
                 tiles.add(None)
         tile = tiles.pop() if len(tiles) == 1 else None
         if tile is None:

@@ -8,14 +8,15 @@ import os
 import pathlib
 import tempfile
 import time
+from collections.abc import Callable
 from dataclasses import asdict, dataclass, replace
 from typing import Any
 
 from yoke import VERSION, opl
 from yoke.program import Program
-from yoke.table import Table
 from yoke.tiles import edit, extracts
 from yoke.tiles.edit import Change, Edited, Owns
+from yoke.tiles.extracts import Extract
 from yoke.tiles.grid import Box, place_of
 from yoke.tiles.script import Unit
 
@@ -32,6 +33,8 @@ class Job:
     program: str
     folder: str
     stamp: str          # of the file that the extract is cut from
+    ids: str = ''       # the folder that has the ids of the file, where the extract has others
+    max_objects: int = 0
 
     @property
     def result(self) -> pathlib.Path:
@@ -65,8 +68,8 @@ def run(job: Job) -> Done:
     began = time.monotonic()
     with tempfile.TemporaryDirectory(prefix=f'{job.name}-', dir=job.folder) as place:
         folder = pathlib.Path(place)
-        source = extracts.as_opl(job.extract, folder / 'extract.opl')
-        found = edit.run(Program(job.program), source, job.units, owner(job.box), is_whole=False)
+        source = extracts.as_opl(job.extract, folder / 'extract.opl', job.ids)
+        found = edit.run(Program(job.program, job.max_objects), source, job.units, owner(job.box), is_whole=False)
         done = Done(job.name, len(found.changes), found.objects, len(found.refused), len(found.left), time.monotonic() - began)
         new = folder / 'result'
         with gzip.open(new, 'wt', encoding='utf-8', compresslevel=1) as file:
@@ -75,21 +78,19 @@ def run(job: Job) -> Done:
     return done
 
 
-def owner(box: Box | None) -> Any:
+def owner(box: Box | None) -> Callable[[Extract], Owns]:
     """Which keys a session owns, of what is there: what lies in the box, or with None the relations."""
-    def of_table(there: Table) -> Owns:
-        nodes = {key: known.there for key, known in there.things.items() if key[0] == 'n' and known.there} if box else {}
-
+    def of_extract(there: Extract) -> Owns:
         def owns(key: str) -> bool:
             if key[1] == '-':       # what the session itself made
                 return True
             if box is None or key[0] == 'r':
                 return box is None and key[0] == 'r'
-            thing = there.base(key)
-            place = place_of(thing, nodes) if thing else None
+            thing = there.get(key)
+            place = place_of(thing, there.get) if thing else None
             return place is not None and box.has(*place)
         return owns
-    return of_table
+    return of_extract
 
 
 def kept_result(job: Job) -> Done | None:
