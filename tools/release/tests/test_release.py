@@ -287,12 +287,13 @@ class Trials(FolderTest):
             assert process.stdout is not None
             process.stdout.readline()
             found = try_package.descendants(process.pid)
-            memory = try_package.memory_of(process.pid)
+            largest, own = try_package.memory_of(process.pid)
             for it in reversed(found):
                 os.kill(it, 9)
         self.assertEqual(2, len(found))
-        self.assertGreater(memory, 50_000_000)
-        self.assertLess(memory, 150_000_000)
+        self.assertGreater(own, 50_000_000)
+        self.assertGreater(largest, own)
+        self.assertLess(largest, 150_000_000)
 
 
 if __name__ == '__main__':
