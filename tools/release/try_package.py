@@ -309,7 +309,7 @@ def load() -> str:
 def told_of(
     debian: Debian, name: str, folder: str, most: float, text: str, times: int = 1
 ) -> list[str]:
-    """Times some commands, the best of a few times, and prints that; what was too much."""
+    """What of some commands was too much: they are timed, and the best of a few times is printed."""
     told = min((timed(debian, folder, text) for _ in range(times)), key=lambda it: it.seconds)
     print(f'{name}: {told.text()}{load()}', flush=True)
     bad = [f'{name}: {told.seconds:.2f} s, and {most} s are the most'] * (told.seconds > most)
