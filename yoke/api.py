@@ -27,6 +27,7 @@ from xml.etree import ElementTree
 
 from yoke import VERSION, opl, osc, transport, words
 from yoke.login import store
+from yoke.progress import silent
 from yoke.trouble import Later, NoAnswer, Redacted, ServerRefused, Trouble, Usage
 
 AGENT = 'yokeorange-yoke/' + VERSION        # of each call
@@ -105,16 +106,32 @@ def server_of(arguments: argparse.Namespace, note: Callable[[str], None], writes
     """The Server that the words name; Usage where they name none, or where it is to be written to and there is no token."""
     if not arguments.api:
         raise Usage('--api ADDRESS names the server; the page docs/COMPANION.md names the one to try things with')
-    token = token_of(arguments) or token_of_login(arguments)
+    return connect(arguments.api, getattr(arguments, 'token_file', None), getattr(arguments, 'profile', None) or '', note,
+                   getattr(arguments, 'wait', PATIENCE), writes)
+
+
+def connect(address: str, token_file: Optional[str] = None, profile: str = '', note: Callable[[str], object] = silent,
+            patience: float = PATIENCE, writes: bool = True) -> 'Server':
+    """The Server of an address such as `https://HOST/api/0.6`, with a token of your account: that of the token file, else of
+    $YOKE_TOKEN, else the one that `yoke login` keeps for the server and the profile.
+
+    Usage where the address is none, or where it is to be written to and there is no token. `note` is called with a line
+    where a call waits, and `patience` is how many seconds all calls together may wait where the server asks to.
+    """
+    token = given_token(token_file) or kept_token(address, profile)
     if writes and not token:
         raise Usage('a token of your account is wanted, in $YOKE_TOKEN or in a --token-file, or by yoke login')
-    return Server(arguments.api, token, note, patience=getattr(arguments, 'wait', PATIENCE))
+    return Server(address, token, note, patience=patience)
 
 
 def token_of(arguments: argparse.Namespace) -> str:
     """The token that the words and the environment give: of --token-file, else of $YOKE_TOKEN, else an empty text. Usage or Trouble
     where it is none; no message has it."""
-    name = getattr(arguments, 'token_file', None)
+    return given_token(getattr(arguments, 'token_file', None))
+
+
+def given_token(name: Optional[str]) -> str:
+    """The token in a file, else of $YOKE_TOKEN, else an empty text. Usage or Trouble where it is none."""
     token = token_in(name) if name else token_of_environment()
     if token and not TOKEN.fullmatch(token):
         where = name if name else '$YOKE_TOKEN'
@@ -124,7 +141,12 @@ def token_of(arguments: argparse.Namespace) -> str:
 
 def token_of_login(arguments: argparse.Namespace) -> str:
     """The token that yoke login keeps for the server that the words name; an empty text if there is none."""
-    login = store.read(checked(arguments.api), getattr(arguments, 'profile', None) or '')
+    return kept_token(arguments.api, getattr(arguments, 'profile', None) or '')
+
+
+def kept_token(address: str, profile: str = '') -> str:
+    """The token that yoke login keeps for a server and a profile; an empty text if there is none."""
+    login = store.read(checked(address), profile)
     return login.token if login else ''
 
 

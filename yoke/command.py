@@ -21,7 +21,7 @@ from yoke.day import Day
 from yoke.login import profiles
 from yoke.program import Program
 from yoke.progress import note
-from yoke.trouble import Trouble
+from yoke.trouble import Refused, Trouble
 
 MAP = """the way of an edit, each verb on the folder of --day:
   get an extract         get
@@ -144,6 +144,8 @@ def attempt(arguments):
     except Trouble as trouble:
         if isinstance(trouble, saved.NotWhole):
             trouble = broken_session(arguments) or trouble
+        for line in trouble.details if isinstance(trouble, Refused) else ():
+            print(line)
         complain(trouble)
         return trouble.code, trouble
     except BrokenPipeError as error:

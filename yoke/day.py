@@ -27,7 +27,7 @@ import os
 import pathlib
 import re
 from dataclasses import dataclass
-from typing import IO, Any, Iterator, Optional, Tuple
+from typing import IO, Any, Iterator, List, Optional, Tuple, Union
 
 from yoke.trouble import Busy, Refused, Trouble
 
@@ -49,7 +49,7 @@ class State:
     verb: str
     path: pathlib.Path
 
-    def text(self):
+    def text(self) -> str:
         """The saved session."""
         return self.path.read_text(encoding='utf-8')
 
@@ -65,24 +65,24 @@ class Held:
 class Day:
     """The folder of a day. Looking needs no lock; whatever writes stands in `with day.locked():`."""
 
-    def __init__(self, folder):
+    def __init__(self, folder: Union[str, pathlib.Path]) -> None:
         self.folder = pathlib.Path(folder)
 
     # ---- sessions ----
 
-    def states(self, ending='saved'):
+    def states(self, ending: str = 'saved') -> List[State]:
         """The kept sessions by number, or with the ending `undone` those that were taken back."""
         found = (NAME.fullmatch(path.name) for path in self.folder.glob('*.' + ending))
         return sorted((State(int(name[1]), name[2], self.folder / name[0]) for name in found if name), key=lambda state: state.number)
 
-    def last(self):
+    def last(self) -> State:
         """The session as it is now; Trouble where there is none."""
         states = self.states()
         if not states:
             raise Trouble('there is no session in {}: yoke start EXTRACT begins one'.format(self.folder))
         return states[-1]
 
-    def keep(self, verb, text):
+    def keep(self, verb: str, text: str) -> State:
         """Keeps a session as the last one; answers with its State."""
         with self.draft(verb) as draft:
             draft.begin().write(text.encode('utf-8'))
@@ -98,11 +98,11 @@ class Day:
         finally:
             one.drop()
 
-    def next_name(self, verb):
+    def next_name(self, verb: str) -> str:
         """The name, without its ending, of the session that is kept next, by a verb."""
         return '{:06}-{}'.format(max((state.number for state in self.states() + self.states('undone')), default=0) + 1, verb)
 
-    def take_back(self):
+    def take_back(self) -> State:
         """Takes the last session back; answers with it. Refused where nothing lies before, or no longer, or where it was sent."""
         self.check_back()
         last = self.states()[-1]
@@ -124,7 +124,7 @@ class Day:
         if self.pending():
             raise Refused('it isn\'t known yet what the server took of {}: yoke send looks'.format(self.pending()))
 
-    def _forget(self):
+    def _forget(self) -> None:
         """Removes sessions to which nothing goes back: all but the first, the last ones, and those since a chunk was sent."""
         states = self.states()
         held = self.held()
@@ -138,15 +138,15 @@ class Day:
 
     # ---- what is sent ----
 
-    def path(self, name):
+    def path(self, name: str) -> pathlib.Path:
         """The path of a file of this folder."""
         return self.folder / name
 
-    def beside(self, state, ending):
+    def beside(self, state: State, ending: str) -> str:
         """The name of a file that belongs to a session: `osc`, `answer` or `answers`."""
         return '{:06}.{}'.format(state.number, ending)
 
-    def pending(self):
+    def pending(self) -> Optional[str]:
         """The name of the document of which it isn't known whether the server took it; None where there is none."""
         states = self.states()
         name = self.beside(states[-1], 'osc') if states else None
@@ -168,29 +168,29 @@ class Day:
 
     # ---- files ----
 
-    def read(self, name):
+    def read(self, name: str) -> Optional[str]:
         """The text of a file of this folder; None where there is none."""
         try:
             return self.path(name).read_text(encoding='utf-8')
         except FileNotFoundError:
             return None
 
-    def write(self, name, text):
+    def write(self, name: str, text: str) -> None:
         """Writes a file of this folder, whole or not at all; when this returns it is on the disk."""
         write_by(self.path(name + '.new'), self.path(name), text)
 
-    def remove(self, name):
+    def remove(self, name: str) -> None:
         """Removes a file of this folder, if it is there; when this returns it is gone from the disk."""
         with contextlib.suppress(FileNotFoundError):
             self.path(name).unlink()
         self._sync()
 
-    def rename(self, name, other):
+    def rename(self, name: str, other: str) -> None:
         """Gives a file of this folder another name; when this returns it is so on the disk."""
         os.rename(self.path(name), self.path(other))
         self._sync()
 
-    def _sync(self):
+    def _sync(self) -> None:
         sync_folder(self.folder)
 
     def _lock_file(self) -> IO[str]:
@@ -204,7 +204,7 @@ class Day:
             raise Trouble(f'{path} can\'t be opened: {error}') from None
 
     @contextlib.contextmanager
-    def locked(self, make=False):
+    def locked(self, make: bool = False) -> Iterator['Day']:
         """Holds the folder for this process alone; Busy where another one does. `make` makes the folder where it isn't there."""
         if make:
             make_folder(self.folder)
@@ -263,7 +263,7 @@ def settle(file: IO[Any], new: pathlib.Path, path: pathlib.Path) -> None:
     sync_folder(path.parent)
 
 
-def write_whole(path, text):
+def write_whole(path: Union[str, pathlib.Path], text: str) -> None:
     """Writes a file whole or not at all: what stood there before stands there until the new text is on the disk. No other file is
     touched, one called `.new` neither."""
     path = pathlib.Path(path)
@@ -277,19 +277,19 @@ def write_whole(path, text):
             new.unlink()
 
 
-def write_by(new, path, text):
+def write_by(new: pathlib.Path, path: pathlib.Path, text: str) -> None:
     """Writes a file whole or not at all, by another name in the same folder, which may stand there if it doesn't succeed."""
     with open(new, 'w', encoding='utf-8', newline='\n') as file:
         file.write(text)
         settle(file, new, path)
 
 
-def is_own(name):
+def is_own(name: str) -> bool:
     """Whether a file of a day may have this name, half written or whole."""
     return bool(OWN.fullmatch(name[:-len('.new')] if name.endswith('.new') else name))
 
 
-def make_folder(folder):
+def make_folder(folder: pathlib.Path) -> None:
     """Makes a folder, with those above it, where they aren't there; then their names are on the disk."""
     missing = [one for one in (folder, *folder.parents) if not one.exists()]
     folder.mkdir(parents=True, exist_ok=True)
@@ -297,7 +297,7 @@ def make_folder(folder):
         sync_folder(one.parent)
 
 
-def sync_folder(folder):
+def sync_folder(folder: pathlib.Path) -> None:
     """Brings the names in a folder to the disk."""
     handle = os.open(folder, os.O_RDONLY | os.O_DIRECTORY)
     try:

@@ -6,7 +6,7 @@ beyond what is needed to take a line apart: `editor` refuses what is wrong.
 import re
 from dataclasses import dataclass, field
 from decimal import Decimal, InvalidOperation
-from typing import Dict, Optional, Tuple
+from typing import Callable, Dict, Iterable, List, Mapping, Optional, Tuple, Union
 
 KINDS = {'n': 'node', 'w': 'way', 'r': 'relation'}      # by the letter of a key
 LETTERS = {name: letter for letter, name in KINDS.items()}
@@ -37,17 +37,17 @@ class Object:
     members: Tuple[Tuple[str, str], ...] = ()
 
     @property
-    def kind(self):
+    def kind(self) -> str:
         """`node`, `way` or `relation`."""
         return KINDS[self.key[0]]
 
     @property
-    def content(self):
+    def content(self) -> Tuple[object, ...]:
         """What an edit can change: tags, place, nodes and members. Two objects are alike where these are equal."""
         return self.tags, self.lon, self.lat, self.nodes, self.members
 
     @property
-    def references(self):
+    def references(self) -> Tuple[str, ...]:
         """The keys of all to which it refers, in order, as often as they stand."""
         return self.nodes + tuple(key for key, _ in self.members)
 
@@ -57,48 +57,48 @@ def is_digits(text: str) -> bool:
     return text.isascii() and text.isdigit()
 
 
-def rank(key):
+def rank(key: str) -> Tuple[int, bool, int]:
     """Sorts keys as `print` does: nodes, ways, relations; within a kind positive ids rising, and then -1, -2 and on."""
     number = int(key[1:])
     return 'nwr'.index(key[0]), number < 0, abs(number)
 
 
-def escape(text):
+def escape(text: str) -> str:
     """A text of any length as it stands in OPL and in a script, such as a file's name; ValueError if it has U+0000."""
     if '\0' in text:
         raise ValueError('a text with U+0000')
     return ESCAPED.sub(lambda found: '%{:02x}%'.format(ord(found[0])), text)
 
 
-def unescape(text):
+def unescape(text: str) -> str:
     """The text that an OPL text stands for."""
     return re.sub('%([0-9a-fA-F]{1,6})%', lambda found: chr(int(found[1], 16)), text)
 
 
-def quote(text):
+def quote(text: str) -> str:
     """A key, a value or a role as it stands in OPL; ValueError if it is longer than the map takes."""
     if len(text) > LONGEST:
         raise ValueError('{} characters, and the map takes {}: {}...'.format(len(text), LONGEST, text[:40]))
     return escape(text)
 
 
-def degrees(number):
+def degrees(number: Union[Decimal, float]) -> str:
     """Degrees as OPL has them: at most seven digits after the point. Takes a Decimal, a float or an int."""
     text = '{:.7f}'.format(number).rstrip('0').rstrip('.')
     return '0' if text in ('-0', '') else text
 
 
-def tags(pairs, text=quote):
+def tags(pairs: Mapping[str, str], text: Callable[[str], str] = quote) -> str:
     """Tags as they stand after a `T`, in the order of the mapping."""
     return ','.join('{}={}'.format(text(key), text(value)) for key, value in pairs.items())
 
 
-def members(pairs, text=quote):
+def members(pairs: Iterable[Tuple[str, str]], text: Callable[[str], str] = quote) -> str:
     """Members, pairs of key and role, as they stand after an `M`."""
     return ','.join('{}@{}'.format(key, text(role)) for key, role in pairs)
 
 
-def content_words(thing):
+def content_words(thing: Object) -> List[str]:
     """The fields of an object's content, as `T..`, `x..`, `y..`, `N..`, `M..`, for its kind; texts of any length."""
     words = ['T' + tags(thing.tags, escape)]
     if thing.key[0] == 'n':
@@ -110,14 +110,14 @@ def content_words(thing):
     return words
 
 
-def line(thing):
+def line(thing: Object) -> str:
     """An object as a line of OPL, without a line feed; a deleted one has no content."""
     metadata = ['v{}'.format(thing.version), 'dD' if thing.deleted else 'dV', 'c{}'.format(thing.changeset),
                 't' + thing.time, 'i{}'.format(thing.uid), 'u' + escape(thing.user)]
     return ' '.join([thing.key] + metadata + ([] if thing.deleted else content_words(thing)))
 
 
-def parse(text):
+def parse(text: str) -> Object:
     """The object of an OPL line, whatever the order of its fields; ValueError where it isn't one."""
     first, *rest = re.split('[ \t]+', text.strip(' \t\r\n'))
     if not KEY.fullmatch(first):
@@ -134,15 +134,15 @@ def parse(text):
         raise ValueError('no object: ' + text[:60]) from None
 
 
-def _pairs(text, sign):
+def _pairs(text: str, sign: str) -> Dict[str, str]:
     pairs = (pair.split(sign, 1) for pair in text.split(',') if pair)
     return {unescape(key): unescape(value) for key, value in pairs}
 
 
-def _member(text):
+def _member(text: str) -> Tuple[str, str]:
     key, role = text.split('@', 1)
     return key, unescape(role)
 
 
-def _number(text):
+def _number(text: Optional[str]) -> Optional[Decimal]:
     return Decimal(text) if text else None

@@ -5,7 +5,7 @@ A change is a pair of a verb (`create`, `modify` or `delete`) and an `opl.Object
 import re
 from decimal import Decimal, InvalidOperation
 from itertools import groupby
-from typing import Any, Container, Dict, Iterable, List, Optional, Tuple
+from typing import Any, Container, Dict, Iterable, List, Mapping, Optional, Tuple
 from xml.etree import ElementTree
 from xml.sax.saxutils import quoteattr
 
@@ -25,7 +25,7 @@ class NoXml(ValueError):
 
 # ---- written ----
 
-def document(changes, changeset):
+def document(changes: Iterable[Tuple[str, opl.Object]], changeset: str) -> str:
     """The osmChange document of changes that go into a changeset, in their order. ValueError where the API doesn't take a text."""
     lines = ['<osmChange version="0.6" generator="yokeorange">']
     for verb, group in groupby(changes, key=lambda change: change[0]):
@@ -36,13 +36,13 @@ def document(changes, changeset):
     return '\n'.join(lines + ['</osmChange>']) + '\n'
 
 
-def element_lines(thing, changeset, verb):
+def element_lines(thing: opl.Object, changeset: str, verb: str) -> List[str]:
     """The lines of an object in an osmChange document."""
     carried(thing)
     words = ['id="{}"'.format(thing.key[1:]), 'version="{}"'.format(thing.version), 'changeset="{}"'.format(changeset)]
     if verb == 'delete':
         return ['    <{} {}/>'.format(thing.kind, ' '.join(words))]
-    if thing.lon is not None:
+    if thing.lon is not None and thing.lat is not None:
         words += ['lat="{}"'.format(opl.degrees(thing.lat)), 'lon="{}"'.format(opl.degrees(thing.lon))]
     inner = ['      <nd ref="{}"/>'.format(node[1:]) for node in thing.nodes]
     inner += ['      <member type="{}" ref="{}" role={}/>'.format(opl.KINDS[key[0]], key[1:], attribute(role)) for key, role in thing.members]
@@ -50,19 +50,19 @@ def element_lines(thing, changeset, verb):
     return ['    <{} {}>'.format(thing.kind, ' '.join(words))] + inner + ['    </{}>'.format(thing.kind)]
 
 
-def carried(thing):
+def carried(thing: opl.Object) -> None:
     """ValueError where a text of an object has a character that the API doesn't take, such as U+0001."""
     found = NOT_CARRIED.search(' '.join([*thing.tags, *thing.tags.values(), *(role for _, role in thing.members)]))
     if found:
         raise ValueError('{}: a text has U+{:04X}, which the API doesn\'t take: take it out by tag or members'.format(thing.key, ord(found[0])))
 
 
-def attribute(text):
+def attribute(text: str) -> str:
     """A text as the value of an attribute, in quotes; line feeds and tabs stay what they are."""
     return quoteattr(text, {'\n': '&#10;', '\r': '&#13;', '\t': '&#9;'})
 
 
-def changeset(tags):
+def changeset(tags: Mapping[str, str]) -> str:
     """The document that opens a changeset with these tags."""
     inner = ['    <tag k={} v={}/>'.format(attribute(key), attribute(value)) for key, value in tags.items()]
     return '\n'.join(['<osm>', '  <changeset>'] + inner + ['  </changeset>', '</osm>']) + '\n'

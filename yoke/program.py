@@ -8,6 +8,7 @@ The program is `--program`, else $YOKE_EDITOR, else `yokeorange` on the path, el
 """
 from __future__ import annotations
 
+import argparse
 import contextlib
 import os
 import re
@@ -15,7 +16,7 @@ import subprocess
 import tempfile
 from collections.abc import Callable, Iterator
 from dataclasses import dataclass, field
-from typing import IO, List, NoReturn, Optional
+from typing import IO, Dict, List, NoReturn, Optional, Sequence, Tuple
 
 from yoke import builds, opl, words
 from yoke.trouble import Trouble
@@ -31,7 +32,7 @@ class BadLine(Trouble):
 
     code = 1
 
-    def __init__(self, message, line):
+    def __init__(self, message: str, line: int) -> None:
         super().__init__(message)
         self.line = line
 
@@ -53,16 +54,16 @@ class Reply:
     problem: str = ''
 
     @property
-    def number(self):
+    def number(self) -> int:
         """The number of a refusal."""
         return int(self.rest.split(' ')[0])
 
     @property
-    def verb(self):
+    def verb(self) -> str:
         """The word with which the step begins."""
         return re.split('[ \t]', self.step, maxsplit=1)[0]
 
-    def made(self):
+    def made(self) -> List[str]:
         """The keys of the objects that an accepted step made."""
         return self.rest.split(',') if self.word == 'ok' and self.rest else []
 
@@ -70,8 +71,8 @@ class Reply:
 class Answer:
     """The replies to a script, in order."""
 
-    def __init__(self, output, lines):
-        self.replies = []
+    def __init__(self, output: str, lines: Sequence[str]) -> None:
+        self.replies: List[Reply] = []
         for text in output.split('\n')[:-1]:
             found = REPLY.fullmatch(text) if '0' <= text[:1] <= '9' else None
             if found:
@@ -86,54 +87,66 @@ class Answer:
         answer.replies = replies
         return answer
 
-    def refused(self):
+    def refused(self) -> List[Reply]:
         """The replies of refused steps. Steps of a group that were skipped aren't among them."""
         return [reply for reply in self.replies if reply.word == 'refused']
 
-    def last(self, verb):
+    def last(self, verb: str) -> Optional[Reply]:
         """The reply to the last step with this verb; None where there is none."""
         return next((reply for reply in reversed(self.replies) if reply.verb == verb), None)
 
-    def text(self, verb):
+    def text(self, verb: str) -> List[str]:
         """The lines that the last step with this verb wrote; none where it was refused."""
         reply = self.last(verb)
         return reply.text if reply else []
 
-    def saved(self):
+    def saved(self) -> str:
         """The text of the last `save`, as a file for `resume` has it; Trouble where it isn't whole."""
         lines = self.text('save')
         if not lines or lines[-1] != 'session end':
             raise Trouble('the session wrote no whole `save`')
         return '\n'.join(lines) + '\n'
 
-    def counts(self):
+    def counts(self) -> Dict[str, int]:
         """The numbers of the last `count` by their names, such as `changed`."""
         found = ' '.join(self.text('count')).split(' ')[1:]
         return dict(zip(found[::2], map(int, found[1::2])))
 
-    def found(self):
+    def found(self) -> List[str]:
         """The keys of the last `find`."""
         return self.text('find')[1:]
 
-    def upload_size(self):
+    def upload_size(self) -> int:
         """How many changes the last `upload` has; 0 where it was refused."""
         lines = self.text('upload')
         return int(lines[0].split(' ')[2]) if lines else 0
 
-    def first_chunk(self):
+    def first_chunk(self) -> List[Tuple[str, opl.Object]]:
         """The changes of the first chunk of the last `upload`: pairs of a verb (`create`, `modify`, `delete`) and an Object.
 
         Of a `delete` the object has key and version alone. None where nothing is left; Trouble where the text is cut off.
         """
-        lines, size, found = self.text('upload'), self.upload_size(), []
+        return next(iter(self.chunks()), [])
+
+    def changes(self) -> List[Tuple[str, opl.Object]]:
+        """The changes of all chunks of the last `upload`, as those of the first one."""
+        return [change for chunk in self.chunks() for change in chunk]
+
+    def chunks(self) -> Iterator[List[Tuple[str, opl.Object]]]:
+        """The chunks of the last `upload`, each taken apart when it is asked for."""
+        lines, size = self.text('upload'), self.upload_size()
         if lines and len(lines) != 1 + size + sum(line.startswith('chunk ') for line in lines):
             raise Trouble('the session wrote no whole `upload`')
+        found: List[Tuple[str, opl.Object]] = []
         for text in lines[2:]:
             verb, rest = text.split(' ', 1)
             if verb == 'chunk':
-                break
-            found.append((verb, opl.parse(rest)))
-        return found
+                yield found
+                found = []
+            else:
+                found.append((verb, opl.parse(rest)))
+        if found:
+            yield found
 
 
 Target = Callable[[Answer], Optional[IO[bytes]]]     # the file into which a session is saved after an Answer, or none
@@ -147,15 +160,20 @@ class Program:
     max_objects: int = 0
 
     @classmethod
-    def of(cls, arguments):
+    def of(cls, arguments: argparse.Namespace) -> 'Program':
         """The program that the words of a command line name; Trouble where there is none."""
-        found = builds.find(arguments.program)
-        if found is None:
-            name = arguments.program or os.environ.get('YOKE_EDITOR') or builds.NAME
-            raise Trouble('there is no program {}: name it by --program or $YOKE_EDITOR, or put it on the path as yokeorange'.format(name))
-        return cls(found, arguments.max_objects or 0)
+        return cls.named(arguments.program, arguments.max_objects or 0)
 
-    def run(self, lines):
+    @classmethod
+    def named(cls, path: Optional[str] = None, max_objects: int = 0) -> 'Program':
+        """The program at a path, else the one that is found (`builds.find`); Trouble where there is none."""
+        found = builds.find(path)
+        if found is None:
+            name = path or os.environ.get('YOKE_EDITOR') or builds.NAME
+            raise Trouble('there is no program {}: name it by --program or $YOKE_EDITOR, or put it on the path as yokeorange'.format(name))
+        return cls(found, max_objects)
+
+    def run(self, lines: List[str]) -> Answer:
         """The Answer to a script, with its refusals in it. File names in it are seen from the folder where Python runs.
 
         Raises BadLine where a line is none, and Trouble where the session didn't run to its end for another reason.

@@ -4,7 +4,11 @@ import sys
 from yoke import results
 
 
-def note(line):
+def silent(line: str) -> None:
+    """Says nothing: in the place of `note` or `print`, where nobody reads lines."""
+
+
+def note(line: str) -> None:
     """Writes a line, after all that standard output has so far."""
     results.note(line)
     sys.stdout.flush()

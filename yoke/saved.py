@@ -3,6 +3,8 @@
 The lines are those that `save` writes (docs/SAVING.md). Of a large session most objects are only looked at
 by key, so a line is taken apart when it is asked for.
 """
+from typing import Dict, Optional, Sequence, Union
+
 from yoke import opl
 from yoke.trouble import Trouble
 
@@ -19,40 +21,44 @@ class Known:
     `none`, `changed`, `held` or `withdrawn`, and `theirs` the version of the server that it is in conflict with, else None.
     """
 
-    def __init__(self, key, conflict):
+    def __init__(self, key: str, conflict: str) -> None:
         self.key, self.conflict = key, conflict
-        self._lines, self._same = {}, False
+        self._lines: Dict[str, Union[str, opl.Object]] = {}
+        self._same = False
 
-    def _part(self, name):
+    def _part(self, name: str) -> Optional[opl.Object]:
         found = self._lines.get(name)
         if isinstance(found, str):
             found = self._lines[name] = opl.parse(found)
         return found
 
     @property
-    def base(self):
+    def base(self) -> Optional[opl.Object]:
+        """The version of the server from which the edits began."""
         return self._part('base')
 
     @property
-    def mine(self):
+    def mine(self) -> Optional[opl.Object]:
+        """What the object is here."""
         return self.there if self._same else self._part('mine')
 
     @property
-    def theirs(self):
+    def theirs(self) -> Optional[opl.Object]:
+        """The version of the server with which it is in conflict."""
         return self._part('theirs')
 
     @property
-    def there(self):
+    def there(self) -> Optional[opl.Object]:
         """The base where the server has it as living, else None."""
         return self.base if self.base and not self.base.deleted else None
 
     @property
-    def is_new(self):
+    def is_new(self) -> bool:
         """Whether it was made here, and no server has it."""
         return 'base' not in self._lines
 
     @property
-    def edit(self):
+    def edit(self) -> Optional[str]:
         """`new`, `changed` or `deleted`; None where nothing was edited. This is what `count` counts as changed."""
         if self.is_new:
             return 'new'
@@ -63,7 +69,7 @@ class Known:
         return None if self.there and self.there.content == self.mine.content else 'changed'
 
 
-def known_of(lines):
+def known_of(lines: Sequence[str]) -> Known:
     """The object of its lines, of which the first is `known ..`; those of another one may follow."""
     _, key, _, mine, conflict = lines[0].split(' ')
     thing = Known(key, conflict)
@@ -76,9 +82,10 @@ def known_of(lines):
     return thing
 
 
-def read(text):
+def read(text: str) -> Dict[str, Known]:
     """The objects of a saved session, Known by key, by rank; Trouble where the text is none. Incomplete ones aren't in it."""
-    things, thing = {}, None
+    things: Dict[str, Known] = {}
+    thing = Known('', 'none')
     if not text.startswith('session 1 ') or not text.endswith('session end\n'):
         raise NotWhole('it is no whole saved session')
     for line in text.split('\n'):

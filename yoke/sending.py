@@ -42,11 +42,11 @@ import enum
 import json
 import re
 from dataclasses import dataclass, field
-from typing import Dict, List, Optional, Tuple
+from typing import Callable, Dict, List, Optional, Tuple
 
 from yoke import accounts, api, extent, journal, opl, osc, words
 from yoke.api import Account, Limits, Server
-from yoke.day import State
+from yoke.day import Day, State
 from yoke.session import Session
 from yoke.stored import Stored
 from yoke.trouble import Clash, NoAnswer, Redacted, Refused, ServerRefused, Trouble
@@ -91,7 +91,7 @@ class Sending:
     server: Server
     tags: Dict[str, str]
     size: int = CHUNK
-    note: object = print
+    note: Callable[[str], object] = print
     limits: Optional[Limits] = None
     changeset: Optional[Open] = None
     sent: int = 0
@@ -110,10 +110,10 @@ class Sending:
     _boxes_of: Optional[Tuple[Identity, extent.Boxes]] = None
 
     @property
-    def day(self):
+    def day(self) -> Day:
         return self.session.day
 
-    def run(self):
+    def run(self) -> None:
         """Sends until nothing is left; the folder of the day has to be locked.
 
         Raises Clash, NoAnswer, ServerRefused or Refused; what was taken before that is kept.
@@ -122,7 +122,7 @@ class Sending:
         self.send_all()
         self.close()
 
-    def begin(self):
+    def begin(self) -> None:
         """Asks the server for its limits, and goes on from where the last send ended, to row 1 or 2."""
         check_server(self.day, self.server)
         self.limits = self.server.limits()
@@ -193,7 +193,7 @@ class Sending:
 
     # ---- rows 1 and 2 ----
 
-    def room(self):
+    def room(self) -> int:
         """How many changes the next chunk may have; where the changeset is full the chunk goes into another one."""
         left = self.limits.changes - (self.changeset.count if self.changeset else 0)
         return min(self.largest(), left) if left > 0 else self.largest()
@@ -241,7 +241,7 @@ class Sending:
         self.changeset = Open(number, self.tags)
         journal.note(self.day, changeset=number, tags=self.tags)
 
-    def close(self):
+    def close(self) -> None:
         """Closes the changeset, if one is open, and forgets it."""
         if self.changeset:
             try:
@@ -544,26 +544,26 @@ def identity(state: State) -> Identity:
     return state, found.st_ino, found.st_mtime_ns
 
 
-def noted(day):
+def noted(day: Day) -> Optional[Open]:
     """The changeset that a day has open; None where there is none."""
     text = day.read('changeset')
     return Open(**json.loads(text)) if text else None
 
 
-def users(text):
+def users(text: str) -> List[str]:
     """The keys of the users that a 412 names, the first twenty: the session may not know them."""
     found = re.search('used (?:by|in) (way|relation)s? ([0-9, ]+)', text)
     return ['{}{}'.format(found[1][0], number) for number in re.findall('[0-9]+', found[2])[:20]] if found else []
 
 
-def check_server(day, server):
+def check_server(day: Day, server: Server) -> None:
     """Trouble where a day is of another server."""
     before = (day.read('server') or '').strip()
     if before and before != server.address:
         raise Trouble('this day is of the server {}, and its ids mean nothing to another: start another --day for {}'.format(before, server.address))
 
 
-def note_server(day, server):
+def note_server(day: Day, server: Server) -> None:
     """Notes the server that a day is of from now on."""
     if not day.read('server'):
         day.write('server', server.address + '\n')

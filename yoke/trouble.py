@@ -2,6 +2,7 @@
 
 Whatever a user can meet is raised as one of these. Anything else that is raised is a fault of the program `yoke` itself.
 """
+from typing import Iterable
 
 
 class Trouble(Exception):
@@ -11,9 +12,16 @@ class Trouble(Exception):
 
 
 class Refused(Trouble):
-    """The session refused a step, or what was asked for can't be done as things are. Nothing was kept of it."""
+    """The session refused a step, or what was asked for can't be done as things are. Nothing was kept of it.
+
+    `details` are lines that name what was refused, or what looks wrong.
+    """
 
     code = 1
+
+    def __init__(self, message: str, details: Iterable[str] = ()) -> None:
+        super().__init__(message)
+        self.details = list(details)
 
 
 class Usage(Trouble):
@@ -30,7 +38,7 @@ class Clash(Trouble):
 
     code = 4
 
-    def __init__(self, message, keys=()):
+    def __init__(self, message: str, keys: Iterable[str] = ()) -> None:
         super().__init__(message)
         self.keys = list(keys)
 

@@ -4,6 +4,7 @@ The meaning of each number is docs/REFUSALS.md's, and its numbers never change; 
 terminal.
 """
 import re
+from typing import List
 
 from yoke import printing
 
@@ -78,7 +79,7 @@ ANSWERS = {
 }
 
 
-def refusal(rest):
+def refusal(rest: str) -> str:
     """What follows the word `refused` of a reply, in words: the cause, the way out, and the number."""
     number, *carried = rest.split(' ')
     cause, way = REFUSALS.get(int(number), ('', 'docs/REFUSALS.md has it'))
@@ -88,26 +89,26 @@ def refusal(rest):
     return '{}: {} (refusal {})'.format(filled[0].strip(), filled[1], number)
 
 
-def _file_fault(carried):
+def _file_fault(carried: List[str]) -> str:
     if carried[:1] == ['line'] and len(carried) == 4:
         return 'line {}: {} (fault {})'.format(carried[1], FAULTS.get(int(carried[3]), 'it is outside the format'), carried[3])
     kinds = {'twice': 'line {} has an object that an earlier line has', 'longline': 'line {} is too long', 'toolong': 'it is too large'}
     return kinds.get(' '.join(carried[:1]), '').format(*carried[1:])
 
 
-def status(code, message):
+def status(code: int, message: str) -> str:
     """A status of the program in words, with its own text."""
     if code < 0:
         return 'editor was stopped by the signal {}: did memory run out?'.format(-code)
     return 'editor ended with status {}: {} ({})'.format(code, STATUSES.get(code, 'a fault'), message or 'without a word')
 
 
-def bad_line(step):
+def bad_line(step: str) -> str:
     """What to say of a line that is none of a script's."""
     return 'no line of a script: {}; docs/REFUSALS.md, "Bad lines of a script", has the common slips'.format(cut(step))
 
 
-def is_version_mismatch(text):
+def is_version_mismatch(text: str) -> bool:
     """Whether the text of a 409 is about the version of an object, and not about the changeset."""
     return text.startswith('Version mismatch')
 
@@ -122,12 +123,12 @@ def is_scope_missing(text: str) -> bool:
     return bool(re.search('not (granted|permitted)|permission|scope', text, re.IGNORECASE))
 
 
-def is_of_another_account(text):
+def is_of_another_account(text: str) -> bool:
     """Whether the text of a 409 says that the changeset was opened by another account."""
     return 'own that changeset' in text
 
 
-def answer(code, text):
+def answer(code: int, text: str) -> str:
     """A refusal of a server, with its own text."""
     cause, way = ANSWERS.get(code, ('it refuses', 'its text says why'))
     if code == 409 and not is_version_mismatch(text):
@@ -140,7 +141,7 @@ def answer(code, text):
     return 'the server answers {}, {}{}; {}'.format(code, cause, ': ' + said if said else '', way)
 
 
-def cut(text, longest=100):
+def cut(text: str, longest: int = 100) -> str:
     """A text that may be very long, as one line of a message."""
     text = printing.line(re.sub('[\\t\\n\\r]', ' ', text))
     return text if len(text) <= longest else text[:longest - 3] + '...'

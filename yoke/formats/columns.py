@@ -58,20 +58,27 @@ def mapping_of(rules: Optional[Mapping], given: Optional[Sequence[str]], names: 
     chosen = replace(rules or Mapping(), others=frozenset(left))
     if not left or accepted.takes(Suspicion('columns', '', '')):
         return chosen
-    show(left, columns)
+    lines = listing(left, columns)
+    is_seen = ask is asked and is_terminal()
+    for line in lines if is_seen else ():
+        print(line)
     if ask('become tags. Are all of them tags?'):
         return chosen
     filled = [name for name in left if any(text.strip() for text in columns.get(name, ()))] or left
-    raise Refused(f'nothing is done: say which columns are tags, such as {way(filled)}; --accept columns takes all of these')
+    raise Refused(f'nothing is done: say which columns are tags, such as {way(filled)}; --accept columns takes all of these',
+                  () if is_seen else lines)
 
 
-def show(names: Sequence[str], columns: MappingOf[str, Sequence[str]]) -> None:
-    """Lists columns, each with a sample of its values."""
+def never_asked(question: str) -> bool:
+    """No, where there is nobody to ask."""
+    return False
+
+
+def listing(names: Sequence[str], columns: MappingOf[str, Sequence[str]]) -> List[str]:
+    """A line for each column, with a sample of its values."""
     width = min(max(len(plain(name)) for name in names), 30)
-    for name in names[:MOST]:
-        print(f'column {plain(name):{width}}  {samples(columns.get(name, ()))}')
-    if len(names) > MOST:
-        print(f'and {len(names) - MOST} more columns')
+    lines = [f'column {plain(name):{width}}  {samples(columns.get(name, ()))}' for name in names[:MOST]]
+    return lines + ([f'and {len(names) - MOST} more columns'] if len(names) > MOST else [])
 
 
 def check_names(wanted: Iterable[str], names: Sequence[str]) -> None:

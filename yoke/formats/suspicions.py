@@ -81,16 +81,15 @@ class Accepted:
         return found.name in self.names or found.code in self.names
 
     def stop(self, found: Sequence[Suspicion]) -> None:
-        """Prints the findings that weren't accepted, and raises Refused; does nothing where all were."""
+        """Raises Refused with the findings that weren't accepted; does nothing where all were."""
         left = [one for one in found if not self.takes(one)]
         if not left:
             return
+        details = []
         for one in left:
-            print(f'suspicious: {plain(one.name)}: {one.text}')
-            if one.advice:
-                print(f'    {one.advice}')
+            details += [f'suspicious: {plain(one.name)}: {one.text}'] + ([f'    {one.advice}'] if one.advice else [])
         raise Refused(f'nothing is done: {len(left)} thing{"" if len(left) == 1 else "s"} look{"s" if len(left) == 1 else ""} wrong; '
-                      f'mend the table, or pass {words_of("--accept", [one.name for one in left])}')
+                      f'mend the table, or pass {words_of("--accept", [one.name for one in left])}', details)
 
 
 def listed(text: str) -> List[str]:

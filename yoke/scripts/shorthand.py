@@ -233,6 +233,8 @@ class _Writer:
                 {'tag-csv': self._tag_csv, 'insert': self._insert, 'add-member': self._add_member, 'mend-turns': self._mend_turns}.get(
                     verb, lambda rest: self._by_query(verb, rest))(rest)
             except Refused as why:
+                for text in why.details:
+                    self._note(text)
                 self._refuse(str(why), line)
             except _GivenUp:
                 self._add(STANDS_FOR)
@@ -302,7 +304,7 @@ class _Writer:
             keys = tag_table.key_columns(sheet.names, column[0] if column else None)
             rows = self._rows(sheet, keys, named, notes)
         except Trouble as trouble:
-            raise Refused(str(trouble)) from None
+            raise Refused(str(trouble), trouble.details if isinstance(trouble, Refused) else ()) from None
         except ValueError as error:
             raise Refused('{}: {}'.format(name, error)) from None
         for note, count in notes.items():
@@ -323,7 +325,7 @@ class _Writer:
         given = None if named is None else [columns.word_of(map(opl.unescape, named))]
         guards = tag_table.guards(sheet.names)
         used = [*keys, *(name for name in sheet.names if name.startswith(tag_table.OLD))]
-        mapping = columns.mapping_of(None, given, sheet.names, used, sheet.columns(), self.accepted, lambda question: False, _in_a_script)
+        mapping = columns.mapping_of(None, given, sheet.names, used, sheet.columns(), self.accepted, columns.never_asked, _in_a_script)
         plan = tag_plan.Plan(tag_table.each_once(tag_table.rows_of(sheet, keys, mapping, guards, notes)))
         self.accepted.stop(tag_plan.of_sheet(sheet, mapping, keys) + list(suspicions.of_tags([row.tags for row in plan.rows if row.tags])))
         if guards:

@@ -1,5 +1,8 @@
 """`yoke conflicts`: what is in conflict, with its three sides."""
-from yoke import results, saved, sides
+import argparse
+from typing import List, Mapping, Optional
+
+from yoke import opl, results, saved, sides
 from yoke.day import Day
 from yoke.trouble import Clash
 
@@ -13,12 +16,19 @@ WHY = {
 }
 
 
-def add_arguments(parser):
+def add_arguments(parser: argparse.ArgumentParser) -> None:
+    """The words of the verb."""
     parser.add_argument('keys', metavar='KEY', nargs='*', help='only these objects')
 
 
-def run(arguments):
-    found = [known for known in saved.read(Day(arguments.day).last().text()).values() if known.conflict != 'none']
+def of_session(found: Mapping[str, saved.Known]) -> List[saved.Known]:
+    """The objects of a session that are in conflict."""
+    return [known for known in found.values() if known.conflict != 'none']
+
+
+def run(arguments: argparse.Namespace) -> int:
+    """Shows what is in conflict; answers with the exit code."""
+    found = of_session(saved.read(Day(arguments.day).last().text()))
     for known in found:
         if not arguments.keys or known.key in arguments.keys:
             show(known)
@@ -27,14 +37,15 @@ def run(arguments):
     return Clash.code if found else 0
 
 
-def show(known):
+def show(known: saved.Known) -> None:
     """The three sides of an object in conflict, part by part, and the ways to resolve it."""
     if results.wanted():
         results.add('conflicts', results.of_known(known))
-    theirs = known.theirs
+    theirs, base = known.theirs, known.base
+    assert theirs is not None and base is not None
     print('{}: {}'.format(sides.title(known.mine or known.base), WHY[known.conflict]))
     by = ' by {}'.format(sides.plain(theirs.user)) if theirs.user else ''
-    print('    here from version {}; the server has version {}{}{}'.format(known.base.version, theirs.version, by, ', deleted' if theirs.deleted else ''))
+    print('    here from version {}; the server has version {}{}{}'.format(base.version, theirs.version, by, ', deleted' if theirs.deleted else ''))
     side = None if theirs.deleted else theirs
     for name, texts in sides.parts(known.there, known.mine, side) if side else []:
         print('    {}: was {}, mine {}, theirs {}'.format(name, *map(sides.plain, texts)))
@@ -44,7 +55,7 @@ def show(known):
         print('    yoke resolve ' + way)
 
 
-def ways(known, side):
+def ways(known: saved.Known, side: Optional[opl.Object]) -> List[str]:
     """The words of `yoke resolve` that settle a conflict."""
     found = ['{} mine'.format(known.key), '{} theirs'.format(known.key)]
     if known.conflict == 'changed' and known.there and known.mine and side:

@@ -1,4 +1,7 @@
 """`yoke diff`: the edits of the session, each beside what it was made from."""
+import argparse
+from typing import List, Mapping
+
 from yoke import results, saved, sides, table
 from yoke.day import Day
 from yoke.files import check_outputs, write_own
@@ -10,19 +13,26 @@ SUMMARY = 'show what is edited: each object, and what became of it'
 DETAILS = 'It reads the saved session alone: what the server has by now is another question (yoke refresh).'
 
 
-def add_arguments(parser):
+def add_arguments(parser: argparse.ArgumentParser) -> None:
+    """The words of the verb."""
     parser.add_argument('keys', metavar='KEY', nargs='*', help='only these objects')
     parser.add_argument('--short', action='store_true', help='a line for each object, without its parts')
     parser.add_argument('--svg', metavar='FILE', help='draw the edits on a map, as one picture; - is standard output')
     parser.add_argument('--force', action='store_true', help='with --svg: also over a file that yoke didn\'t write')
 
 
-def run(arguments):
+def edited(found: Mapping[str, saved.Known]) -> List[saved.Known]:
+    """The objects of a session that are new, changed or deleted."""
+    return [known for known in found.values() if known.edit is not None]
+
+
+def run(arguments: argparse.Namespace) -> int:
+    """Shows what is edited; answers with the exit code."""
     if arguments.svg:
         return draw(arguments)
-    day, count = Day(arguments.day), 0
-    for known in saved.read(day.last().text()).values():
-        if known.edit is None or arguments.keys and known.key not in arguments.keys:
+    count = 0
+    for known in edited(saved.read(Day(arguments.day).last().text())):
+        if arguments.keys and known.key not in arguments.keys:
             continue
         count += 1
         if results.wanted():
@@ -37,7 +47,7 @@ def run(arguments):
     return 0
 
 
-def draw(arguments):
+def draw(arguments: argparse.Namespace) -> int:
     """Writes the picture of the edits; the exit code."""
     session = Session.of(arguments)
     last = session.day.last()

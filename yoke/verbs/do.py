@@ -1,12 +1,18 @@
 """`yoke do`: the lines of a script over the session."""
+import argparse
 import pathlib
 import re
+from dataclasses import dataclass
+from typing import Callable, Dict, Iterable, List, Mapping, Optional, Sequence, Set
 
 from yoke import choices, files, fresh, opl, results, words
+from yoke.day import State
 from yoke.formats.suspicions import Accepted
-from yoke.program import BadLine
-from yoke.progress import note
+from yoke.program import Answer, BadLine, Reply
+from yoke.progress import note, silent
+from yoke.saved import Known
 from yoke.scripts import bound, lint
+from yoke.scripts.names import Expanded
 from yoke.session import Session
 from yoke.trouble import Refused, Trouble
 from yoke.verbs import expand
@@ -26,7 +32,8 @@ OURS = {
 }
 
 
-def add_arguments(parser):
+def add_arguments(parser: argparse.ArgumentParser) -> None:
+    """The words of the verb."""
     parser.add_argument('script', metavar='SCRIPT', help='a file of lines; - is standard input')
     parser.add_argument('--keep', action='store_true', help='keep what was done although steps were refused')
     add_accept(parser)
@@ -34,39 +41,80 @@ def add_arguments(parser):
     parser.add_argument(bound.INSIST, action='store_true', help='run a script although it was made from another session')
 
 
-def add_accept(parser):
+def add_accept(parser: argparse.ArgumentParser) -> None:
     """The option by which a user takes what looks wrong."""
     parser.add_argument('--accept', metavar='NAMES', action='append',
                         help='take what was named as suspicious, such as same-value:name; with commas between several')
 
 
-def run(arguments):
-    name, lines = arguments.script, read(arguments.script)
-    session = Session.of(arguments)
+@dataclass(frozen=True)
+class Done:
+    """What a script did: its steps with their replies, whether they were kept, the keys of the relations that changed with them
+    and aren't named in it, and the session after it."""
+
+    name: str
+    answer: Answer
+    kept: bool
+    changed_too: List[str]
+    session: State
+
+    @property
+    def steps(self) -> List[Reply]:
+        """The steps, each with its reply."""
+        return self.answer.replies
+
+    @property
+    def refused(self) -> List[Reply]:
+        """The steps that were refused."""
+        return self.answer.refused()
+
+    @property
+    def made(self) -> List[str]:
+        """The keys of the objects that the script made, if they were kept."""
+        gone = given_up(self.answer)
+        return [key for reply in self.steps if self.kept and reply.line not in gone for key in reply.made()]
+
+
+def run(arguments: argparse.Namespace) -> int:
+    """Runs a script; answers with the exit code."""
+    session, lines = Session.of(arguments), read(arguments.script)
+    done = over(session, arguments.script, lines, keep=arguments.keep, strict=arguments.strict, accept=arguments.accept,
+                any_session=arguments.any_session, note=note, tell=print)
+    show(done.name, done.answer, done.kept)
+    results.put(changed_too=done.changed_too)
+    if done.changed_too:
+        print('changed with it: {}'.format(','.join(done.changed_too)))
+    return end(session, done.answer, arguments.keep, arguments.strict)
+
+
+def over(session: Session, name: str, lines: Sequence[str], *, keep: bool = False, strict: bool = False, accept: Optional[Iterable[str]] = None,
+         any_session: bool = False, note: Callable[[str], object] = silent, tell: Callable[[str], object] = silent) -> Done:
+    """Runs the lines of a script, which goes by this name, over the session. Nothing is kept if a step is refused, unless `keep`.
+
+    `strict` ends at the first refused step, and `accept` has the suspicions that are accepted, as the option has them. `note`
+    gets each warning, and `tell` each line about a step that was changed or left out.
+    """
+    lines = list(lines)
     check(name, lines, session.day.folder)
     with session.day.locked():
         session.check_settled()
-        if not arguments.any_session:
+        if not any_session:
             bound.check(name, lines, session.day.last())
         for text in fresh.old_downloads(session.day, lines):
             note(text)
-        accepted = Accepted.of(arguments.accept)
+        accepted = Accepted.of(accept)
         expanded = expand.over_session(name, lines, session, accepted)
         expanded = spared(session, expanded, accepted)
         for number, text in expanded.notes:
-            print('{}:{}: {}'.format(name, number, text))
+            tell('{}:{}: {}'.format(name, number, text))
         began = session.relations()
-        answer = perform(session, 'do', name, expanded, arguments.keep, arguments.strict)
-        kept = arguments.keep or not answer.refused()
+        answer = perform(session, 'do', name, expanded, keep, strict)
+        kept = keep or not answer.refused()
         too = changed_too(began, session.relations(), expanded.lines) if kept else []
-    show(name, answer, kept)
-    results.put(changed_too=too)
-    if too:
-        print('changed with it: {}'.format(','.join(too)))
-    return end(session, answer, arguments.keep, arguments.strict)
+        return Done(name, answer, kept, too, session.day.last())
 
 
-def spared(session, expanded, accepted):
+def spared(session: Session, expanded: Expanded, accepted: Accepted) -> Expanded:
     """A script without what would undo choices of `yoke resolve`; Refused where nothing is left of it."""
     found = choices.of_day(session.day)
     if not found:
@@ -74,24 +122,29 @@ def spared(session, expanded, accepted):
     holding = choices.Choices(found, session.known(), accepted)
     done = holding.spare(expanded)
     if holding.left and not any(line and not line.startswith('#') for line in done.lines):
-        for line in choices.lines_of(holding.left):
-            print(line)
-        raise Refused('nothing is kept: all that it sets you chose otherwise')
+        raise Refused('nothing is kept: all that it sets you chose otherwise', choices.lines_of(holding.left))
     return done
 
 
-def end(session, answer, keep, strict=False):
+def why_nothing(answer: Answer, strict: bool = False) -> str:
+    """Why nothing is kept of steps of which some were refused."""
+    refused = answer.refused()
+    if strict:
+        return 'nothing is kept: it ended at line {}'.format(refused[0].line)
+    return 'nothing is kept: {} of {} steps {} refused'.format(len(refused), len(answer.replies), 'was' if len(refused) == 1 else 'were')
+
+
+def end(session: Session, answer: Answer, keep: bool, strict: bool = False) -> int:
     """The exit code of what was done; says what was kept. Refused where nothing is kept."""
     refused = answer.refused()
     if refused and not keep:
-        raise Refused('nothing is kept: {} of {} steps {} refused'.format(len(refused), len(answer.replies), 'was' if len(refused) == 1 else 'were')
-                      if not strict else 'nothing is kept: it ended at line {}'.format(refused[0].line))
+        raise Refused(why_nothing(answer, strict))
     results.put(session=results.of_state(session.day.last()))
     print('kept as {}'.format(session.day.last().path))
     return 1 if refused else 0
 
 
-def perform(session, verb, name, expanded, keep, strict=False):
+def perform(session: Session, verb: str, name: str, expanded: Expanded, keep: bool, strict: bool = False) -> Answer:
     """The Answer to the steps, with the numbers of the script's own lines; with `strict` no further than the first refused one.
 
     What was done is kept as the work of a verb: where nothing was refused, or with `keep`.
@@ -113,22 +166,22 @@ def perform(session, verb, name, expanded, keep, strict=False):
     return answer
 
 
-def cause(lines, bad):
+def cause(lines: Sequence[str], bad: BadLine) -> str:
     """What is wrong with a bad line, and what is right."""
-    found = next((one for one in lint.findings(lines) if one.line == bad.line), None)
+    found = next((one for one in lint.findings(list(lines)) if one.line == bad.line), None)
     return str(bad) if found is None else lint.told(found)
 
 
-def before(lines, number):
+def before(lines: Sequence[str], number: int) -> List[str]:
     """The lines before the one with the number, but for those of a group in which it stands."""
     begun = None
     for at, line in enumerate(lines[:number - 1]):
         verb = re.split('[ \t]+', line)[0]
         begun = at if verb == 'begin' else None if verb == 'end' else begun
-    return lines[:number - 1 if begun is None else begun]
+    return list(lines[:number - 1 if begun is None else begun])
 
 
-def read(name):
+def read(name: str) -> List[str]:
     """The lines of a script, without a byte order mark or carriage returns; Trouble where there is no such text."""
     try:
         if name != '-' and not pathlib.Path(name).exists():
@@ -139,7 +192,7 @@ def read(name):
     return [line[:-1] if line.endswith('\r') else line for line in (lines[:-1] if lines[-1] == '' else lines)]
 
 
-def check(name, lines, folder):
+def check(name: str, lines: Sequence[str], folder: pathlib.Path) -> None:
     """Refused where a line is one that yoke does itself, names a file of the day, or where a group has no end."""
     begun = None
     for number, line in enumerate(lines, 1):
@@ -153,21 +206,26 @@ def check(name, lines, folder):
         raise Refused('{}:{}: the group has no end'.format(name, begun))
 
 
-def show(name, answer, kept):
+def refusal(name: str, reply: Reply) -> str:
+    """The line about a step that was refused."""
+    what = [reply.row, 'refused', words.cut(reply.step), reply.problem or words.refusal(reply.rest)]
+    return '{}:{}: {}'.format(name, reply.line, ': '.join(filter(None, what)))
+
+
+def show(name: str, answer: Answer, kept: bool) -> None:
     """What the steps wrote, what was refused, in words, and what was made, if it is kept."""
     gone = given_up(answer)
     results.add('steps', *(of_reply(reply, kept and reply.line not in gone) for reply in answer.replies))
     for reply in answer.replies:
         if reply.word == 'refused':
-            what = [reply.row, 'refused', words.cut(reply.step), reply.problem or words.refusal(reply.rest)]
-            print('{}:{}: {}'.format(name, reply.line, ': '.join(filter(None, what))))
+            print(refusal(name, reply))
         elif kept and reply.made() and reply.line not in gone:
             print('{}:{}: made {}'.format(name, reply.line, ','.join(reply.made())))
         for text in reply.text:
             print(text)
 
 
-def of_reply(reply, kept):
+def of_reply(reply: Reply, kept: bool) -> Dict[str, object]:
     """A step and its reply as data."""
     return {
         'line': reply.line, 'row': reply.row or None, 'step': reply.step, 'reply': reply.word,
@@ -177,7 +235,7 @@ def of_reply(reply, kept):
     }
 
 
-def changed_too(before, after, lines):
+def changed_too(before: Mapping[str, Known], after: Mapping[str, Known], lines: Iterable[str]) -> List[str]:
     """The relations that lines changed without naming them, as the routes of a way that was split; by rank.
 
     What a download brought is none of it: its base is another one.
@@ -187,9 +245,10 @@ def changed_too(before, after, lines):
             and before[key].base == known.base and before[key].mine != known.mine]
 
 
-def given_up(answer):
+def given_up(answer: Answer) -> Set[int]:
     """The numbers of the lines in groups that were taken back; the last group may have no end, where the replies end at a refusal."""
-    groups, group = [], None
+    groups: List[List[Reply]] = []
+    group: Optional[List[Reply]] = None
     for reply in answer.replies:
         if reply.verb == 'begin':
             group = []

@@ -1,8 +1,10 @@
 """`yoke expand`: a script as the program editor takes it."""
 import re
+from typing import Callable, List, Optional
 
 from yoke import files, opl, results, stored, table
-from yoke.program import BadLine, Program
+from yoke.formats.suspicions import Accepted
+from yoke.program import Answer, BadLine, Program
 from yoke.progress import note
 from yoke.scripts import bound, grammar, names, shorthand
 from yoke.scripts import lint as findings
@@ -51,23 +53,23 @@ def run(arguments):
     else:
         head = []
         expanded = expand(arguments.script, lines, arguments.next or first_number(lines), lambda steps: Program.of(arguments).run(steps))
-    for at, (_, why) in expanded.problems.items():
-        raise Refused(': '.join(filter(None, ['{}:{}'.format(arguments.script, expanded.numbers[at]), expanded.rows.get(at), why])))
     for number, text in expanded.notes:
         note('{}:{}: {}'.format(arguments.script, number, text))
+    for at, (_, why) in expanded.problems.items():
+        raise Refused(': '.join(filter(None, ['{}:{}'.format(arguments.script, expanded.numbers[at]), expanded.rows.get(at), why])))
     results.put(script=head + expanded.lines)
     print(''.join(line + '\n' for line in head + expanded.lines), end='')
     return 0
 
 
-def over_session(name, lines, session, accepted=None):
+def over_session(name: str, lines: List[str], session: Session, accepted: Optional[Accepted] = None) -> names.Expanded:
     """The lines of a script as the program takes them over the session as it is now; the folder of the day has to be locked."""
     with stored.opened(session.day.last().path) as kept:
         number = kept.next_new
     return expand(name, lines, number, lambda steps: session.ask(steps, allow_refused=True), accepted)
 
 
-def expand(name, lines, number, look, accepted=None):
+def expand(name: str, lines: List[str], number: int, look: Callable[[List[str]], Answer], accepted: Optional[Accepted] = None) -> names.Expanded:
     """The lines of a script as the program takes them; Refused, with the line, where a name can't be written out, BadLine where a line is none.
 
     `number` is that of the next new object. `look` answers to lines over what the script begins with. `accepted` is what
@@ -86,7 +88,7 @@ def expand(name, lines, number, look, accepted=None):
         raise BadLine('{}:{}: {}'.format(name, bad.line, bad), bad.line) from None
 
 
-def bad_line(name, script, line, why):
+def bad_line(name: str, script: names.Expanded, line: int, why: str) -> BadLine:
     """What is raised for a line that is none, by its number among those without names."""
     number = script.numbers[line - 1]
     return BadLine('{}:{}: {}'.format(name, number, why), number)

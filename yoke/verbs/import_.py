@@ -7,7 +7,7 @@ import re
 import tempfile
 from collections import Counter
 from dataclasses import dataclass, replace
-from typing import Any, Dict, List, Optional, Tuple
+from typing import Any, Callable, Dict, List, Optional, Tuple
 
 from yoke import day, imports, ledger, opl, printing, results, table
 from yoke.files import check_outputs, data_of
@@ -71,16 +71,36 @@ def desk_of(arguments: argparse.Namespace, session: Session) -> Desk:
     return desk
 
 
+@dataclass(frozen=True)
+class Imported:
+    """What an import did: how many features it read and took, how many objects it made of each kind, the features that it left
+    out with the cause of each, and the session after it; None where the objects went into a file."""
+
+    read: int
+    taken: int
+    nodes: int
+    ways: int
+    relations: int
+    left_out: List[Tuple[str, str]]
+    session: Optional[day.State]
+
+
 def run(arguments: argparse.Namespace) -> int:
+    into(Session.of(arguments), arguments, print)
+    return 0
+
+
+def into(session: Session, arguments: argparse.Namespace, tell: Callable[[str], object], ask: columns.Ask = columns.asked) -> Imported:
+    """Imports what the words of the verb name into a session; `tell` gets each line of the report, and `ask` whether columns are tags."""
     if arguments.within and arguments.anywhere:
         raise Usage('--within or --anywhere, not both')
-    session, accepted = Session.of(arguments), Accepted.of(arguments.accept)
+    accepted = Accepted.of(arguments.accept)
     check_outputs(filter(None, [arguments.report, arguments.to]), filter(None, [arguments.file, arguments.tags]), session.day.folder)
     named = rules(arguments.tags) if arguments.tags else None
     given_box(arguments)
     source = read(arguments)
     identities = identities_of(arguments, source)
-    chosen = tags_of(arguments, source, named, accepted)
+    chosen = tags_of(arguments, source, named, accepted, ask)
     wanted = part(source.features, arguments.features)
     accepted.stop(of_source(source, wanted, chosen))
     with session.day.locked():
@@ -91,7 +111,8 @@ def run(arguments: argparse.Namespace) -> int:
             plan = imports.Plan(desk, book, found, identities, arguments.again, arguments.apart)
             picture = draw(arguments, found, wanted, chosen, plan)
             accepted.stop(list(suspicions.of_tags(picture.tags)))
-            report(picture, plan, arguments.report)
+            report(picture, plan, arguments.report, tell)
+            done = Imported(picture.read, picture.taken, len(picture.nodes), len(picture.ways), len(picture.relations), list(picture.left), None)
             results.put(file=None, session=None, left_out=[{'feature': where, 'why': why} for where, why in picture.left], counts={
                 'read': picture.read, 'taken': picture.taken, 'nodes': len(picture.nodes), 'ways': len(picture.ways),
                 'relations': len(picture.relations)})
@@ -102,8 +123,8 @@ def run(arguments: argparse.Namespace) -> int:
             if arguments.to:
                 day.write_whole(arguments.to, ''.join(line + '\n' for line in picture.lines()))
                 results.put(file=arguments.to)
-                print('wrote {}'.format(arguments.to))
-                return 0
+                tell('wrote {}'.format(arguments.to))
+                return done
             claim = desk.claim(session.day.next_name('import'), plan.claimed(picture))
         try:
             perform(session, plan, picture)
@@ -112,8 +133,8 @@ def run(arguments: argparse.Namespace) -> int:
             raise
         desk.keep(claim)
         results.put(session=results.of_state(session.day.last()))
-        print('kept as {}'.format(session.day.last().path))
-    return 0
+        tell('kept as {}'.format(session.day.last().path))
+        return replace(done, session=session.day.last())
 
 
 def perform(session: Session, plan: imports.Plan, picture: drawing.Drawing) -> None:
@@ -204,10 +225,11 @@ def read(arguments: argparse.Namespace) -> Source:
         raise Trouble('{}: {}'.format(arguments.file, error)) from None
 
 
-def tags_of(arguments: argparse.Namespace, source: Source, named: Optional[Mapping], accepted: Accepted) -> Mapping:
+def tags_of(arguments: argparse.Namespace, source: Source, named: Optional[Mapping], accepted: Accepted,
+            ask: columns.Ask = columns.asked) -> Mapping:
     """The rules by which properties become tags, all of which the user named or confirmed."""
     texts = {name: [text for _, text in values] for name, values in source.values(source.features).items()}
-    return columns.mapping_of(named, arguments.columns, source.names, (), texts, accepted)
+    return columns.mapping_of(named, arguments.columns, source.names, (), texts, accepted, ask)
 
 
 def of_source(source: Source, wanted: List[Feature], chosen: Mapping) -> List[Suspicion]:
@@ -252,11 +274,12 @@ def bounds(arguments: argparse.Namespace, there: Dict[drawing.Place, str]) -> dr
     return (max(min(lons) - wide, west), max(min(lats) - high, south), min(max(lons) + wide, east), min(max(lats) + high, north))
 
 
-def report(picture: drawing.Drawing, plan: imports.Plan, name: Optional[str]) -> None:
-    """Prints the report, or writes it into a file and prints its counts."""
+def report(picture: drawing.Drawing, plan: imports.Plan, name: Optional[str], tell: Callable[[str], object]) -> None:
+    """Tells the report, or writes it into a file and tells its counts."""
     said = list(picture.report())
     lines = [printing.line(line) for line in (*said[:2], *plan.report(), *said[2:])]
     if name:
         day.write_whole(os.path.abspath(name), ''.join(line + '\n' for line in lines))
         lines = [line for line in lines if not line.startswith('left out: ')]
-    print('\n'.join(lines))
+    for line in lines:
+        tell(line)

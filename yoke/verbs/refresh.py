@@ -1,9 +1,12 @@
 """`yoke refresh`: what the server has by now of all that the edits rest on."""
+import argparse
 from dataclasses import dataclass
-from typing import List
+from typing import Callable, Iterable, List, Optional, Sequence, Tuple
 
 from yoke import api, opl, results, sides
-from yoke.progress import note
+from yoke.api import Server
+from yoke.progress import note, silent
+from yoke.saved import Known
 from yoke.sending import check_server, note_server
 from yoke.session import Session
 from yoke.trouble import Clash, Trouble, Usage
@@ -21,20 +24,27 @@ NEVER = 20      # objects that the server never had, before it is taken for anot
 MOST_GONE = 50  # objects deleted here of which it is asked who uses them: a call or two for each
 
 
-def add_arguments(parser):
+def add_arguments(parser: argparse.ArgumentParser) -> None:
+    """The words of the verb."""
     api.add_arguments(parser)
     parser.add_argument('keys', metavar='KEY', nargs='*', help='objects to ask for too')
 
 
-def run(arguments):
-    for key in arguments.keys:
-        if not opl.KEY.fullmatch(key) or key[1] == '-':
-            raise Usage('a key is n, w or r and a number that a server gave, as w5, and not {}'.format(key))
+def run(arguments: argparse.Namespace) -> int:
+    """Refreshes; answers with the exit code."""
+    check_keys(arguments.keys)
     server, session = api.server_of(arguments, note), Session.of(arguments)
     with session.day.locked():
-        news = bring(session, server, arguments.keys)
+        news = bring(session, server, arguments.keys, note)
     show(news, server)
     return Clash.code if news.left or news.never else 0
+
+
+def check_keys(keys: Iterable[str]) -> None:
+    """Usage where one is no key that a server gave."""
+    for key in keys:
+        if not opl.KEY.fullmatch(key) or key[1] == '-':
+            raise Usage('a key is n, w or r and a number that a server gave, as w5, and not {}'.format(key))
 
 
 @dataclass
@@ -45,28 +55,29 @@ class News:
     asked: int
     never: List[str]
     merged: int
-    joined: List
-    left: List
+    joined: List[Known]
+    left: List[Known]
 
 
-def bring(session, server, keys=()):
+def bring(session: Session, server: Server, keys: Iterable[str] = (), tell: Callable[[str], object] = silent) -> News:
     """Asks the server for what the edits rest on, and for the objects with these keys, and merges it; the folder has to be locked."""
     session.check_settled()
     check_server(session.day, server)
     found, gone = (reply.text[1:] for reply in session.ask(['find ' + NEEDED, 'find ' + GONE]).replies)
     things, never = fetch(server, sorted({*found, *keys}, key=opl.rank))
-    things = with_users(server, things, gone)
+    things = with_users(server, things, gone, tell)
     newer = merge(session, server, things)
     known = session.known()
     joined = [known[key] for key in newer if key in known and known[key].edit == 'changed' and known[key].conflict == 'none']
     return News(len(things) + len(never), never, len(newer), joined, [one for one in known.values() if one.conflict != 'none'])
 
 
-def show(news, server):
+def show(news: News, server: Server) -> None:
     """Says what a refresh brought."""
     results.put(asked=news.asked, merged=news.merged, never=news.never, joined=[one.key for one in news.joined], conflicts=[])
     print('{} objects asked for, {} newer ones merged'.format(news.asked, news.merged))
     for one in news.joined:
+        assert one.base is not None and one.mine is not None
         by = ' by {}'.format(sides.plain(one.base.user)) if one.base.user else ''
         print('joined {}: both sides changed it, in unlike parts; version {}{}'.format(sides.title(one.mine), one.base.version, by))
     for key in news.never:
@@ -77,30 +88,30 @@ def show(news, server):
         print('{} in conflict'.format(len(news.left)))
 
 
-def fetch(server, keys):
+def fetch(server: Server, keys: Iterable[str]) -> Tuple[List[opl.Object], List[str]]:
     """The objects as the server has them, and the keys that it never had."""
-    never = []
+    never: List[str] = []
 
-    def missing(key):
+    def missing(key: str) -> None:
         never.append(key)
         if len(never) > NEVER:
             raise Trouble('{} and {} more never existed at {}: is it the server that the extract is of?'.format(never[0], NEVER, server.address))
     return server.things(keys, missing), never
 
 
-def with_users(server, things, gone):
+def with_users(server: Server, things: Iterable[opl.Object], gone: Sequence[str], tell: Callable[[str], object]) -> List[opl.Object]:
     """Objects of the server, with those that use what is deleted here: the session may not know them, and each would be a 412 of its own."""
     there = {thing.key: thing for thing in things}
     gone = [key for key in gone if key in there and not there[key].deleted]
     if len(gone) > MOST_GONE:
-        note('{} objects are deleted here, too many to ask who uses each'.format(len(gone)))
+        tell('{} objects are deleted here, too many to ask who uses each'.format(len(gone)))
         gone = []
     for key in gone:
         there.update((user.key, user) for user in server.users(key))
     return sorted(there.values(), key=lambda thing: opl.rank(thing.key))
 
 
-def merge(session, server, things):
+def merge(session: Session, server: Server, things: Iterable[opl.Object]) -> List[str]:
     """Merges objects into the session, as a download does, and keeps it where that changed it; answers with the keys of the newer ones."""
     before = session.known()
     newer = [thing for thing in things if is_news(before.get(thing.key), thing)]
@@ -112,7 +123,7 @@ def merge(session, server, things):
     return [thing.key for thing in newer]
 
 
-def is_news(known, thing):
+def is_news(known: Optional[Known], thing: opl.Object) -> bool:
     """Whether a session doesn't know this version of an object yet."""
     if known is None:
         return True

@@ -1,5 +1,9 @@
 """`yoke resolve`: ends the conflict of objects."""
+import argparse
+from typing import Callable, Dict, List, Optional, Sequence, Tuple
+
 from yoke import choices, ledger, opl, results, sides
+from yoke.saved import Known
 from yoke.session import Session
 from yoke.trouble import Refused, Usage
 from yoke.verbs import conflicts
@@ -17,31 +21,17 @@ again leaves it, and says so."""
 SIDES = ('mine', 'theirs')
 
 
-def add_arguments(parser):
+def add_arguments(parser: argparse.ArgumentParser) -> None:
+    """The words of the verb."""
     parser.add_argument('key', metavar='KEY')
     parser.add_argument('how', metavar='HOW', choices=['mine', 'theirs', 'mix', 'parts'])
     parser.add_argument('words', metavar='SIDE', nargs='*')
 
 
-def run(arguments):
-    step = words(arguments.how, arguments.words)
-    named = [] if arguments.key == 'all' else arguments.key.split(',')
-    for key in named:
-        if not opl.KEY.fullmatch(key):
-            raise Usage('a key is n, w or r and a number, as w5, and not {}'.format(key))
-    session = Session.of(arguments)
-    with session.day.locked():
-        known = session.known()
-        keys = named or [key for key, one in known.items() if one.conflict != 'none']
-        if not keys:
-            raise Refused('nothing is in conflict')
-        for key in keys:
-            if key in known and known[key].conflict != 'none':
-                conflicts.show(known[key])
-        session.edit('resolve', ['resolve {} {}'.format(key, step) for key in keys])
-        now = session.known()
-        chosen = choices.made(known, now, keys)
-        choices.keep(session.day, chosen, ledger.name_of_user(None))
+def run(arguments: argparse.Namespace) -> int:
+    """Resolves; answers with the exit code."""
+    named = None if arguments.key == 'all' else arguments.key.split(',')
+    now, keys = settle(Session.of(arguments), named, words(arguments.how, arguments.words), conflicts.show)
     for key in keys:
         print('resolved {}: {}'.format(key, outcome(now.get(key))))
     results.put(resolved={key: outcome(now.get(key)) for key in keys}, left=[key for key, one in now.items() if one.conflict != 'none'])
@@ -50,7 +40,31 @@ def run(arguments):
     return 0
 
 
-def words(how, rest):
+def settle(session: Session, named: Optional[Sequence[str]], step: str, tell: Callable[[Known], object]) -> Tuple[Dict[str, Known], List[str]]:
+    """Ends the conflicts of the objects with these keys, or of all where it is None, by the words of `resolve` after the key.
+
+    `tell` is called with each before it is resolved. Answers with the objects as they are now, and the keys of those that were
+    resolved.
+    """
+    for key in named or ():
+        if not opl.KEY.fullmatch(key):
+            raise Usage('a key is n, w or r and a number, as w5, and not {}'.format(key))
+    with session.day.locked():
+        known = session.known()
+        keys = list(named) if named is not None else [key for key, one in known.items() if one.conflict != 'none']
+        if not keys:
+            raise Refused('nothing is in conflict')
+        for key in keys:
+            if key in known and known[key].conflict != 'none':
+                tell(known[key])
+        session.edit('resolve', ['resolve {} {}'.format(key, step) for key in keys])
+        now = session.known()
+        chosen = choices.made(known, now, keys)
+        choices.keep(session.day, chosen, ledger.name_of_user(None))
+    return now, keys
+
+
+def words(how: str, rest: Sequence[str]) -> str:
     """The words of a `resolve` line after the key; Usage where they are none."""
     if how in SIDES and not rest:
         return how
@@ -61,7 +75,7 @@ def words(how, rest):
     raise Usage('resolve KEY mine, KEY theirs, KEY mix SIDE SIDE, or KEY parts SIDE [TAG..], where a SIDE is mine or theirs')
 
 
-def outcome(known):
+def outcome(known: Optional[Known]) -> str:
     """What an object is now, in a few words."""
     if known is None or known.mine is None:
         return 'deleted'

@@ -1,7 +1,9 @@
 """`yoke send`: the edits go to a server."""
 import argparse
 import re
+from dataclasses import dataclass
 from decimal import Decimal
+from typing import Any, Callable, Dict, Iterable, List, Mapping, Optional, Tuple
 
 from yoke import api, extent, fresh, journal, ledger, opl, osc, parts, results, sending, sides, table, words
 from yoke.parts import Parts, Wanted
@@ -21,7 +23,8 @@ OURS = {'comment': 'say it by -m', 'created_by': 'it names the program that made
 MOST = 20       # how often one command refreshes: somebody who edits the same objects all the time is to be talked to
 
 
-def add_arguments(parser):
+def add_arguments(parser: argparse.ArgumentParser) -> None:
+    """The words of the verb."""
     api.add_arguments(parser)
     parser.add_argument('-m', '--comment', metavar='TEXT', help='what was done, for those who read the changeset')
     parser.add_argument('--source', metavar='TEXT', help='where it is known from, such as survey')
@@ -46,11 +49,9 @@ def add_arguments(parser):
     parser.add_argument('--dry', action='store_true', help='show what would be sent, and ask no server')
 
 
-def run(arguments):
-    if not 1 <= arguments.chunk <= 10000:
-        raise Usage('--chunk wants a number from 1 to 10,000')
-    if arguments.at_most is not None and arguments.at_most < 1:
-        raise Usage('--at-most wants a number from 1 on')
+def run(arguments: argparse.Namespace) -> int:
+    """Sends; answers with the exit code."""
+    check_sizes(arguments.chunk, arguments.at_most)
     reviewed = reviewing.ReviewedBy(arguments.decisions) if arguments.reviewed else None
     wanted = Wanted(tuple(arguments.only), arguments.at_most, arguments.skip_conflicts, reviewed)
     results.put(sent=0, changesets=[], left=[], candidates=[], changes=None)
@@ -58,14 +59,47 @@ def run(arguments):
         return show(Session.of(arguments), arguments.chunk, wanted)
     tags = tags_of(arguments)
     server = api.server_of(arguments, note, writes=True)
-    session = Session.of(arguments)
-    one = Sending(session, server, tags, arguments.chunk, note, account=arguments.account, max_extent=arguments.max_extent)
+    one = Sending(Session.of(arguments), server, tags, arguments.chunk, note, account=arguments.account, max_extent=arguments.max_extent)
     part = Parts(one, wanted, note)
+    done = deliver(part, arguments.refresh or arguments.skip_conflicts, arguments.unseen, lambda news: refresh.show(news, server))
+    print('{} changes sent{}'.format(done.count, ' in ' + ', '.join('changeset ' + number for number in done.changesets) if done.changesets else ''))
+    for number in done.changesets:
+        print(server.link(number))
+    show_left(done.left)
+    return 0
+
+
+def check_sizes(chunk: int, at_most: Optional[int]) -> None:
+    """Usage where a number of changes is none that can be sent."""
+    if not 1 <= chunk <= 10000:
+        raise Usage('--chunk wants a number from 1 to 10,000')
+    if at_most is not None and at_most < 1:
+        raise Usage('--at-most wants a number from 1 on')
+
+
+@dataclass(frozen=True)
+class Sent:
+    """What a send did: how many changes the server took, the numbers of the changesets, and the keys of the edits that are left, by
+    the cause."""
+
+    count: int
+    changesets: Tuple[str, ...]
+    left: Dict[str, List[str]]
+
+
+def deliver(part: Parts, refreshes: bool, unseen: bool, brought: Callable[[refresh.News], object]) -> Sent:
+    """Sends what is wanted, looking first at what stands where new objects go, unless `unseen`.
+
+    With `refreshes` it refreshes where somebody was faster, and `brought` is called with what came. Raises what
+    `Parts.run` raises; what was taken before that is kept.
+    """
+    one, session = part.sending, part.session
+    reviewed = part.wanted.reviewed
     with session.day.locked():
         try:
-            if not arguments.unseen:
-                look(session, server, wanted)
-            deliver(part, MOST if arguments.refresh or arguments.skip_conflicts else 0)
+            if not unseen:
+                check_place(session, one.server, part.wanted, one.note)
+            send_through(part, MOST if refreshes else 0, brought)
             note_end(part, reviewed)
         except NoAnswer as silence:
             note_end(part, reviewed, silence)
@@ -74,41 +108,41 @@ def run(arguments):
             note_end(part, reviewed, trouble)
             raise
         finally:
-            results.put(sent=one.sent, changesets=[{'number': number, 'link': server.link(number)} for number in one.used])
+            results.put(sent=one.sent, changesets=[{'number': number, 'link': one.server.link(number)} for number in one.used])
             ledger.settle(session.day)
-    print('{} changes sent{}'.format(one.sent, ' in ' + ', '.join('changeset ' + number for number in one.used) if one.used else ''))
-    for number in one.used:
-        print(server.link(number))
-    show_left(part.left)
-    return 0
+    return Sent(one.sent, tuple(one.used), part.left)
 
 
-def look(session, server, wanted):
-    """Looks at the server for what stands already where new objects are to go; Refused where there are candidates.
-
-    Where a send was stopped it was looked at before that.
-    """
+def look(session: Session, server: api.Server, wanted: Wanted, note: Callable[[str], object]) -> fresh.Look:
+    """What stands at the server already where new objects are to go. Where a send was stopped it was looked at before that."""
     if session.day.pending() or session.day.held():
-        return
+        return fresh.Look()
     found = table.of_file(session.day.last().path)
     if not any(key[0] != 'r' for key in found.new()):
-        return
+        return fresh.Look()
     sending.check_server(session.day, server)
     area = parts.look(session, found, wanted, server, note)
     for line in fresh.told(session.day, area):
         note(line)
+    return area
+
+
+def check_place(session: Session, server: api.Server, wanted: Wanted, note: Callable[[str], object]) -> None:
+    """Refused where something stands at the server already that may be one of the new objects."""
+    area = look(session, server, wanted, note)
     results.put(candidates=[{'key': one.key, 'there': one.there.key, 'why': one.why, 'metres': round(one.metres, 1)} for one in area.candidates])
+    details = []
     for one in area.candidates[:SHOWN]:
         by = ' by {}'.format(sides.plain(one.there.user)) if one.there.user else ''
-        print('{} may be {}: {}, {:.0f} m away; version {}{}'.format(one.key, sides.title(one.there), one.why, one.metres, one.there.version, by))
+        details.append('{} may be {}: {}, {:.0f} m away; version {}{}'.format(one.key, sides.title(one.there), one.why, one.metres, one.there.version, by))
     if len(area.candidates) > SHOWN:
-        print('and {} more'.format(len(area.candidates) - SHOWN))
+        details.append('and {} more'.format(len(area.candidates) - SHOWN))
     if area.candidates:
         raise Refused('nothing is sent: {} of {} new objects may be there already; look at them, take out what is (yoke do, purge KEYS), '
-                      'and send the rest by --unseen'.format(len(area.candidates), area.new))
+                      'and send the rest by --unseen'.format(len(area.candidates), area.new), details)
 
 
-def note_end(part, reviewed, trouble=None):
+def note_end(part: Parts, reviewed: Any, trouble: Optional[Trouble] = None) -> None:
     """Notes in the log of the day how a send ended: what went out, what is left and why, how it was reviewed."""
     if trouble is not None and not part.sending.sent:
         return
@@ -120,7 +154,7 @@ def note_end(part, reviewed, trouble=None):
     journal.note(part.day, **entry)
 
 
-def show_left(left):
+def show_left(left: Mapping[str, Iterable[str]]) -> None:
     """Names the edits that stay here, by the cause."""
     results.put(left=[{'why': why, 'keys': sorted(keys, key=opl.rank)} for why, keys in left.items()])
     for why, keys in left.items():
@@ -131,7 +165,7 @@ def show_left(left):
         print('nothing is left to send')
 
 
-def deliver(part, refreshes):
+def send_through(part: Parts, refreshes: int, brought: Callable[[refresh.News], object]) -> None:
     """Sends; where somebody was faster it refreshes, so many times at most. Clash where something is in conflict, or nothing came that is newer."""
     while True:
         try:
@@ -139,9 +173,9 @@ def deliver(part, refreshes):
         except Clash as clash:
             if not refreshes:
                 raise
-            note(str(clash))
-            news = refresh.bring(part.session, part.sending.server, clash.keys)
-            refresh.show(news, part.sending.server)
+            part.note(str(clash))
+            news = refresh.bring(part.session, part.sending.server, clash.keys, part.note)
+            brought(news)
             if news.left and not part.wanted.skip_conflicts:
                 raise Clash('{} in conflict: yoke resolve, and send again'.format(len(news.left))) from None
             if not news.merged:
@@ -149,17 +183,24 @@ def deliver(part, refreshes):
             refreshes -= 1
 
 
-def tags_of(arguments):
-    """The tags of a changeset; Usage where OpenStreetMap wouldn't take them, or where they would say something untrue."""
-    if not (arguments.comment or '').strip():
+def tags_of(arguments: argparse.Namespace) -> Dict[str, str]:
+    """The tags of a changeset that the words of a command line name."""
+    marks = [key for wanted, key in ((arguments.bot, 'bot'), (arguments.imports, 'import'), (arguments.review, 'review_requested')) if wanted]
+    return changeset_tags(arguments.comment, arguments.source, marks, arguments.tag)
+
+
+def changeset_tags(comment: Optional[str], source: Optional[str] = None, marks: Iterable[str] = (), more: Iterable[str] = ()) -> Dict[str, str]:
+    """The tags of a changeset: `marks` are keys that become `yes`, and `more` has each other tag as KEY=VALUE.
+
+    Usage where OpenStreetMap wouldn't take them, or where they would say something untrue.
+    """
+    if not (comment or '').strip():
         raise Usage('send wants a comment: -m \'what was done\'')
-    tags = {'created_by': api.CREATED_BY, 'comment': arguments.comment}
-    if arguments.source:
-        tags['source'] = arguments.source
-    for wanted, key in ((arguments.bot, 'bot'), (arguments.imports, 'import'), (arguments.review, 'review_requested')):
-        if wanted:
-            tags[key] = 'yes'
-    for pair in arguments.tag:
+    tags = {'created_by': api.CREATED_BY, 'comment': comment or ''}
+    if source:
+        tags['source'] = source
+    tags.update({key: 'yes' for key in marks})
+    for pair in more:
         key, sign, value = pair.partition('=')
         if not key or not sign or not value.strip():
             raise Usage(f'--tag wants KEY=VALUE, and not {words.cut(pair)}')
@@ -194,7 +235,7 @@ def degrees(text: str) -> int:
     return units
 
 
-def show(session, size, wanted):
+def show(session: Session, size: int, wanted: Wanted) -> int:
     """What would be sent, and what would be left."""
     answer, left = parts.preview(session, size, wanted)
     changes = answer.text('upload')[1:]

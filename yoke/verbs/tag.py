@@ -1,7 +1,7 @@
 """`yoke tag`: tags of many objects, of those that a query finds or row by row of a table."""
 import argparse
 from collections import Counter
-from typing import Dict, List, Optional, Sequence, Tuple
+from typing import Callable, Dict, Iterable, List, Optional, Sequence, Tuple
 
 from yoke import choices, opl, results, table
 from yoke.files import check_outputs, data_of
@@ -69,19 +69,11 @@ def run(arguments: argparse.Namespace) -> int:
     for name in OF_TABLE:
         if getattr(arguments, name):
             raise Usage('--{} is of a table: --csv'.format('tags' if name == 'rules' else name.replace('_', '-')))
-    accepted, tags = Accepted.of(arguments.accept), pairs(arguments.tags)
-    session = Session.of(arguments)
+    tags, session = pairs(arguments.tags), Session.of(arguments)
     with session.day.locked():
-        keys = arguments.keys.split(',') if arguments.keys else found(session, arguments.find)
-        if arguments.find:
-            accepted.stop(alike(session, keys, tags))
+        keys, lines = steps(session, tags, arguments.keys.split(',') if arguments.keys else None, arguments.find, arguments.accept,
+                            note if arguments.to == '-' else print)
         results.put(keys=keys, rows=None, listed=[], steps=[], file=None, session=None)
-        lines = ['tag {} T{}'.format(','.join(keys), opl.tags(tags))] if keys else []
-        if keys and arguments.find:
-            script = do.spared(session, Expanded(lines, [0] * len(lines)), accepted)
-            lines = script.lines
-            for _, text in script.notes:
-                (note if arguments.to == '-' else print)(text)
         if arguments.to:
             return write(session, arguments, lines)
         if keys:
@@ -91,6 +83,25 @@ def run(arguments: argparse.Namespace) -> int:
     if keys:
         print('kept as {}'.format(session.day.last().path))
     return 0
+
+
+def steps(session: Session, tags: Dict[str, str], named: Optional[Sequence[str]], query: Optional[str], accept: Optional[Iterable[str]],
+          tell: Callable[[str], object]) -> Tuple[List[str], List[str]]:
+    """The keys of the named objects, or of those that a query finds, and the lines that set their tags; the folder of the day has to be locked.
+
+    `tell` gets each line about what is left out. Refused where all objects of a query would get what each has for itself.
+    """
+    accepted = Accepted.of(accept)
+    keys = list(named) if named is not None else found(session, query or '')
+    if named is None:
+        accepted.stop(alike(session, keys, tags))
+    lines = ['tag {} T{}'.format(','.join(keys), opl.tags(tags))] if keys else []
+    if keys and named is None:
+        script = do.spared(session, Expanded(lines, [0] * len(lines)), accepted)
+        lines = script.lines
+        for _, text in script.notes:
+            tell(text)
+    return keys, lines
 
 
 def write(session: Session, arguments: argparse.Namespace, lines: List[str]) -> int:
