@@ -7,8 +7,8 @@
         work.send('-m', 'no created_by')
         work.end()
 
-`by_hand` reckons what sending the same takes by hand, by the recipes of docs/: what a reader types who has `editor`, `curl`,
-`osmium` and the tools of examples/python.
+`by_hand` reckons what sending the same takes by hand: the commands of somebody who has `editor`, `curl`, `osmium` and scripts that
+make documents and answer files.
 """
 import pathlib
 import subprocess

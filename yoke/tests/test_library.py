@@ -166,7 +166,7 @@ class WholeDay(ServerTest):
         self.assertEqual(['n1'], [one.key for one in self.night.edits()])
         self.assertEqual('start', self.night.undo().verb)
         with self.assertRaises(yoke.BadLine) as bad:
-            self.night.run(['tga n1 Tref=7'])
+            self.night.run(['insert n1'])
         self.assertEqual(1, bad.exception.line)
         self.write('trees.csv', 'lon,lat,natural\n13.0011,52.0002,tree\n')
         with self.assertRaises(Refused) as unnamed:

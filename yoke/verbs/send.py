@@ -247,6 +247,7 @@ def show(session: Session, size: int, wanted: Wanted) -> int:
     print('{} changes would be sent: {create} new, {modify} changed, {delete} deleted'.format(answer.upload_size(), **counts))
     if left:
         show_left(left)
-    if session.day.pending():
-        print('before that send looks what the server took of {}'.format(session.day.path(session.day.pending())))
+    pending = session.day.pending()
+    if pending:
+        print('before that send looks what the server took of {}'.format(session.day.path(pending)))
     return 0

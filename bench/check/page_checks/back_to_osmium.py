@@ -1,9 +1,8 @@
 """What comes out goes back to osmium: snapshots, histories with deletions, and change files."""
 import re
-import sys
 
 from bench.check.page_checks.case import case, expect, finds_fault
-from bench.check.page_checks.page import Wrong, all_sections, blocks_with
+from bench.check.page_checks.page import all_sections, blocks_with
 from bench.check.page_checks.room import Room, random_steps, room_of, run_section, town
 
 OLD_SNAPSHOT = '''grep '^[nwr]' out.txt > objects.opl
@@ -63,40 +62,6 @@ def derive_changes(program):
         expect((0, ''), room.run(['osmium', 'sort', 'after.opl', '-o', 'after.osm.pbf']))
         expect((0, ''), room.run(['osmium', 'derive-changes', 'before.osm.pbf', 'after.osm.pbf', '-o', 'changes.osc']))
         expect((0, ''), room.run(['osmium', 'cat', 'changes.osc', '-f', 'opl']))
-
-
-@case('`changes.py` has as many changes as `count` counts, and osmium reads them')
-def change_file(program):
-    with Room(program) as room:
-        numbers = edited_town(room)
-        status, said = room.run([sys.executable, 'python/changes.py', '--partial', 'town.opl', 'out.txt', '-o', 'changes.osc'])
-        expect(0, status)
-        if not re.fullmatch(r'(changes.py: \d+ objects? in (town.opl alone, purged, or out.txt is cut off|out.txt alone, .*): .*\n){0,2}', said):
-            raise Wrong(said)
-        status, said = room.run(['osmium', 'cat', 'changes.osc', '-f', 'opl'])
-        expect(numbers['changed'], str(len(said.splitlines())))
-        expect(numbers['deleted'], str(said.count(' dD ')))
-        # what the file marks as deleted was not deleted here
-        room.write('gone.opl', 'n7 v2 dD\nn8 v1 x1 y1\n')
-        room.write('gone.txt', room.session('download gone.opl', 'delete n8', 'print'))
-        status, said = room.run([sys.executable, 'python/changes.py', 'gone.opl', 'gone.txt'])
-        expect((0, 1, 1), (status, said.count('<node '), said.count('<node id="8"')))
-        # lines that a download skips are no end of the file
-        room.write('notes.opl', 'n1 v1 x1 y1\n# a note\nn2 v1 x1 y1\n\nn3 v1 x1 y1\nc1 k2\nn4 v1 x1 y1\n')
-        room.write('notes.txt', room.session('download notes.opl', 'tag n1,n2,n3,n4 Tref=1', 'print', 'find changed', 'print'))
-        status, said = room.run([sys.executable, 'python/changes.py', 'notes.opl', 'notes.txt'])
-        expect((0, ['1', '2', '3', '4']), (status, re.findall('<node id="(.*?)"', said)))
-        # nor was what the file doesn't have: it is compared with a later download of another part
-        room.write('part.opl', 'n9 v1 x2 y2\n')
-        room.write('part.txt', room.session('download gone.opl', 'delete n8', 'download part.opl', 'tag n9 Tref=1', 'print'))
-        status, said = room.run([sys.executable, 'python/changes.py', 'part.opl', 'part.txt'])
-        expect((0, ['9']), (status, re.findall('<node id="(.*?)"', said)))
-        # relations of relations: what is made after its members, and what is deleted before them
-        room.write('nested.opl', 'n1 v1 x1 y1\nr1 v1 Mr2@,n1@\nr2 v1 Mr4@\nr3 v1 Mr3@,r1@\nr4 v1 Mr2@\n')
-        room.write('nested.txt', room.session('download nested.opl', 'delete r1,r2,r3,r4', 'relation T Mn1@', 'relation T Mn1@', 'relation T Mr-2@',
-                                              'members r-1 Mr-2@,r-3@', 'print'))
-        status, said = room.run([sys.executable, 'python/changes.py', 'nested.opl', 'nested.txt'])
-        expect((0, ['-2', '-3', '-1', '3', '1', '2', '4']), (status, re.findall('<relation id="(.*?)"', said)))
 
 
 @case('what a page has written by osmium it writes a second time: such sections run twice in one folder')

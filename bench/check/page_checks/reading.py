@@ -1,6 +1,5 @@
 """The pages as a reader meets them: names of files, links, length, and how far it is to what somebody looks for."""
 import functools
-import http.server
 import os
 import pathlib
 import re
@@ -8,17 +7,14 @@ import shutil
 import subprocess
 import sys
 import tempfile
-import threading
-from unittest import mock
 
 from bench.check import counted
 from bench.check.page_checks.case import case, expect, finds_fault
 from bench.check.page_checks.entries import HEADS, NEEDED, entries
-from bench.check.page_checks.page import (FEWER_WORDS, FRONT, MOST_WORDS, OTHERS, PAGES, TOP, Block, Wrong, all_blocks, headings, lines_of, link_of, links,
+from bench.check.page_checks.page import (FEWER_WORDS, FRONT, MOST_WORDS, OTHERS, PAGES, TOP, Block, Wrong, headings, lines_of, link_of, links,
                                           links_lead, shows_its_name, tables, text_of, told, words, writes_whole)
 from bench.check.page_checks.room import Room
 from launcher import main as launcher, manual
-from yoke import api
 
 NAMELESS = Block(1, 'opl', ['part.opl'], 'n1 v1 x1 y1\n')
 # what somebody looks for is at most so many links from the first page
@@ -35,7 +31,7 @@ def names_shown(_):
         finds_fault(lambda: shows_its_name(NAMELESS, before))
 
 
-OLD_RECIPES = ['python3 python/answers.py send.txt 1 result.xml > answers-1\n', 'yokeorange day.script>day.saved\n', 'cat a >> b\n', '{ echo x; } > repair.script\n',
+OLD_RECIPES = ['python3 python/session.py day.script > day.saved\n', 'yokeorange day.script>day.saved\n', 'cat a >> b\n', '{ echo x; } > repair.script\n',
                'osmium cat a.osm -f opl 1> fresh.opl\n', "printf 'a' > b\n"]
 HARMLESS = ['echo lost >&2\n', 'rm x 2> /dev/null\n', "awk '$1 > 2' f\n", '# a > b\ncat f\n', 'grep x f | python3 python/whole.py -o g\n', 'cat f > /dev/null 2>&1\n']
 
@@ -199,60 +195,6 @@ def for_whom(_):
             says_for_whom(lines_of(page))
     for lines in (['# Send', '', 'To send edits.'], ['# Send', '', '## For mappers'], ['# Send', 'Before you send', 'For mappers.'], ['# Send', '', 'Forwho.'], ['# Send']):
         finds_fault(lambda: says_for_whom(lines))
-
-
-# ---- a program that a page prints ----
-
-class Answering(http.server.BaseHTTPRequestHandler):
-    """A server that answers each document with the status that its path names, and a redirect with one to a path that takes anything."""
-
-    def do_POST(self):
-        self.rfile.read(int(self.headers['Content-Length']))
-        self.answer(int(self.path.split('/')[1]))
-
-    def do_GET(self):
-        self.answer(200)
-
-    def answer(self, status):
-        self.send_response(status)
-        self.send_header('Location', '/taken')
-        self.send_header('Content-Length', '0')
-        self.end_headers()
-
-    def log_message(self, *_):
-        pass
-
-
-def statuses_not_taken(text):
-    """The statuses after which the function `ask` of a program for a Keeper says that a document wasn't taken; Wrong where it lets one through."""
-    found = {}
-    with http.server.ThreadingHTTPServer(('127.0.0.1', 0), Answering) as server, mock.patch.dict(os.environ, no_proxy='127.0.0.1'), \
-            mock.patch.object(sys, 'path', [str(TOP / 'examples' / 'python'), *sys.path]):
-        threading.Thread(target=server.serve_forever, daemon=True).start()
-        exec(text, found)
-        found['API'] = 'http://127.0.0.1:{}/'.format(server.server_port)
-        refused = [status for status in [*range(300, 309), *range(400, 460), 499, *range(500, 512)] if not_taken(found, status)]
-        server.shutdown()
-    return refused
-
-
-def not_taken(found, status):
-    """Whether `ask` says of this status that the document wasn't taken."""
-    try:
-        found['ask']('{}/upload'.format(status), '<osmChange/>')
-    except found['NotTaken']:
-        return True
-    except OSError:
-        return False
-    raise Wrong('a {} counts as an answer'.format(status))
-
-
-@case('the program for a Keeper that a page prints takes a document as not taken where yoke does, and the check sees the old one')
-def not_taken_alike(_):
-    text, = [block.text for block in all_blocks() if block.kind == 'python' and 'NotTaken' in block.text and 'urllib' in block.text]
-    expect(sorted({*api.NOT_DONE, 429}), statuses_not_taken(text))
-    for old in (text.replace('in NOT_DONE', '< 500'), text.replace('return None', 'return super().redirect_request(*words)')):
-        finds_fault(lambda: expect(sorted({*api.NOT_DONE, 429}), statuses_not_taken(old)))
 
 
 # ---- length ----

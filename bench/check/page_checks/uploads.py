@@ -1,11 +1,12 @@
 """Uploads: the documents for a server, its answers, and a whole upload in stages."""
 import pathlib
 import re
-import sys
 
-from bench.check.page_checks.case import case, expect, indent
-from bench.check.page_checks.page import TOP, Wrong, all_blocks, blocks_with
+from bench.check.page_checks.case import case, expect
+from bench.check.page_checks.page import TOP, Wrong, all_blocks, table
 from bench.check.page_checks.room import Room, random_steps, town
+from yoke import api, osc
+from yoke.program import Answer
 
 CHANGESET = 4711
 
@@ -34,10 +35,8 @@ def as_osmium_writes(change):
 
 def same_in_osmchange(room, output, chunks):
     """The document of each chunk has just its changes, as osmium reads it."""
-    room.write('out.txt', output)
-    for at, chunk in enumerate(chunks):
-        status, said = room.run([sys.executable, 'python/osmchange.py', 'out.txt', str(at + 1), str(CHANGESET)])
-        expect(0, status)
+    for chunk, changes in zip(chunks, chunks_of(output)):
+        said = osc.document(changes, str(CHANGESET))
         verbs = [change.split(' ')[0] for change in chunk]
         expect([verb for place, verb in enumerate(verbs) if place == 0 or verbs[place - 1] != verb],
                re.findall(r'^  <(create|modify|delete)>$', said, re.M))
@@ -58,7 +57,12 @@ def random_uploads(room, seed):
     return [upload for upload in uploads_of(said) if len(upload[2]) <= MOST_CHUNKS]
 
 
-@case('`osmchange.py` has as many changes as `upload` counts, and osmium reads each of them as it stands there')
+def chunks_of(output):
+    """The chunks of the last upload of an output, as yoke reads them."""
+    return list(Answer(output, [''] * (output.count('\n') + 1)).chunks())
+
+
+@case('the documents that yoke sends have as many changes as `upload` counts, and osmium reads each of them as it stands there')
 def osmchange(program):
     seen = set()
     for seed in (1, 3):
@@ -76,7 +80,7 @@ UPLOAD = TOP / 'examples' / 'upload'
 STAGES = [(11, 1, 1), (19, 1, 2), (22, 1, 3)]      # the script's lines up to an upload, the chunk that was taken, and its answers
 
 
-@case('examples/upload: each stage is a beginning of the whole script, and `answers.py` makes its answer files')
+@case('examples/upload: each stage is a beginning of the whole script, and yoke makes its answer files of what a server answers')
 def whole_upload(program):
     with Room(program) as room:
         room.folder = room.folder / 'upload'
@@ -87,13 +91,15 @@ def whole_upload(program):
             room.write('stage.script', ''.join(lines[:count]))
             status, said = room.run(['yokeorange', 'stage.script'])
             expect((0, True), (status, want.startswith(said)))
-            room.write('stage.txt', said)
-            made = room.run([sys.executable, '../python/answers.py', 'stage.txt', str(chunk), 'result-{}.xml'.format(number)])
-            expect((0, (UPLOAD / 'answers-{}'.format(number)).read_text()), made)
+            sent = chunks_of(said)[chunk - 1]
+            made = osc.answers(sent, (UPLOAD / 'result-{}.xml'.format(number)).read_text())
+            expect((UPLOAD / 'answers-{}'.format(number)).read_text().splitlines(), made)
             for other in {1, 2, 3} - {number}:
-                status, said = room.run([sys.executable, '../python/answers.py', 'stage.txt', str(chunk), 'result-{}.xml'.format(other)])
-                if status != 1 or 'Traceback' in said:
-                    raise Wrong('the answers to another chunk are taken: {}'.format(said))
+                try:
+                    osc.answers(sent, (UPLOAD / 'result-{}.xml'.format(other)).read_text())
+                except ValueError:
+                    continue
+                raise Wrong('the answers to another chunk are taken: {}'.format(other))
 
 
 @case('examples/upload: what the server took, by osmium, over the extract is what the session prints')
@@ -105,9 +111,7 @@ def whole_upload_by_osmium(program):
         expect((0, ''), room.run(['osmium', 'time-filter', 'area.osh.pbf', '-o', 'area.osm.pbf']))
         ids, documents = {}, []
         for count, chunk, number in STAGES:
-            room.write('stage.txt', room.session(*''.join(lines[:count]).splitlines()))
-            status, said = room.run([sys.executable, '../python/osmchange.py', 'stage.txt', str(chunk), '4711'])
-            expect(0, status)
+            said = osc.document(chunks_of(room.session(*''.join(lines[:count]).splitlines()))[chunk - 1], '4711')
             for line in (UPLOAD / 'answers-{}'.format(number)).read_text().splitlines():
                 if line.startswith('create '):
                     old, new = [key[1:] for key in line.split(' ')[1:3]]
@@ -134,17 +138,22 @@ def same_upload(_):
     expect((UPLOAD / 'mill.expected').read_text(), bundle.split('= expect done\n')[1])
 
 
-@case('`osmchange.py` ends with 1 and says why where there is no such chunk')
-def no_chunk(program):
-    with Room(program) as room:
-        room.write('none.txt', room.session('download town.opl', 'upload 1'))
-        room.write('one.txt', room.session('download town.opl', 'tag n1 Tref=7', 'upload 1'))
-        for words, text in [([], 'osmchange.py OUTPUT CHUNK CHANGESET'), (['one.txt', '0', '1'], 'osmchange.py OUTPUT CHUNK CHANGESET'),
-                            (['gone.txt', '1', '1'], 'gone.txt'), (['none.txt', '1', '1'], 'no upload'), (['town.opl', '1', '1'], 'no upload'),
-                            (['one.txt', '2', '1'], 'no chunk 2')]:
-            status, said = room.run([sys.executable, 'python/osmchange.py', *words])
-            if status != 1 or text not in said or 'Traceback' in said:
-                raise Wrong('{}: status {}\n{}'.format(words, status, indent(said)))
+def statuses_of(cell):
+    """The statuses that a cell names, such as `401, 403 to 406, 451`."""
+    found = set()
+    for first, last in re.findall(r'\b([1-5][0-9]{2})(?: to ([1-5][0-9]{2}))?', cell):
+        found.update(range(int(first), int(last or first) + 1))
+    return found
+
+
+@case('the page on the protocol takes a document as not taken after the statuses after which yoke does, and no other')
+def not_taken(_):
+    refused = set()
+    for status, document, _ in table('status', 'the document').rows:
+        if document.startswith('not taken') or '409' in status:
+            refused |= statuses_of(status)
+    expect(sorted({*api.NOT_DONE, 429}), sorted(refused))
+    expect({401, 403, 404, 405, 451}, statuses_of('401, 403 to 405, 451'))
 
 
 @case('no recipe confirms a file without an answer')
@@ -156,14 +165,3 @@ def confirmed(_):
     if len(named) < 8:
         raise Wrong('only {} were found'.format(named))
     expect([], [name for name in named if name not in answered])
-
-
-@case('an answer that never came is confirmed by nobody: the steps of the page, with a slip in the name of a file')
-def not_sent_twice(program):
-    with Room(program) as room:
-        step = [line for line in blocks_with('send.txt 1 result.xml -o answers-1')[0].splitlines() if 'answers.py' in line][0]
-        room.write('send.script', 'download monday.opl\nnode x13.004 y52 T\nupload 10\n')
-        expect((0, ''), room.sh('python3 python/session.py send.script -o send.txt\n'))
-        status, said = room.sh(step.replace('result.xml', 'resutl.xml') + '\n')
-        expect((1, True), (status, 'resutl.xml' in said))
-        expect('4 refused 19', room.session(*(room.folder / 'send.script').read_text().splitlines(), 'confirm answers-1', 'upload 10').splitlines()[6])
