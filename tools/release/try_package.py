@@ -123,8 +123,8 @@ class Debian:
             *words,
         ]
 
-    def run(self, *words: str, user: str = 'root', folder: str = '/') -> str:
-        """Runs a command inside: what it writes. Raises `Stop` where it fails."""
+    def ended(self, *words: str, user: str = 'root', folder: str = '/') -> tuple[int, str]:
+        """Runs a command inside: its status, and what it writes."""
         done = subprocess.run(
             self.command(*words, user=user, folder=folder),
             stdin=subprocess.DEVNULL,
@@ -132,11 +132,14 @@ class Debian:
             stderr=subprocess.STDOUT,
             text=True,
         )
-        if done.returncode:
-            raise Stop(
-                f'{" ".join(words)[:200]} ended with {done.returncode}:\n{done.stdout[-4000:]}'
-            )
-        return done.stdout
+        return done.returncode, done.stdout
+
+    def run(self, *words: str, user: str = 'root', folder: str = '/') -> str:
+        """The same: what it writes. Raises `Stop` where it fails."""
+        status, said = self.ended(*words, user=user, folder=folder)
+        if status:
+            raise Stop(f'{" ".join(words)[:200]} ended with {status}:\n{said[-4000:]}')
+        return said
 
     def install(self, *names: str, recommends: bool = True) -> None:
         """Installs packages by apt."""
@@ -294,9 +297,10 @@ def try_clone(debian: Debian, checks: bool) -> None:
     if checks:
         debian.run('git', 'checkout', '-q', '.', user=USER, folder=inside)
         begun = time.monotonic()
-        said = debian.run('./check', '--quick', user=USER, folder=inside).splitlines()
-        print('\n'.join(it for it in said if not it.startswith('ok ')))
+        status, said = debian.ended('./check', '--quick', user=USER, folder=inside)
+        print(re.sub(r'^ok .*\n', '', said, flags=re.M))
         print(f'./check --quick: {time.monotonic() - begun:.0f} s{load()}')
+        bad += [f'./check --quick ended with {status}'] * (status != 0)
     if bad:
         raise Stop('\n'.join(bad))
 
@@ -309,7 +313,7 @@ def load() -> str:
 def told_of(
     debian: Debian, name: str, folder: str, most: float, text: str, times: int = 1
 ) -> list[str]:
-    """What of some commands was too much: they are timed, and the best of a few times is printed."""
+    """What of some commands was too much: it times them, and prints the best of a few times."""
     told = min((timed(debian, folder, text) for _ in range(times)), key=lambda it: it.seconds)
     print(f'{name}: {told.text()}{load()}', flush=True)
     bad = [f'{name}: {told.seconds:.2f} s, and {most} s are the most'] * (told.seconds > most)
