@@ -13,7 +13,7 @@ OTHERS = ['yoke/README.md']
 COMMANDS = re.compile(r'\s*(\.\.?/editor|yokeorange|yoke|curl|osmium|grep|python3|cd|cp|install|sed|rt) ')
 # the words of a fence whose block is a file, where a name stands after them
 FILES = ('script', 'opl', 'python', 'answers', 'xml', 'json', 'csv', 'rules')
-MOST_WORDS = 4_000          # of a page that is read at one sitting
+MOST_WORDS = 3_500          # of a page that is read at one sitting
 FEWER_WORDS = {'docs/PROOF.md': 2_800}
 
 Block = namedtuple('Block', 'line kind words text')
