@@ -21,6 +21,7 @@ ENDINGS = ('.script', '.opl', '.csv', '.geojson', '.questions')
 COLUMNS = ('feature', 'what', 'decision', 'why', 'candidate', 'score', 'metres', 'name', 'its name',
            'lon', 'lat')
 SHOWN = 5               # candidates of one feature
+UNFINISHED = 'yoke conflate was stopped while it wrote these files: run it again'   # no line of a script
 FORMULA = ('=', '+', '-', '@', '\t', '\r')
 
 
@@ -95,7 +96,8 @@ def write(name: str, one: Outcome, head: List[str], gone: Sequence[Tuple[str, st
         by_tags.setdefault(opl.tags(tags), []).append(key)
     lines = [f'tag {",".join(keys)} T{tags}' for tags, keys in by_tags.items()]
     new, path = ''.join(line + '\n' for line in one.drawing.lines()), os.path.abspath(name + '.opl')
-    pathlib.Path(name + '.script').unlink(missing_ok=True)      # it is for the old .opl
+    # the old script is for the old .opl; this one says whose the files are if yoke is stopped here
+    day.write_whole(name + '.script', ''.join(line + '\n' for line in [*head, UNFINISHED]))
     if new:
         day.write_whole(path, new)
         head = [*head, bound.with_file(path, new)]

@@ -109,8 +109,9 @@ class Wishes(collections.UserDict):
 class Ledger:
     """What the mapper has edited and the server hasn't got yet; each change of the server is held against it."""
 
-    def __init__(self, server: StrictServer):
+    def __init__(self, server: StrictServer, user: str = MAPPER.name):
         self.server = server
+        self.user = user                                    # the account that sends what is edited here
         self.wishes = Wishes()
         self.names: Dict[str, str] = {}                     # the keys that new objects got
         self.read = 0                                       # changes of the server that were looked at
@@ -202,7 +203,7 @@ class Ledger:
         """Holds all new changes of the server against the wishes."""
         history = self.server.history
         for change in history[self.read:]:
-            if change.user == MAPPER.name:
+            if change.user == self.user:
                 self.landed += 1
                 self._landed(change.verb, change.element, change.element.kind[0] + str(change.old_id))
         self.read = len(history)
@@ -242,7 +243,7 @@ class Ledger:
             there = self.server.database.current(element.key)
             if may_be_older and there is not None and element.version < there.version:
                 later = [one for one in self.server.database.versions[element.key] if one.version > element.version]
-                if any(one.user == MAPPER.name for one in later):
+                if any(one.user == self.user for one in later):
                     raise Failed('the session has {}, and the mapper sent {}'.format(opl(element), opl(later[-1])))
                 there = next((one for one in self.server.database.versions[element.key] if one.version == element.version), None)
             if there is None or (element.version, element.content) != (there.version, there.content):

@@ -8,6 +8,7 @@ from unittest import mock
 
 from hypothesis import given, settings, strategies
 
+from yoke import day
 from yoke.conflate import match, names, outputs, rules, shapes
 from yoke.conflate.shapes import Thing
 from yoke.tests.support import FolderTest
@@ -193,6 +194,24 @@ class Verb(ConflateTest):
             self.assertEqual('mine', (self.folder / ('c' + ending)).read_text())
             (self.folder / ('c' + ending)).unlink()
         self.assertEqual(1, self.conflate('', name='c.csv'))      # it is read by the same command
+
+    def test_a_run_that_was_stopped_is_run_again(self):
+        write_whole, written = day.write_whole, []
+
+        def stop(name, text):
+            written.append(name)
+            if len(written) == 3:
+                raise KeyboardInterrupt
+            write_whole(name, text)
+
+        row = '13.00600,52.00100,bakery,Bäckerei Neu,6,\n'
+        with mock.patch('yoke.day.write_whole', stop):
+            self.conflate(row)
+        self.assertEqual(['c.script', 'c.opl', 'c.csv'], [name.split('/')[-1] for name in written])
+        self.assertEqual(1, self.yoke('do', 'c.script'))
+        self.assertIn('run it again', self.err)
+        self.assertEqual(0, self.conflate(row))
+        self.assertEqual(0, self.yoke('do', 'c.script'))
 
     def test_the_script_is_for_this_session(self):
         self.conflate('13.00101,52.00101,bakery,Bäckerei Koch,5,\n')

@@ -4,6 +4,7 @@ from __future__ import annotations
 import unittest
 
 from yoke.revert import plan
+from yoke.testing.elements import degrees
 from yoke.testing.server import MAPPER
 from yoke.tests.support import ServerTest
 from yoke.trouble import Clash, Refused, Usage
@@ -215,6 +216,16 @@ class SeveralChangesets(RevertTest):
         self.assertEqual(0, self.revert(third, first, second, first), self.out + self.err)
         self.assertEqual(0, self.send(), self.err)
         self.assert_as_before(*self.before)
+
+    def test_what_the_second_one_brought_back_stays_if_the_first_ones_objects_need_it(self) -> None:
+        first = self.changeset(delete('r3v1'), delete('w1v1', 'w2v1'))
+        self.server.edit('delete', 'n4')
+        second = self.changeset(modify(node(4, 2, lon='13.0044')))
+        self.assertEqual(4, self.revert(first, second), self.out + self.err)
+        self.assertIn('left out n4: it stays, because w', self.out)
+        self.assertEqual(0, self.send(), self.err)
+        self.assert_as_before('w1', 'w2', 'r3')
+        self.assertEqual('13.0044000', degrees(self.theirs()['n4'].lon))
 
 
 class Refusals(RevertTest):
