@@ -46,10 +46,10 @@ def wanted(one: Undone) -> Parts:
 def clashes(one: Undone) -> bool:
     """Whether the changesets and somebody since changed the same part, each to another value."""
     before, left, now = parts(one.before), parts(one.left), parts(one.now)
-    if not left or left == now:
+    if not left or left == now or before == now:
         return False
     if not before or not now:
-        return bool(before) != bool(now) or before != left
+        return before != left
     return any(left.get(name) not in (before.get(name), now.get(name)) and before.get(name) != now.get(name)
                for name in {*before, *left, *now})
 
