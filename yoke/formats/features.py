@@ -13,8 +13,8 @@ from typing import Any, Dict, Iterable, Iterator, List, Optional, Sequence, Tupl
 
 from yoke.formats.encodings import text_of
 
-LON = ('lon', 'lng', 'long', 'longitude', 'x')      # names of columns, in the order in which they are looked for
-LAT = ('lat', 'latitude', 'y')
+LON = ('lon', 'lng', 'long', 'longitude', 'x', '@lon')  # names of columns, in the order in which they are looked for
+LAT = ('lat', 'latitude', 'y', '@lat')                  # those with @ are of Overpass
 SIGNS = (',', ';', '\t', '|')                       # between the fields of a CSV
 DEGREES = ('CRS84', ':4326', '::4326', 'EPSG:4326')
 

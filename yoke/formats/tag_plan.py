@@ -119,6 +119,14 @@ def counts(plan: Plan) -> str:
     return f'rows that found one object: {len(plan.one)}; none: {len(plan.none)}; several: {len(plan.several)}'
 
 
+def repeated(plan: Plan) -> Iterator[str]:
+    """Lines on the rows that only repeat another one, with the first ones."""
+    found = [f'{row.line} is line {row.repeats} again' for row in plan.rows if row.repeats]
+    if found:
+        more = f', and {len(found) - SHOWN} more' if len(found) > SHOWN else ''
+        yield f'repeated, and taken once: line {", ".join(found[:SHOWN])}{more}'
+
+
 def printed(plan: Plan, names: Sequence[str] = LISTS[1:]) -> Iterator[str]:
     """The first rows of each list, as lines."""
     for name in names:

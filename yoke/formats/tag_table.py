@@ -49,7 +49,8 @@ class Sheet:
 class Row:
     """A row: the number of its line, and the object and the tags that it names; or the `problem` for which it can't be taken.
 
-    `fields` are its values by column, and `still` what tags of the object have to be, empty for none.
+    `fields` are its values by column, and `still` what tags of the object have to be, empty for none. `repeats` is the line
+    that says the same of the object already, else 0.
     """
 
     line: int
@@ -58,6 +59,7 @@ class Row:
     problem: str = ''
     fields: Dict[str, str] = field(default_factory=dict)
     still: Dict[str, str] = field(default_factory=dict)
+    repeats: int = 0
 
 
 def sheet_of(data: bytes, encoding: Optional[str] = None) -> Sheet:
@@ -78,7 +80,7 @@ def key_columns(names: Sequence[str], given: Optional[str]) -> Tuple[str, ...]:
         if all(name in names for name in columns):
             return columns
     raise ValueError('no column names the objects: {} is wanted, and it has {}'.format(
-        given or 'key, or @type and @id, or --key COLUMN', ', '.join(names)))
+        given or 'key, or @type and @id, or --key COLUMN, or --where KEY={COLUMN} for a tag that finds it', ', '.join(names)))
 
 
 def guards(names: Iterable[str], given: Iterable[str] = ()) -> List[Rule]:
@@ -126,22 +128,26 @@ def key_of(text: str) -> str:
 
 
 def each_once(rows: Iterable[Row]) -> List[Row]:
-    """The rows, where a second one of an object is a problem."""
+    """The rows, where a second one of an object sets nothing if it says the same, and is a problem if it doesn't."""
     return list(_each_once(rows))
 
 
 def _each_once(rows: Iterable[Row]) -> Iterator[Row]:
-    lines: Dict[str, int] = {}
+    seen: Dict[str, Row] = {}
     for row in rows:
-        if row.key and not row.problem and lines.setdefault(row.key, row.line) != row.line:
-            row = replace(row, tags={}, problem='{} stands in line {} already'.format(row.key, lines[row.key]))
-        yield row
+        first = seen.setdefault(row.key, row) if row.key and not row.problem else row
+        if first is row:
+            yield row
+        elif (first.tags, first.still) == (row.tags, row.still):
+            yield replace(row, tags={}, repeats=first.line)
+        else:
+            yield replace(row, tags={}, problem='{} stands in line {} already, with other values'.format(row.key, first.line))
 
 
 def changed_since(row: Row, tags: MappingOf[str, str]) -> str:
-    """Which tag of an object isn't what a row says that it is still, in words; empty where all are."""
+    """Which tag of an object is neither what a row says that it is still nor what the row sets, in words; empty if none is."""
     for key, old in row.still.items():
         now = tags.get(key, '')
-        if now != old:
+        if now not in (old, row.tags.get(key)):
             return f'{key} is {now or "not set"}, and not {old or "unset"} any more'
     return ''

@@ -330,7 +330,18 @@ class Search(TableTest):
 
     def test_two_rows_that_find_the_same_object(self) -> None:
         self.put('b.csv', 'S;phone\nHuber;1\nHuber;2\n')
-        self.assertIn('b.csv:3: refused: n12 stands in line 2 already', self.refused('tag', '--csv', 'b.csv', '--where', 'name={S}', '--columns', 'phone'))
+        self.assertIn('b.csv:3: refused: n12 stands in line 2 already, with other values', self.refused('tag', '--csv', 'b.csv', '--where', 'name={S}', '--columns', 'phone'))
+
+    def test_a_row_that_stands_twice_is_taken_once(self) -> None:
+        self.put('b.csv', 'S;phone\nHuber;1\nHuber;1\n')
+        out = self.done('tag', '--csv', 'b.csv', '--where', 'name={S}', '--columns', 'phone')
+        self.assertIn('repeated, and taken once: line 3 is line 2 again', out)
+        self.assertIn('1 of 2 rows taken', out)
+
+    def test_places_in_the_columns_of_overpass(self) -> None:
+        self.put('b.csv', 'S;phone;@lat;@lon\nHuber;1;0;0\n')
+        words = ('tag', '--csv', 'b.csv', '--where', 'name={S}', '--columns', 'phone', '--within', '5')
+        self.assertIn('none: line 2', self.yoke(*words) and self.out)
 
     def test_among_what_a_query_finds(self) -> None:
         self.put('b.csv', 'S;phone\nHauptstraße;1\n')

@@ -79,9 +79,9 @@ class Tag(FolderTest):
         self.write('a.csv', 'key,surface\nw5,asphalt\nx7,sand\nw6\nw6,{}\nway/5,gravel\n,sand\n'.format('x' * 256))
         self.assertEqual(Refused.code, self.yoke('tag', '--csv', 'a.csv', '--columns', 'surface'))
         self.assertEqual(self.out, 'a.csv:3: refused: x7 names no object: as w5 or way/5\na.csv:4: refused: it has 1 fields, and the first line has 2\n'
-                         'a.csv:5: refused: surface: the value has 256 characters, and the map takes 255\na.csv:6: refused: w5 stands in line 2 already\n'
+                         'a.csv:5: refused: surface: the value has 256 characters, and the map takes 255\na.csv:6: refused: w5 stands in line 2 already, with other values\n'
                          'a.csv:7: refused: an empty field names no object: as w5 or way/5\n')
-        self.assertEqual(self.err, 'yoke: nothing is kept: 5 of 6 rows can\'t be taken\n')
+        self.assertEqual(self.err, 'yoke: nothing is kept: 5 of 6 rows can\'t be taken: mend these, or --keep takes the others\n')
         self.assertEqual(Refused.code, self.yoke('tag', '--csv', 'a.csv', '--columns', 'surface', '--keep'))
         self.assertIn('1 of 6 rows taken', self.out)
 

@@ -219,6 +219,7 @@ def tell(plan: tag_plan.Plan, sheet: Sheet, arguments: argparse.Namespace, found
         lines.append(tag_plan.counts(plan))
     if plan.changed:
         lines.append(f'rows whose object has changed: {len(plan.changed)}')
+    lines += tag_plan.repeated(plan)
     if arguments.lists:
         lines += [f'wrote {name}' for name in tag_plan.write_lists(plan, sheet, arguments.lists)]
     else:
@@ -236,7 +237,7 @@ def perform(session: Session, arguments: argparse.Namespace, plan: tag_plan.Plan
     for row in bad:
         print('{}:{}: refused: {}'.format(arguments.csv, row.line, plain(row.problem)))
     if bad and not arguments.keep:
-        raise Refused('nothing is kept: {} of {} rows can\'t be taken'.format(len(bad), count))
+        raise Refused('nothing is kept: {} of {} rows can\'t be taken: mend these, or --keep takes the others'.format(len(bad), count))
     if not good:
         raise Refused('nothing is kept: no row has a tag' if not plan.changed and len(plan.rows) == count else 'nothing is kept: no row is left to do')
     steps = Expanded(['tag {} T{}'.format(row.key, opl.tags(row.tags)) for row in good], [row.line for row in good])
