@@ -195,6 +195,22 @@ class Verb(ConflateTest):
             (self.folder / ('c' + ending)).unlink()
         self.assertEqual(1, self.conflate('', name='c.csv'))      # it is read by the same command
 
+    def test_what_lies_far_away_is_left_out(self):
+        row = '52.00600,13.00100,bakery,Bäckerei Neu,6,\n'
+        self.assertEqual(0, self.conflate(row))
+        self.assertEqual({'left out': 1}, self.kinds())
+        self.assertIn('exchanged they would lie in them', self.rows()[0]['why'])
+        self.assertEqual(0, self.conflate(row, '--anywhere'))
+        self.assertEqual({'new': 1}, self.kinds())
+
+    def test_a_row_that_stands_twice_is_taken_once(self):
+        self.write('c.rules', RULES + 'source-id NR\n')
+        row = '13.00101,52.00101,bakery,Bäckerei Koch,5,,A1\n'
+        words = ('--columns', 'shop,name,phone,ref:shop', '--ids', 'ids.csv')
+        self.assertEqual(0, self.conflate(row + row, *words, head='lon,lat,shop,name,phone,ref:shop,NR\n'))
+        self.assertEqual({'update': 1, 'left out': 1}, self.kinds())
+        self.assertEqual('it is the same as line 2', self.rows()[0]['why'])
+
     def test_a_run_that_was_stopped_is_run_again(self):
         write_whole, written = day.write_whole, []
 

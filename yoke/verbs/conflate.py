@@ -1,7 +1,7 @@
 """`yoke conflate`: features of a file beside what the session has: the same, to update, new, ambiguous."""
 import argparse
 import pathlib
-from typing import Dict, List, Mapping, Sequence, Tuple
+from typing import Dict, Iterator, List, Mapping, Sequence, Tuple
 
 from yoke import day, opl, results, table
 from yoke.conflate import match, outputs, rules as rule_file, shapes
@@ -18,6 +18,8 @@ from yoke.scripts import bound
 from yoke.session import Session
 from yoke.trouble import Refused, Trouble, Usage
 from yoke.verbs import do, import_
+
+LeftOut = Tuple[str, str]      # where a feature stands, and why it isn't taken
 
 SUMMARY = 'match the features of a GeoJSON or CSV file with objects that are there already'
 DETAILS = """\
@@ -45,6 +47,7 @@ def add_arguments(parser: argparse.ArgumentParser) -> None:
     parser.add_argument('--lon', metavar='COLUMN', help='the column of the longitude of a CSV')
     parser.add_argument('--lat', metavar='COLUMN', help='the column of the latitude of a CSV')
     parser.add_argument('--latitude-first', action='store_true', help='in FILE the latitude stands first')
+    parser.add_argument('--anywhere', action='store_true', help='take features far from all that the session has')
     parser.add_argument('--force', action='store_true', help='write over files that yoke did not write')
 
 
@@ -63,8 +66,11 @@ def run(arguments: argparse.Namespace) -> int:
     state = session.day.last()
     text = state.text()
     there = table.read(text)
-    features, left = taken(source.features, chosen, arguments.latitude_first)
-    ids = ids_of(source.features, rules)
+    bounds = drawing.WORLD if arguments.anywhere else import_.around(places_of(there))
+    once, left = each_once(source.features)
+    features, bad = taken(once, chosen, arguments.latitude_first, bounds)
+    left += bad
+    ids = ids_of(once, rules)
     before = ids_before(arguments.ids)
     known = {name: before[number] for name, number in ids.items() if before.get(number)}
     found = match.match(rules, features, objects(session, there, rules), known)
@@ -72,7 +78,7 @@ def run(arguments: argparse.Namespace) -> int:
     if shapes.shapely() is None and any(feature.is_area for feature in features):
         note('outlines are compared by a raster: python3-shapely compares them exactly')
     one = outputs.Outcome(rules, found, left)
-    picture = drawing.Drawing(chosen, latitude_first=arguments.latitude_first,
+    picture = drawing.Drawing(chosen, bounds, latitude_first=arguments.latitude_first,
                               there=drawing.shapes_of(there))
     one.draw(picture, {feature.where: feature for feature in source.features})
     gone = outputs.gone_by_tags(rules, found, there)
@@ -118,13 +124,36 @@ def tags_of(arguments: argparse.Namespace, source: import_.Source, rules: rule_f
     return chosen
 
 
-def taken(read: Sequence[Feature], chosen: Tags, latitude_first: bool
-          ) -> Tuple[List[Thing], List[Tuple[str, str]]]:
+def places_of(there: table.Table) -> Iterator[drawing.Place]:
+    """Where the nodes of a session are."""
+    for key, known in there.things.items():
+        place = drawing.place_of(known.mine) if key[0] == 'n' and known.mine else None
+        if place:
+            yield place
+
+
+def each_once(read: Sequence[Feature]) -> Tuple[List[Feature], List[LeftOut]]:
+    """The features without those that only repeat another one, and these."""
+    seen: Dict[str, str] = {}
+    found: List[Feature] = []
+    left: List[LeftOut] = []
+    for feature in read:
+        text = repr((feature.kind, feature.coordinates, feature.properties, feature.problem))
+        first = seen.setdefault(text, feature.where)
+        if first == feature.where:
+            found.append(feature)
+        else:
+            left.append((feature.where, f'it is the same as {first}'))
+    return found, left
+
+
+def taken(read: Sequence[Feature], chosen: Tags, latitude_first: bool, bounds: drawing.Box
+          ) -> Tuple[List[Thing], List[LeftOut]]:
     """The features as Things, and those that are left out, each with the cause."""
     found: List[Thing] = []
-    left: List[Tuple[str, str]] = []
+    left: List[LeftOut] = []
     for feature in read:
-        sketch = drawing.Drawing(chosen, latitude_first=latitude_first)
+        sketch = drawing.Drawing(chosen, bounds, latitude_first=latitude_first)
         sketch.add(feature)
         if sketch.left:
             left += sketch.left

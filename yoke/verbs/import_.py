@@ -7,7 +7,7 @@ import re
 import tempfile
 from collections import Counter
 from dataclasses import dataclass, replace
-from typing import Any, Callable, Dict, List, Optional, Tuple
+from typing import Any, Callable, Dict, Iterable, List, Optional, Tuple
 
 from yoke import day, imports, ledger, opl, printing, results, table
 from yoke.files import check_outputs, data_of
@@ -266,12 +266,23 @@ def bounds(arguments: argparse.Namespace, there: Dict[drawing.Place, str]) -> dr
     given = given_box(arguments)
     if given:
         return given
-    if arguments.anywhere or not there:
+    return drawing.WORLD if arguments.anywhere else around(there)
+
+
+def around(there: Iterable[drawing.Place]) -> drawing.Box:
+    """The box of some places, widened by a tenth on each side, and by 0.01 degree at least; the world where there is none.
+
+    A box that would go over the 180th meridian has all longitudes.
+    """
+    places = list(there)
+    if not places:
         return drawing.WORLD
-    lons, lats = zip(*there)
+    lons, lats = zip(*places)
     wide, high = (max(LEAST, (max(side) - min(side)) // 10) for side in (lons, lats))
     west, south, east, north = drawing.WORLD
-    return (max(min(lons) - wide, west), max(min(lats) - high, south), min(max(lons) + wide, east), min(max(lats) + high, north))
+    if west <= min(lons) - wide and max(lons) + wide <= east:
+        west, east = min(lons) - wide, max(lons) + wide
+    return west, max(min(lats) - high, south), east, min(max(lats) + high, north)
 
 
 def report(picture: drawing.Drawing, plan: imports.Plan, name: Optional[str], tell: Callable[[str], object]) -> None:

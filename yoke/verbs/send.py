@@ -138,8 +138,9 @@ def check_place(session: Session, server: api.Server, wanted: Wanted, note: Call
     if len(area.candidates) > SHOWN:
         details.append('and {} more'.format(len(area.candidates) - SHOWN))
     if area.candidates:
-        raise Refused('nothing is sent: {} of {} new objects may be there already; look at them, take out what is (yoke do, purge KEYS), '
-                      'and send the rest by --unseen'.format(len(area.candidates), area.new), details)
+        keys = ','.join(dict.fromkeys(one.key for one in area.candidates[:SHOWN]))
+        raise Refused('nothing is sent: {} of {} new objects may be there already; look at them, take out what is (echo purge {} | yoke do -), '
+                      'and send the rest by --unseen'.format(len(area.candidates), area.new, keys), details)
 
 
 def note_end(part: Parts, reviewed: Any, trouble: Optional[Trouble] = None) -> None:
