@@ -70,12 +70,17 @@ def matched(rows: Sequence[Row], index: Index, columns: Optional[Tuple[str, str]
 
 
 def guarded(plan: Plan, table: Table) -> Plan:
-    """The plan without the rows whose objects have another value by now than the one that the row expects."""
+    """The plan without the rows whose objects have another value by now than the one that the row expects.
+
+    A row whose object has all that it sets isn't one of them, and sets nothing: the same table goes through twice.
+    """
     rows = []
     for row in plan.rows:
         thing = None if row.problem else table.mine(row.key)
         why = changed_since(row, thing.tags) if thing else ''
-        if why:
+        if why and thing and row.tags and row.tags.items() <= thing.tags.items():
+            rows.append(replace(row, tags={}))
+        elif why:
             plan.changed.append((row, f'{row.key}: {why}'))
         else:
             rows.append(row)

@@ -145,9 +145,9 @@ def _each_once(rows: Iterable[Row]) -> Iterator[Row]:
 
 
 def changed_since(row: Row, tags: MappingOf[str, str]) -> str:
-    """Which tag of an object is neither what a row says that it is still nor what the row sets, in words; empty if none is."""
+    """Which tag of an object isn't what a row says that it is still, in words; empty where all are."""
     for key, old in row.still.items():
         now = tags.get(key, '')
-        if now not in (old, row.tags.get(key)):
+        if now != old:
             return f'{key} is {now or "not set"}, and not {old or "unset"} any more'
     return ''

@@ -332,6 +332,12 @@ class Search(TableTest):
         self.put('b.csv', 'S;phone\nHuber;1\nHuber;2\n')
         self.assertIn('b.csv:3: refused: n12 stands in line 2 already, with other values', self.refused('tag', '--csv', 'b.csv', '--where', 'name={S}', '--columns', 'phone'))
 
+    def test_the_same_table_again_has_no_changed_rows(self) -> None:
+        self.put('b.csv', 'key;old:phone;phone\nn11;;7\n')
+        self.done('tag', '--csv', 'b.csv', '--columns', 'phone')
+        self.refused('tag', '--csv', 'b.csv', '--columns', 'phone')
+        self.assertNotIn('changed', self.out)
+
     def test_a_row_that_stands_twice_is_taken_once(self) -> None:
         self.put('b.csv', 'S;phone\nHuber;1\nHuber;1\n')
         out = self.done('tag', '--csv', 'b.csv', '--where', 'name={S}', '--columns', 'phone')
