@@ -215,6 +215,16 @@ class _Records:
         """Whether an object is only referred to."""
         return self.lines[key][0].startswith('incomplete ')
 
+    def is_edited(self, key: str) -> bool:
+        """Whether an object is edited, or in conflict."""
+        return not self.is_incomplete(key) and not self.lines[key][0].endswith(' same none')
+
+    def references(self, key: str) -> Sequence[str]:
+        """What the base of an object refers to; nothing where it has none."""
+        bases = [line for line in self.lines.get(key, ()) if line.startswith('base ')]
+        found: Sequence[str] = opl.parse(bases[0][len('base ') :]).references if bases else ()
+        return found
+
     def mark_incomplete(self, key: str) -> None:
         """Makes an object one that is only referred to."""
         self.lines[key] = [f'incomplete {key}']
@@ -276,18 +286,24 @@ def taken_up(whole: str, newer: str, keys: Iterable[str]) -> str:
     session without them.
 
     `whole` is the session before, and `newer` comes of `taken_back(whole, keys)` by `confirm`
-    alone. All other objects are as `newer` has them. `resume` takes the text.
+    alone. All other objects are as `newer` has them. An edit of `whole` that isn't one of `keys`
+    stays back, also where its object is only referred to meanwhile, and so does what its base
+    refers to. `resume` takes the text.
     """
-    before, after = _Records.of(whole), _Records.of(newer)
-    for key in keys:
+    before, after, wanted = _Records.of(whole), _Records.of(newer), set(keys)
+    for key in wanted:
         if key in before.lines:
             after.lines[key] = before.lines[key]
+    back = [key for key in before.lines.keys() - wanted if before.is_edited(key)]
+    used = {reference for key in back for reference in after.references(key)}
     for key, lines in before.lines.items():
         if (
             key not in after.lines
             and before.is_incomplete(key)
             or key in after.lines
             and after.is_incomplete(key)
+            and not before.is_edited(key)
+            and key not in used
         ):
             after.lines[key] = lines
     after.next_new = max(before.next_new, after.next_new)

@@ -294,6 +294,10 @@ class Random(unittest.TestCase):
         )
         self.assertEqual(part and sides(groups.taken_up(text, part, held)), sides(text))
         self.assertEqual(text, groups.taken_up(text, part, held))
+        some = one.some(found) & held
+        partly = groups.taken_up(text, part, some)
+        self.assertEqual(set(left) | some, set(groups.edits(table.read(partly))))
+        self.assertEqual(partly, accepted(self, ran(['resume s.saved', 'save'], s_saved=partly)))
         chunk = answer.first_chunk()
         taken = chunk[: one.pick.randint(0, len(chunk))]
         answers = [
@@ -343,6 +347,17 @@ class TakenUp(unittest.TestCase):
         )
         part = groups.taken_back(text, ['n4'])
         self.assertIn('incomplete n4\n', part)
+        self.assertEqual(part, ran(['resume s.saved', 'save'], s_saved=part).saved())
+        self.assertEqual(text, groups.taken_up(text, part, ['n4']))
+
+    def test_what_comes_back_from_a_deletion_stays_back_while_others_are_taken_up(self) -> None:
+        text = session(
+            ['download town.opl', 'download later.opl', 'resolve n4 mine', 'tag n8 Ta=b'],
+            town_opl=TOWN,
+            later_opl='n4 v2 dD\n',
+        )
+        part = groups.taken_up(text, groups.taken_back(text, ['n4', 'n8']), ['n8'])
+        self.assertEqual(['n8'], list(groups.edits(table.read(part))))
         self.assertEqual(part, ran(['resume s.saved', 'save'], s_saved=part).saved())
         self.assertEqual(text, groups.taken_up(text, part, ['n4']))
 
