@@ -180,6 +180,16 @@ class Verb(ConflateTest):
                     self.assertEqual({kind: 1}, self.kinds(), east)
         self.assertIn('python3-shapely', self.err)
 
+    def test_the_largest_ring_of_a_multipolygon_counts(self):
+        ring = 'n31 v1 x13.0200000 y52.0010000\nn32 v1 x13.0200100 y52.0010000\nn33 v1 x13.0200100 y52.0010100\n'
+        relation = 'w3 v1 Nn31,n32,n33,n31\nw4 v1 Nn11,n12,n13,n14,n11\nr1 v1 Tbuilding=yes,type=multipolygon Mw3@outer,w4@outer\n'
+        self.write('rings.opl', TOWN.replace('w1 v1 Tbuilding=yes', 'w1 v1 T') + ring + relation)
+        self.yoke('start', 'rings.opl', '--day', 'rings')
+        square = [[13.01, 52.001], [13.0102, 52.001], [13.0102, 52.0011], [13.01, 52.0011], [13.01, 52.001]]
+        feature = {'type': 'Feature', 'properties': {'building': 'yes', 'phone': '7'}, 'geometry': {'type': 'Polygon', 'coordinates': [square]}}
+        self.assertEqual(0, self.conflate(json.dumps(feature), '--day', 'rings', '--columns', 'building,phone', name='in.geojson'), self.err)
+        self.assertEqual(['tag r1 Tphone=7'], self.script())
+
     def test_lines(self):
         line = {'type': 'LineString', 'coordinates': [[13.01, 52.00101], [13.0102, 52.00111]]}
         self.write('c.rules', RULES + 'overlap 0.8\n')

@@ -190,20 +190,23 @@ def thing_of(there: table.Table, key: str) -> 'Thing | None':
 
 
 def path_of(there: table.Table, thing: opl.Object) -> List[Tuple[float, float]]:
-    """Where an object is; of a relation its first outer way with places."""
+    """Where an object is; of a relation its outer way that spans most."""
     if thing.key[0] == 'n':
         return [(float(thing.lon), float(thing.lat))] if thing.lon is not None and thing.lat is not None else []
     if thing.key[0] == 'w':
         nodes = [there.mine(key) for key in thing.nodes]
         return [(float(node.lon), float(node.lat)) for node in nodes
                 if node and node.lon is not None and node.lat is not None]
-    for key, role in thing.members:
-        member = there.mine(key)
-        if member and key[0] != 'r' and role != 'inner':
-            path = path_of(there, member)
-            if path:
-                return path
-    return []
+    members = [there.mine(key) for key, role in thing.members if key[0] != 'r' and role != 'inner']
+    return max((path_of(there, member) for member in members if member), key=span, default=[])
+
+
+def span(path: Sequence[Tuple[float, float]]) -> float:
+    """How much a path spans: the half circumference of the box round it, in degrees; -1 without a place."""
+    if not path:
+        return -1.0
+    lons, lats = zip(*path)
+    return float(max(lons) - min(lons) + max(lats) - min(lats))
 
 
 def ids_of(read: Sequence[Feature], rules: rule_file.Rules) -> Dict[str, str]:
