@@ -215,7 +215,7 @@ class Server:
 
     address: str
     token: str = field(default='', repr=False)
-    note: Callable[[str], Any] = print
+    note: Callable[[str], Any] = silent
     timeout: float = TIMEOUT
     patience: float = PATIENCE
     waited: float = 0

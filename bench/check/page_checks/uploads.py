@@ -35,7 +35,7 @@ def as_osmium_writes(change):
 
 def same_in_osmchange(room, output, chunks):
     """The document of each chunk has just its changes, as osmium reads it."""
-    for chunk, changes in zip(chunks, chunks_of(output)):
+    for chunk, changes in zip(chunks, chunks_of(output), strict=True):
         said = osc.document(changes, str(CHANGESET))
         verbs = [change.split(' ')[0] for change in chunk]
         expect([verb for place, verb in enumerate(verbs) if place == 0 or verbs[place - 1] != verb],
@@ -58,8 +58,8 @@ def random_uploads(room, seed):
 
 
 def chunks_of(output):
-    """The chunks of the last upload of an output, as yoke reads them."""
-    return list(Answer(output, [''] * (output.count('\n') + 1)).chunks())
+    """The chunks of the upload with which an output ends, as yoke reads them."""
+    return list(Answer(output, ['upload'] * (output.count('\n') + 1)).chunks())
 
 
 @case('the documents that yoke sends have as many changes as `upload` counts, and osmium reads each of them as it stands there')
