@@ -6,7 +6,7 @@ stand as lone surrogates (`text_of`), since such bytes do no harm in a comment.
 """
 import re
 from dataclasses import dataclass
-from typing import Dict, List, Tuple
+from typing import Callable, Dict, List, NoReturn, Tuple
 
 ID_MOST = 10 ** 18
 BLANKS = ' \t'
@@ -35,19 +35,22 @@ IN_A_MEETING = {'editor', 'fetch', 'send', 'answer', 'lost'}
 STATES = {'node', 'way', 'relation', 'new', 'changed', 'deleted', 'incomplete', 'conflict'}
 
 
+Reader = Callable[[List[str]], object]      # what tests the words after a verb; Bad where they are none
+
+
 class Bad(Exception):
     """A line is none of a script's; its text is the cause."""
 
 
-def bad(text, *words):
+def bad(text: str, *words: object) -> NoReturn:
     """Raises Bad; words are cut."""
     raise Bad(text.format(*(shown(word) for word in words)))
 
 
-def shown(word) -> str:
+def shown(word: object) -> str:
     """A word of a line as a message shows it."""
-    word = ''.join(c if c.isprintable() else '?' for c in str(word))
-    return word if len(word) <= 60 else word[:57] + '...'
+    text = ''.join(c if c.isprintable() else '?' for c in str(word))
+    return text if len(text) <= 60 else text[:57] + '...'
 
 
 def text_of(data: bytes) -> str:
@@ -101,7 +104,7 @@ class Place:
     in_group: bool = False
     in_meeting: bool = False
 
-    def check(self, verb: str):
+    def check(self, verb: str) -> None:
         """Bad where a line with the verb may not stand here."""
         if verb == 'serve' and not self.is_first:
             bad('serve is the first step of a script, or none')
@@ -114,7 +117,7 @@ class Place:
         if verb == 'end' and not self.in_group:
             bad('there is no group to end')
 
-    def go_on(self, verb: str):
+    def go_on(self, verb: str) -> None:
         """Goes after a line with the verb."""
         self.in_meeting = self.in_meeting or (self.is_first and verb == 'serve')
         self.in_group = verb == 'begin' or (self.in_group and verb != 'end')
@@ -167,7 +170,7 @@ def check_text(text: str, what: str) -> str:
 
 def check_tags(text: str) -> Dict[str, str]:
     """Tags, without the letter before them."""
-    tags = {}
+    tags: Dict[str, str] = {}
     for item in text.split(',') if text else []:
         key, *values = item.split('=')
         name = check_text(key, 'the key')
@@ -235,21 +238,21 @@ def check_place(x: str, y: str) -> Tuple[int, int]:
     return lon, lat
 
 
-def check_place_words(x: str, y: str):
+def check_place_words(x: str, y: str) -> None:
     check_place(letter(x, 'x', 'a longitude is x13.65'), letter(y, 'y', 'a latitude is y0.05'))
 
 
-def check_number(word: str, most: int, least: int = 1):
+def check_number(word: str, most: int, least: int = 1) -> None:
     """A number of 1 to 7 digits, within bounds."""
     if not re.fullmatch('[0-9]{1,7}', word, re.ASCII) or not least <= int(word) <= most:
         bad('{} is no number from {} to {}', word, least, most)
 
 
-def check_file(word: str):
+def check_file(word: str) -> None:
     check_text(word, 'the file')
 
 
-def check_box(text: str):
+def check_box(text: str) -> None:
     sides = text.split(',')
     if len(sides) != 4:
         bad('B{} is no box: it has west, south, east and north', text)
@@ -259,7 +262,7 @@ def check_box(text: str):
         bad('B{} is no box: its {} is beyond its {}', text, *(('west', 'east') if west > east else ('south', 'north')))
 
 
-def check_part(words: List[str]):
+def check_part(words: List[str]) -> None:
     """What may stand after a `download FILE` and a `fetch M`: a box, and tags."""
     if words and words[0].startswith('B'):
         check_box(words.pop(0)[1:])
@@ -274,26 +277,26 @@ def check_part(words: List[str]):
 
 # ---- lines ----
 
-def check_download(words):
+def check_download(words: List[str]) -> None:
     if not words:
         bad('FILE is missing')
     check_file(words[0])
     check_part(words[1:])
 
 
-def check_fetch(words):
+def check_fetch(words: List[str]) -> None:
     if not words:
         bad('M is missing')
     check_number(words[0], 9999999, 0)
     check_part(words[1:])
 
 
-def check_side(word):
+def check_side(word: str) -> None:
     if word not in ('mine', 'theirs'):
         bad('{} is no side: mine or theirs', word)
 
 
-def check_resolve(words):
+def check_resolve(words: List[str]) -> None:
     if len(words) < 2:
         bad('{} is missing', 'KEY and a choice' if not words else 'a choice')
     check_key(words[0])
@@ -311,7 +314,7 @@ def check_resolve(words):
         bad('{} is no choice: mine, theirs, mix or parts', choice)
 
 
-def check_tag_keys(text):
+def check_tag_keys(text: str) -> None:
     names = [check_text(key, 'the key') for key in text.split(',')] if text else []
     if '' in names:
         bad('a key of K{} is empty', text)
@@ -319,11 +322,12 @@ def check_tag_keys(text):
         bad('a key of K{} stands twice', text)
 
 
-def check_find(words):
+def check_find(words: List[str]) -> None:
     """A query, read from the left. `waiting` has what waits for a factor, the innermost last: openings, and `and` and `or`."""
     if len(words) > QUERY_MOST:
         bad('a query has at most {} words', QUERY_MOST)
-    waiting, has_factor = [], False
+    waiting: List[str] = []
+    has_factor = False
     for word in words:
         if has_factor:
             has_factor = _follow(word, waiting)
@@ -341,13 +345,13 @@ def check_find(words):
         bad('a bracket isn\'t closed')
 
 
-def _take(waiting):
+def _take(waiting: List[str]) -> None:
     """A factor is taken by all that waits for it, up to a bracket or an `or`."""
     while waiting and waiting[-1] in ('not', 'child', 'parent', 'and'):
         waiting.pop()
 
 
-def _follow(word, waiting):
+def _follow(word: str, waiting: List[str]) -> bool:
     """A word after a factor; whether there is a factor then too."""
     if word in ('and', 'or'):
         if word == 'or' and waiting and waiting[-1] == 'or':
@@ -365,7 +369,7 @@ def _follow(word, waiting):
     return True
 
 
-def _check_factor(word):
+def _check_factor(word: str) -> None:
     if word in STATES:
         return
     if not word.startswith('T'):
@@ -374,78 +378,78 @@ def _check_factor(word):
         bad('{} isn\'t one tag: each is a T of its own, with and between them', word)
 
 
-def _keys(words):
+def _keys(words: List[str]) -> None:
     check_keys(exactly(words, 'KEYS')[0])
 
 
-def _two_keys(words):
+def _two_keys(words: List[str]) -> None:
     check_keys(exactly(words, 'KEYS')[0], 2)
 
 
-def _node(words):
+def _node(words: List[str]) -> None:
     x, y, tags = exactly(words, 'x..', 'y..', 'T..')
     check_place_words(x, y)
     check_tags_word(tags)
 
 
-def _way(words):
+def _way(words: List[str]) -> None:
     tags, nodes = exactly(words, 'T..', 'N..')
     check_tags_word(tags)
     check_nodes_word(nodes)
 
 
-def _relation(words):
+def _relation(words: List[str]) -> None:
     tags, members = exactly(words, 'T..', 'M..')
     check_tags_word(tags)
     check_members_word(members)
 
 
-def _tag(words):
+def _tag(words: List[str]) -> None:
     keys, tags = exactly(words, 'KEYS', 'T..')
     check_keys(keys)
     check_tags_word(tags)
 
 
-def _move(words):
+def _move(words: List[str]) -> None:
     keys, dx, dy = exactly(words, 'KEYS', 'DX', 'DY')
     check_keys(keys)
     check_coordinate(dx)
     check_coordinate(dy)
 
 
-def _place(words):
+def _place(words: List[str]) -> None:
     key, x, y = exactly(words, 'KEY', 'x..', 'y..')
     check_key(key)
     check_place_words(x, y)
 
 
-def _nodes(words):
+def _nodes(words: List[str]) -> None:
     key, nodes = exactly(words, 'KEY', 'N..')
     check_key(key)
     check_nodes_word(nodes)
 
 
-def _members(words):
+def _members(words: List[str]) -> None:
     key, members = exactly(words, 'KEY', 'M..')
     check_key(key)
     check_members_word(members)
 
 
-def _split(words):
+def _split(words: List[str]) -> None:
     key, keys = exactly(words, 'KEY', 'KEYS')
     check_key(key)
     check_keys(keys)
 
 
-def _number(most, name):
+def _number(most: int, name: str) -> Reader:
     return lambda words: check_number(exactly(words, name)[0], most)
 
 
-def _file(words):
+def _file(words: List[str]) -> None:
     check_file(exactly(words, 'FILE')[0])
 
 
-READERS = {
+READERS: Dict[str, Reader] = {
     'download': check_download, 'fetch': check_fetch, 'import': _file, 'resume': _file, 'confirm': _file, 'serve': _file,
     'generate': _number(100000, 'N'), 'undo': _number(1000000, 'N'), 'redo': _number(1000000, 'N'), 'upload': _number(10000, 'SIZE'),
     'send': _number(10000, 'K'), 'editor': _number(4, 'N'), 'find': check_find, 'node': _node, 'way': _way, 'relation': _relation, 'tag': _tag,

@@ -4,6 +4,9 @@ Each function is a definition of `crates/edit_script/specs`, `map_search`, `opl_
 and over bytes as there, and nothing of `yoke/scripts/grammar.py` is in it. So the two are readings of one grammar that can
 be held against each other where the program isn't there.
 """
+from __future__ import annotations
+
+from collections.abc import Callable
 
 LETTERS = {ord('n'): 'node', ord('w'): 'way', ord('r'): 'relation'}
 ALONE = {b'begin', b'end', b'print', b'count', b'conflicts', b'save', b'check', b'rehearse', b'answer', b'lost'}
@@ -16,48 +19,49 @@ ASKS = {b'node', b'way', b'relation', b'new', b'changed', b'deleted', b'incomple
 
 # ---- numbers, keys, places: osm_base ----
 
-def number_text(most, text):
+def number_text(most: int, text: bytes) -> int | None:
     """The number that 1 to `most` decimal digits spell."""
     return int(text) if 1 <= len(text) <= most and all(48 <= byte <= 57 for byte in text) else None
 
 
-def signed_text(plain, text):
+def signed_text(plain: Callable[[bytes], int | None], text: bytes) -> int | None:
     """What a text is after an optional `-`, and with it."""
     value = plain(text[1:] if text[:1] == b'-' else text)
     return None if value is None else -value if text[:1] == b'-' else value
 
 
-def id_size(text):
+def id_size(text: bytes) -> int | None:
     number = number_text(19, text)
     return number if number is not None and 1 <= number <= 10 ** 18 else None
 
 
-def key_text(text):
+def key_text(text: bytes) -> bytes | None:
     """A letter and an id text."""
     return None if not text or text[0] not in LETTERS or signed_text(id_size, text[1:]) is None else text
 
 
-def size_text(text):
+def size_text(text: bytes) -> int | None:
     """1 to 3 digits, and perhaps a point and 1 to 7 digits."""
     before, point, after = text.partition(b'.')
     whole, part = number_text(3, before), number_text(7, after) if point else 0
     return None if whole is None or part is None else whole * 10 ** 7 + part * 10 ** (7 - len(after) if point else 0)
 
 
-def place_texts(lon_text, lat_text):
+def place_texts(lon_text: bytes, lat_text: bytes) -> tuple[int, int] | None:
     lon, lat = signed_text(size_text, lon_text), signed_text(size_text, lat_text)
     return None if lon is None or lat is None or abs(lon) > 1800000000 or abs(lat) > 900000000 else (lon, lat)
 
 
 # ---- texts, tags, references, members: opl_text and opl_line ----
 
-def unescaped(field):
+def unescaped(field: bytes) -> str | None:
     """The characters that the bytes of a field spell; a character that is none, and an escape that doesn't end, give none."""
     try:
         characters = field.decode('utf-8')
     except UnicodeDecodeError:
         return None
-    found, escape = [], None
+    found: list[str] = []
+    escape: str | None = None
     for character in characters:
         if escape is None and character == '%':
             escape = ''
@@ -78,75 +82,75 @@ def unescaped(field):
     return None if escape is not None else ''.join(found)
 
 
-def tags_text(text):
+def tags_text(text: bytes) -> dict[str, str] | None:
     """Nothing, or tags with `,` between them."""
-    tags = {}
+    tags: dict[str, str] = {}
     for item in text.split(b',') if text else []:
         key, equals, rest = item.partition(b'=')
         value, second, _ = rest.partition(b'=')
-        name = unescaped(key)
-        if not name or not equals or name in tags or unescaped(value) is None or second:
+        name, meant = unescaped(key), unescaped(value)
+        if not name or not equals or name in tags or meant is None or second:
             return None
-        tags[name] = unescaped(value)
+        tags[name] = meant
     return tags
 
 
-def is_reference(item):
+def is_reference(item: bytes) -> bool:
     return item[:1] == b'n' and signed_text(id_size, item[1:]) is not None
 
 
-def is_member(item):
+def is_member(item: bytes) -> bool:
     key, at, role = item.partition(b'@')
     return key_text(key) is not None and at == b'@' and unescaped(role) is not None
 
 
 # ---- words: edit_script, Items ----
 
-def behind(letter, word):
+def behind(letter: bytes, word: bytes) -> bytes | None:
     return word[1:] if word[:1] == letter else None
 
 
-def is_keys(word, least=1):
+def is_keys(word: bytes, least: int = 1) -> bool:
     keys = word.split(b',')
     return len(keys) >= least and all(key_text(key) is not None for key in keys)
 
 
-def is_tags(word):
+def is_tags(word: bytes) -> bool:
     text = behind(b'T', word)
     return text is not None and tags_text(text) is not None
 
 
-def is_refs(word):
+def is_refs(word: bytes) -> bool:
     text = behind(b'N', word)
     return text is not None and b'x' not in text and all(map(is_reference, text.split(b',') if text else []))
 
 
-def is_members(word):
+def is_members(word: bytes) -> bool:
     text = behind(b'M', word)
     return text is not None and all(map(is_member, text.split(b',') if text else []))
 
 
-def is_place(x, y):
+def is_place(x: bytes, y: bytes) -> bool:
     lon, lat = behind(b'x', x), behind(b'y', y)
     return lon is not None and lat is not None and place_texts(lon, lat) is not None
 
 
-def is_coordinate(word):
+def is_coordinate(word: bytes) -> bool:
     return signed_text(size_text, word) is not None
 
 
-def is_number(most, word):
+def is_number(most: int, word: bytes) -> bool:
     number = number_text(7, word)
     return number is not None and 1 <= number <= most
 
 
-def is_area(text):
+def is_area(text: bytes) -> bool:
     texts = text.split(b',')
     low, high = (place_texts(*texts[:2]), place_texts(*texts[2:])) if len(texts) == 4 else (None, None)
     return low is not None and high is not None and low[0] <= high[0] and low[1] <= high[1]
 
 
-def is_part(words):
+def is_part(words: list[bytes]) -> bool:
     """What may stand behind `download FILE`: `B..` and `F..`, of which each can be left out."""
     if words and words[0][:1] == b'B':
         if not is_area(words[0][1:]):
@@ -159,11 +163,11 @@ def is_part(words):
     return not words
 
 
-def is_side(word):
+def is_side(word: bytes) -> bool:
     return word in (b'mine', b'theirs')
 
 
-def is_tag_keys(word):
+def is_tag_keys(word: bytes) -> bool:
     text = behind(b'K', word)
     names = [unescaped(key) for key in text.split(b',')] if text else []
     return text is not None and all(names) and len(set(names)) == len(names)
@@ -171,27 +175,28 @@ def is_tag_keys(word):
 
 # ---- queries: map_search, Reading. What waits stands with the innermost first ----
 
-def takes_factor(waiting):
+def takes_factor(waiting: list[str]) -> bool:
     return bool(waiting) and waiting[0] in ('not', 'child', 'parent', 'and')
 
 
-def taken(waiting):
+def taken(waiting: list[str]) -> list[str]:
     while takes_factor(waiting):
         waiting = waiting[1:]
     return waiting
 
 
-def joined(waiting):
+def joined(waiting: list[str]) -> list[str]:
     return waiting[1:] if waiting[:1] == ['or'] else waiting
 
 
-def is_asking(word):
+def is_asking(word: bytes) -> bool:
     tags = tags_text(word[1:]) if word[:1] == b'T' else None
     return word in ASKS or tags is not None and len(tags) == 1
 
 
-def is_query(words):
-    has_query, waiting = False, []
+def is_query(words: list[bytes]) -> bool:
+    has_query = False
+    waiting: list[str] = []
     for word in words:
         if not has_query and word in OPENINGS:
             if sum(one not in ('and', 'or') for one in waiting) >= 64:
@@ -212,7 +217,7 @@ def is_query(words):
 
 # ---- lines: edit_script, Forms and Meeting ----
 
-def is_choice(words):
+def is_choice(words: list[bytes]) -> bool:
     if words[:1] in ([b'mine'], [b'theirs']):
         return len(words) == 1
     if words[:1] == [b'mix']:
@@ -220,11 +225,11 @@ def is_choice(words):
     return words[:1] == [b'parts'] and len(words) == 3 and is_side(words[1]) and is_tag_keys(words[2])
 
 
-def is_key(word):
+def is_key(word: bytes) -> bool:
     return key_text(word) is not None
 
 
-TESTS = {       # of the words behind a verb, where they are as many
+TESTS: dict[bytes, tuple[int, Callable[..., bool]]] = {       # of the words behind a verb, where they are as many
     b'node': (3, lambda x, y, tags: is_place(x, y) and is_tags(tags)), b'way': (2, lambda tags, refs: is_tags(tags) and is_refs(refs)),
     b'relation': (2, lambda tags, members: is_tags(tags) and is_members(members)), b'tag': (2, lambda keys, tags: is_keys(keys) and is_tags(tags)),
     b'move': (3, lambda keys, dx, dy: is_keys(keys) and is_coordinate(dx) and is_coordinate(dy)), b'place': (3, lambda key, x, y: is_key(key) and is_place(x, y)),
@@ -233,7 +238,7 @@ TESTS = {       # of the words behind a verb, where they are as many
 }
 
 
-def is_line(verb, words):
+def is_line(verb: bytes, words: list[bytes]) -> bool:
     if verb in ALONE:
         return not words
     if verb in FILES:
@@ -255,13 +260,13 @@ def is_line(verb, words):
 
 # ---- where lines stand: edit_script, Order and Place ----
 
-def may_stand(is_inside, verb):
+def may_stand(is_inside: bool, verb: bytes) -> bool:
     if is_inside:
         return verb not in (b'begin', b'undo', b'redo', b'rehearse', b'upload', b'confirm', b'resume', b'editor', b'send', b'answer', b'lost')
     return verb != b'end'
 
 
-def belongs(in_meeting, verb):
+def belongs(in_meeting: bool, verb: bytes) -> bool:
     if verb == b'serve':
         return False
     if verb in (b'download', b'generate', b'confirm', b'resume'):
@@ -269,7 +274,7 @@ def belongs(in_meeting, verb):
     return in_meeting or verb not in (b'editor', b'fetch', b'send', b'answer', b'lost')
 
 
-def first_bad(script):
+def first_bad(script: bytes) -> int:
     """The number of the first line outside the grammar, or that may not stand where it does; 0 where there is none."""
     is_start, in_meeting, is_inside = True, False, False
     lines = script.split(b'\n')

@@ -12,6 +12,7 @@ end there: `to-josm` is `to_josm.py`, `import` is `import_.py`.
 """
 import importlib
 import keyword
+from types import ModuleType
 
 NAMES = [
     'start',
@@ -49,7 +50,7 @@ NAMES = [
 ]
 
 
-def load(name):
+def load(name: str) -> ModuleType:
     """The module of a verb."""
     module = name.replace('-', '_')
     return importlib.import_module('yoke.verbs.' + module + ('_' if keyword.iskeyword(module) else ''))
