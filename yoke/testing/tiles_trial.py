@@ -92,7 +92,7 @@ def _doubled(dice: random.Random, town: Town) -> str:
 
 
 def new_ones(dice: random.Random, town: Town, folder: pathlib.Path, seed: int) -> list[str]:
-    """Lines that look or make objects across borders: queries, an import, a turn restriction, and a path whose parts have names."""
+    """Lines that make objects across borders: an import, a turn restriction, and a path whose parts have names."""
     def node() -> int:
         return dice.randint(1, len(town.nodes))
     lon, lat, _ = town.nodes[node() - 1]
@@ -102,8 +102,7 @@ def new_ones(dice: random.Random, town: Town, folder: pathlib.Path, seed: int) -
                     encoding='utf-8')
     refs, _ = town.ways[via_way := dice.randrange(len(town.ways))]
     other = dice.randint(1, len(town.ways))
-    return ['tag ( way and parent ( node and Tnote=* ) ) Tseen=yes', 'tag ( node and child ( way and Tgroup=* ) ) Tin_group=yes',
-            f'import {opl.escape(str(file))}',
+    return [f'import {opl.escape(str(file))}',
             f'relation Ttype=restriction,restriction=no_u_turn Mw{via_way + 1}@from,n{dice.choice(refs)}@via,w{other}@to',
             f'node {place} Tbarrier=gate as gate\nway Thighway=path Nn{node()},gate as path\ntag path Tsurface=gravel']
 

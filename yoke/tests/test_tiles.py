@@ -12,6 +12,7 @@ import re
 import resource
 import shutil
 import signal
+import socket
 import subprocess
 import sys
 import threading
@@ -36,7 +37,7 @@ from yoke.opl import Object
 from yoke.program import Program
 from yoke.testing import made_town, tiles_trial
 from yoke.tests.support import TOP, FolderTest, program
-from yoke.tiles import cluster, engine, grid, merge, script, worker
+from yoke.tiles import cluster, edit, engine, grid, merge, script, worker
 from yoke.tiles.cluster import Where
 from yoke.tiles.edit import Change, Edited
 from yoke.tiles.grid import Grid
@@ -47,6 +48,7 @@ from yoke.verbs import NAMES
 needs_osmium = unittest.skipUnless(shutil.which('osmium'), 'osmium isn\'t installed (Debian: apt-get install osmium-tool)')
 needs_dask = unittest.skipUnless(distributed, 'Dask isn\'t installed (Debian: apt-get install python3-distributed)')
 needs_program = unittest.skipUnless(os.environ.get('YOKE_EDITOR'), '$YOKE_EDITOR names no program: workers can\'t share the model')
+needs_cluster = unittest.skipUnless(shutil.which('dask-scheduler') and shutil.which('openssl'), 'dask-scheduler or openssl isn\'t installed')
 SCRIPT = ['tag ( Tcreated_by=* ) Tcreated_by=', 'tag ( relation and Troute=bus ) Tnetwork=Town', 'split w3 n4', 'erase ( way and Taddr:housenumber=7 )']
 
 
@@ -287,6 +289,14 @@ class Runs(TileTest):
         self.assertEqual((1, 5), (found.tiles, found.skipped))
         self.assertIn(lines[at].split(' ')[0], {thing.key for _, thing in found.changes})
 
+    def test_a_query_finds_what_a_unit_made_that_is_left(self) -> None:
+        """The tile leaves the split, since it lacks a way of the relation; the query has to find all others all the same."""
+        self.write('tile.opl', 'n1 v1 x13 y52\nn2 v1 x13.001 y52\nn3 v1 x13.002 y52\nn4 v1 x13.003 y52\n'
+                   'w1 v1 Thighway=path Nn1,n2,n3\nw2 v1 Thighway=path Nn3,n4\nr1 v1 Mw1@,w9@\n')
+        parts = units('split w1 n2', 'tag w1 Tnote=1', 'tag ( way and Thighway=path ) Tseen=yes')
+        found = edit.run(program(), 'tile.opl', parts, lambda there: lambda key: True, is_whole=False)
+        self.assertEqual((['w1', 'w2'], {'w1', 'n2'}, []), ([one.thing.key for one in found.changes], found.left, found.refused))
+
     def test_a_query_that_looks_at_an_object_of_another_tile(self) -> None:
         town = made_town.make(30, slips=True)
         asked = self.asked(file='newer.osm.pbf', since='town.osm.pbf', lines=['tag ( way and parent Tnight=1 ) Tseen=yes'],
@@ -408,28 +418,39 @@ class Workers(TileTest):
         self.assertEqual(['tile-00002'], [done.name for done in found.done if not done.is_kept])
         self.assertEqual(self.expected(), found.changes)
 
-    def cluster(self) -> tuple[subprocess.Popen[bytes], subprocess.Popen[bytes], Where]:
-        """A scheduler and a worker with TLS, as a page has them."""
-        words = ['openssl', 'req', '-x509', '-newkey', 'rsa:2048', '-nodes', '-days', '1', '-subj', '/CN=yoke', '-keyout', 'key.pem', '-out', 'cert.pem']
-        subprocess.run(words, check=True, stderr=subprocess.DEVNULL)
-        tls = ['--tls-ca-file', 'cert.pem', '--tls-cert', 'cert.pem', '--tls-key', 'key.pem']
-        env = {**os.environ, 'PYTHONPATH': str(TOP)}
-        scheduler = subprocess.Popen(['dask-scheduler', '--host', 'tls://127.0.0.1', '--port', '0', '--no-dashboard', '--scheduler-file', 'scheduler.json', *tls],
-                                     env=env, stdout=subprocess.DEVNULL, stderr=subprocess.DEVNULL)
-        self.addCleanup(self.end, scheduler)
-        address = self.address()
-        workers = subprocess.Popen(['dask-worker', address, '--nthreads', '1', '--nworkers', '2', '--no-dashboard', '--local-directory', 'scratch', *tls],
-                                   env=env, stdout=subprocess.DEVNULL, stderr=subprocess.DEVNULL)
-        self.addCleanup(self.end, workers)
-        return scheduler, workers, Where(1, address, 'cert.pem', 'cert.pem', 'key.pem')
+    def commands(self, port: int) -> list[list[str]]:
+        """The commands of the page for several machines, as one machine can play them."""
+        page = (TOP / 'docs' / 'HOWTO' / 'tiles.md').read_text(encoding='utf-8')
+        block = page.split('## Several machines')[1].split('```sh elsewhere\n')[1].split('```')[0].replace('\\\n', '')
+        for old, new in (('tls://0.0.0.0', f'tls://127.0.0.1 --port {port} --no-dashboard'), ('FIRST:8786', f'127.0.0.1:{port}'),
+                         ('--nworkers 4', '--nworkers 1 --no-dashboard'), ('--grid 16x16', '--grid 3x2'),
+                         ('country.osm.pbf', str(self.folder / 'town.osm.pbf')), ('fix.script', str(self.folder / 'fix.script')),
+                         ('/shared/tiles', str(self.folder / 'tiles'))):
+            self.assertIn(old, block)
+            block = block.replace(old, new)
+        return [line.split() for line in block.strip().split('\n')]
 
-    def address(self) -> str:
-        path = self.folder / 'scheduler.json'
-        for _ in range(200):
-            if path.exists() and '"address": "' in path.read_text():
-                return path.read_text().split('"address": "')[1].split('"')[0]
-            time.sleep(0.05)
-        raise AssertionError('no scheduler')
+    def machines(self) -> tuple[int, list[list[str]]]:
+        """Two folders, each with the certificate and a worker, as machines have them; the port, and the commands of the page."""
+        with socket.socket() as free:
+            free.bind(('127.0.0.1', 0))
+            port = free.getsockname()[1]
+        commands = self.commands(port)
+        folders = [self.folder / name for name in ('first', 'second')]
+        for folder in folders:
+            folder.mkdir()
+        subprocess.run(commands[0], check=True, stderr=subprocess.DEVNULL, cwd=folders[0])
+        for name in ('cert.pem', 'key.pem'):
+            shutil.copy(folders[0] / name, folders[1])
+        self.scheduler = self.begun(commands[1], folders[0])
+        for folder in folders:
+            self.begun(commands[2], folder)
+        return port, commands
+
+    def begun(self, words: list[str], folder: pathlib.Path) -> subprocess.Popen[bytes]:
+        process = subprocess.Popen(words, cwd=folder, env={**os.environ, 'PYTHONPATH': str(TOP)}, stdout=subprocess.DEVNULL, stderr=subprocess.DEVNULL)
+        self.addCleanup(self.end, process)
+        return process
 
     @staticmethod
     def end(process: subprocess.Popen[bytes]) -> None:
@@ -440,15 +461,39 @@ class Workers(TileTest):
             process.kill()
             process.wait()
 
-    @unittest.skipUnless(shutil.which('dask-scheduler') and shutil.which('openssl'), 'dask-scheduler or openssl isn\'t installed')
+    @needs_cluster
+    def test_two_machines_as_the_page_has_them(self) -> None:
+        _, commands = self.machines()
+        environment = {**os.environ, 'PYTHONPATH': str(TOP), 'YOKE_EDITOR': self.editor().path}
+        words = [sys.executable, '-m', 'yoke', *commands[3][1:]]
+        done = subprocess.run(words, cwd=self.folder / 'first', env=environment, capture_output=True, text=True, check=False)
+        self.assertIn('changes in done.osc', done.stdout, done.stderr)
+        sent = osc.changes((self.folder / 'first' / 'done.osc').read_text(encoding='utf-8'))
+        self.assertEqual(sorted((verb, thing.key) for verb, thing in self.expected()), sorted((verb, thing.key) for verb, thing in sent))
+
+    @needs_cluster
+    def test_a_stranger_without_the_certificate_reaches_no_scheduler(self) -> None:
+        port, _ = self.machines()
+        for where in (Where(1, f'tcp://127.0.0.1:{port}', in_the_clear=True), Where(1, f'tls://127.0.0.1:{port}', *self.other_certificate())):
+            with self.assertRaises(Trouble) as trouble:
+                engine.run(self.editor(), self.asked(where))
+            self.assertIn('no scheduler answers', str(trouble.exception))
+
+    def other_certificate(self) -> tuple[str, str, str]:
+        words = ['openssl', 'req', '-x509', '-newkey', 'rsa:2048', '-nodes', '-days', '1', '-subj', '/CN=yoke', '-keyout', 'other-key.pem', '-out', 'other.pem']
+        subprocess.run(words, check=True, stderr=subprocess.DEVNULL)
+        return 'other.pem', 'other.pem', 'other-key.pem'
+
+    @needs_cluster
     def test_a_scheduler_with_tls_is_killed_and_the_same_command_goes_on(self) -> None:
-        scheduler, _, where = self.cluster()
+        port, _ = self.machines()
+        where = Where(1, f'tls://127.0.0.1:{port}', *(str(self.folder / 'first' / name) for name in ('cert.pem', 'cert.pem', 'key.pem')))
 
         def kill_after_two(jobs: Sequence[Job], there: Where, folder: pathlib.Path) -> Iterator[Done]:
             for count, done in enumerate(cluster.do(jobs, there, folder), 1):
                 yield done
                 if count == 2:
-                    scheduler.kill()
+                    self.scheduler.kill()
         with self.assertRaises(Trouble) as trouble:
             engine.run(self.slow(), self.asked(where), kill_after_two)
         self.assertIn('the same command goes on', str(trouble.exception))

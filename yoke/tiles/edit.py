@@ -2,7 +2,7 @@
 from __future__ import annotations
 
 import os
-from collections.abc import Callable, Mapping, Sequence
+from collections.abc import Callable, Mapping, Sequence, Set
 from dataclasses import dataclass, field
 
 from yoke import groups, opl, saved, words
@@ -59,9 +59,7 @@ def run(program: Program, extract: str, units: Sequence[Unit], owns: Callable[[E
     there = Extract.read(extract)
     found = Edited(objects=len(there.lines))
     mine = owns(there)
-    lines = _restricted(_written(program, first, units), units, mine)
-    if not is_whole:
-        lines = _without_what_needs_more(lines, units, there, mine, found)
+    lines = _lines(program, first, units, there, mine, found, is_whole)
     if not lines:
         return found
     answer = _answer(program, [first, *(line for line, _ in lines), f'upload {CHUNK}'])
@@ -85,10 +83,49 @@ def _answer(program: Program, steps: Sequence[str]) -> Answer:
     return answer
 
 
-def _written(program: Program, first: str, units: Sequence[Unit]) -> list[tuple[str, int]]:
-    """The lines as the program takes them, each with the place of its unit."""
-    lines = [line for unit in units for line in unit.lines]
-    places = [at for at, unit in enumerate(units) for _ in unit.lines]
+Lines = list[tuple[str, int]]       # each with the place of its unit
+
+
+def _lines(program: Program, first: str, units: Sequence[Unit], there: Extract, mine: Owns, found: Edited, is_whole: bool) -> Lines:
+    """The lines that the session does; `found.left` gets the keys of those that it leaves to the seam.
+
+    A query finds what the lines before it made. So it is asked after the units that are left are out, and anew where what it
+    finds has to be left and takes further units with it.
+    """
+    cut_off = set() if is_whole else _ways_of_relations_with_missing_members(there)
+    kept = dict(enumerate(units))
+    while True:
+        if not is_whole:
+            _leave_units(kept, there, mine, cut_off, found)
+        lines = _restricted(_written(program, first, kept), units, mine)
+        if is_whole:
+            return lines
+        lines, left = _without_what_needs_more(lines, units, there, mine, cut_off)
+        found.left |= left
+        if all(left.isdisjoint(unit.keys) for unit in kept.values()):
+            return lines
+
+
+def _leave_units(kept: dict[int, Unit], there: Extract, mine: Owns, cut_off: Set[str], found: Edited) -> None:
+    """Takes units out that would have to know more than the extract has, and such as share a key with what is left."""
+    for at, unit in list(kept.items()):
+        if any(_needs_more(line, there, mine, cut_off) for line in unit.lines if not unit.is_query):
+            found.left |= unit.keys
+            del kept[at]
+    more = True
+    while more:
+        more = False
+        for at, unit in list(kept.items()):
+            if not found.left.isdisjoint(unit.keys):
+                found.left |= unit.keys
+                del kept[at]
+                more = True
+
+
+def _written(program: Program, first: str, units: Mapping[int, Unit]) -> Lines:
+    """The lines as the program takes them; `units` has the units by their places."""
+    lines = [line for unit in units.values() for line in unit.lines]
+    places = [at for at, unit in units.items() for _ in unit.lines]
 
     def look(steps: list[str]) -> Answer:
         answer = _answer(program, [first, *steps])
@@ -100,7 +137,7 @@ def _written(program: Program, first: str, units: Sequence[Unit]) -> list[tuple[
     return [(line, places[number - 1]) for line, number in zip(written.lines, written.numbers)]
 
 
-def _restricted(lines: list[tuple[str, int]], units: Sequence[Unit], mine: Owns) -> list[tuple[str, int]]:
+def _restricted(lines: Lines, units: Sequence[Unit], mine: Owns) -> Lines:
     """The lines, those over a query with the keys alone that are owned."""
     found = []
     for line, at in lines:
@@ -116,29 +153,29 @@ def _restricted(lines: list[tuple[str, int]], units: Sequence[Unit], mine: Owns)
 
 # ---- what is left to the seam ----
 
-def _without_what_needs_more(lines: list[tuple[str, int]], units: Sequence[Unit], there: Extract, mine: Owns, found: Edited) -> list[tuple[str, int]]:
-    """The lines without those that would have to know more than the extract has; `found.left` gets their keys."""
-    cut_off = _ways_of_relations_with_missing_members(there)
-    kept = []
+def _without_what_needs_more(lines: Lines, units: Sequence[Unit], there: Extract, mine: Owns, cut_off: Set[str]) -> tuple[Lines, set[str]]:
+    """The lines, those over a query without the keys for which the extract has too little; and these keys."""
+    kept: Lines = []
+    left: set[str] = set()
     for line, at in lines:
-        verb, *more = grammar.words_of(line)
-        keys = more[0].split(',') if more else []
-        if verb == 'erase':
-            bad = [key for key in keys if not _is_inside(there, key, mine)]
-        elif verb in LOOKS_AT_OTHER_MEMBERS:
-            bad = [key for key in keys if key in cut_off]
+        bad = _needs_more(line, there, mine, cut_off) if units[at].is_query else set()
+        if bad:
+            verb, keys, *more = grammar.words_of(line)
+            left |= bad
+            rest = [key for key in keys.split(',') if key not in bad]
+            kept += [(' '.join([verb, ','.join(rest), *more]), at)] if rest else []
         else:
-            bad = []
-        if not bad:
             kept.append((line, at))
-        elif units[at].is_query:
-            found.left.update(bad)
-            rest = [key for key in keys if key not in bad]
-            kept += [(' '.join([verb, ','.join(rest), *more[1:]]), at)] if rest else []
-        else:
-            found.left.update(units[at].keys)
-    whole = {at for at, unit in enumerate(units) if found.left.isdisjoint(unit.keys)}
-    return [(line, at) for line, at in kept if at in whole]
+    return kept, left
+
+
+def _needs_more(line: str, there: Extract, mine: Owns, cut_off: Set[str]) -> set[str]:
+    """The keys of a line for which the extract has too little; `cut_off` are ways in relations of which it lacks members."""
+    verb, *more = grammar.words_of(line)
+    keys = more[0].split(',') if more else []
+    if verb == 'erase':
+        return {key for key in keys if not _is_inside(there, key, mine)}
+    return {key for key in keys if key in cut_off} if verb in LOOKS_AT_OTHER_MEMBERS else set()
 
 
 def _is_inside(there: Extract, key: str, mine: Owns) -> bool:
@@ -162,7 +199,7 @@ def _ways_of_relations_with_missing_members(there: Extract) -> set[str]:
 
 # ---- what came ----
 
-def _sources(lines: list[tuple[str, int]], there: Extract, after: Table, group_of: Mapping[str, int]) -> dict[int, set[str]]:
+def _sources(lines: Lines, there: Extract, after: Table, group_of: Mapping[str, int]) -> dict[int, set[str]]:
     """The ways by which lines changed nodes that they don't name, by the groups of these nodes."""
     found: dict[int, set[str]] = {}
     for line, _ in lines:

@@ -97,6 +97,10 @@ class _Engine:
     doing: Doing
 
     def run(self) -> Outcome:
+        for unit in self.units:
+            if unit.looks_around and len(self.units) > 1:
+                note(f'{self.asked.script}:{unit.numbers[0]}: child and parent see what other lines change in the same tile alone, '
+                     f'and else what {self.asked.file} has')
         self._add_touched()
         grid = Grid.over(self.asked.box or extracts.box_of(self.asked.file), self.asked.wide, self.asked.high)
         owner = extracts.owners(self.asked.file, {key for unit in self.units for key in unit.keys}, grid, self.place)
@@ -137,7 +141,7 @@ class _Engine:
         if not self.asked.since:
             return list(range(len(grid)))
         keys = extracts.changed(self.asked.since, self.asked.file)
-        looks = script.depth(self.units) > 0
+        looks = any(unit.looks_around for unit in self.units)
         tiles = set()
         for file in (self.asked.since, self.asked.file):
             near = extracts.beside(file, keys, self.place) if looks else set()
@@ -170,7 +174,7 @@ class _Engine:
         if not to.exists():
             begun = cut / 'relations-begun.osm.pbf'
             extracts.osmium('cat', '--no-progress', '-O', '-t', 'relation', '-o', begun, self.asked.file)
-            if script.depth(self.units):
+            if any(unit.looks_around for unit in self.units):
                 extracts.osmium('getid', '-r', '-O', '-I', begun, '-o', cut / 'relations-whole.osm.pbf', self.asked.file, allowed=(0, 1))
                 begun = cut / 'relations-whole.osm.pbf'
             os.replace(begun, to)
@@ -197,9 +201,6 @@ class _Engine:
             if found.rounds == ROUNDS:
                 raise Refused(f'the seam doesn\'t come to an end after {ROUNDS} rounds: cut other tiles by --grid')
             found.rounds += 1
-            for _ in range(script.depth(self.units)):
-                near = extracts.beside(self.asked.file, aside, self.place) - aside
-                aside |= merge.set_aside(changes, self.units, seam_units, near)
             note(f'the seam: {len(aside)} objects, round {found.rounds}')
             edited = self._edit_seam(aside, seam_units)
             changes.add(SEAM, edited, self._seam_places(seam_units))

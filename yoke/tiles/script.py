@@ -36,6 +36,11 @@ class Unit:
     makes: bool = False
     place: tuple[str, str] | None = None    # of a new node on a line of its own: longitude and latitude, as they stand
 
+    @property
+    def looks_around(self) -> bool:
+        """Whether it is over a query that looks from an object at those that it refers to, or that refer to it."""
+        return self.is_query and not {'child', 'parent'}.isdisjoint(grammar.words_of(self.lines[0]))
+
 
 def take_apart(name: str, lines: Sequence[str], count: Callable[[str], int]) -> list[Unit]:
     """The units of a script; Refused where a line can't be done by tiles. `count` tells how many new objects a file has."""
@@ -143,11 +148,6 @@ def ways_reached(unit: Unit) -> set[str]:
 def imported(unit: Unit) -> list[str]:
     """The files of the `import` lines of a unit, as they stand."""
     return [words[1] for words in map(grammar.words_of, unit.lines) if words[0] == 'import']
-
-
-def depth(units: Iterable[Unit]) -> int:
-    """The number of queries that look from an object at those that it refers to, or that refer to it."""
-    return sum(not {'child', 'parent'}.isdisjoint(grammar.words_of(unit.lines[0])) for unit in units if unit.is_query)
 
 
 # ---- who does what ----
