@@ -9,9 +9,10 @@ import subprocess
 import sys
 import tempfile
 import unittest
+from unittest import mock
 
 import yoke
-from yoke import Clash, Day, Later, NoAnswer, Refused, Server, ServerRefused, Trouble, Usage, verbs
+from yoke import Clash, Day, Later, NoAnswer, Refused, Server, ServerRefused, Trouble, Usage, connect, verbs
 from yoke.testing.server import TOKEN
 from yoke.tests.support import TOP, FolderTest, ServerTest, program
 
@@ -199,6 +200,17 @@ class WholeDay(ServerTest):
         self.night.send(self.api, 'a test')
         self.assertEqual((0, None), (self.night.status().counts['changed'], self.night.status().pending))
         self.assertEqual(1, sum(one.tags == {'natural': 'tree'} for one in self.server.elements()))
+
+    def test_a_server_takes_the_token_that_the_command_would(self) -> None:
+        self.assertEqual((self.server.api, TOKEN, 900), (connect(self.server.api).address, connect(self.server.api).token, connect(self.server.api).patience))
+        (self.folder / 'token').write_text('another\n', encoding='ascii')
+        (self.folder / 'token').chmod(0o600)
+        self.assertEqual('another', connect(self.server.api, token_file='token').token)
+        self.assertNotIn('another', repr(connect(self.server.api, token_file='token')))
+        with mock.patch.dict(os.environ, {'YOKE_TOKEN': '', 'XDG_STATE_HOME': str(self.folder)}):
+            self.assertRaises(Usage, connect, self.server.api)
+            self.assertEqual('', connect(self.server.api, writes=False).token)
+        self.assertRaises(Usage, connect, 'http://example.org/api/0.6')
 
     def test_the_command_and_the_library_go_on_from_each_other(self) -> None:
         self.begin('tag n1 Tref=7')
