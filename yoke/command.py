@@ -115,7 +115,8 @@ def main(words=None):
     open_streams()
     with printing.guarded(), api.token_held(), broken_off_by(signal.SIGTERM, signal.SIGHUP):
         try:
-            return run(sys.argv[1:] if words is None else words)
+            code = run(sys.argv[1:] if words is None else words)
+            return code if drained() else code or 3
         except Ended as ended:      # before the verb began
             return 128 + ended.number
 
@@ -132,6 +133,9 @@ def run(words):
         sys.stdout.flush()
     except BrokenPipeError:
         return deaf()
+    except OSError as error:
+        complain('{}; {}'.format(error, further(arguments.verb)))
+        return 3
     return code
 
 
@@ -231,6 +235,17 @@ def deaf():
     return 3
 
 
+def drained() -> bool:
+    """Whether standard output took all that was printed. What it couldn't take, as on a full disk, is dropped: Python would try it
+    once more at the end, and end with 120."""
+    try:
+        sys.stdout.flush()
+    except OSError:
+        deaf()
+        return False
+    return True
+
+
 def further(verb):
     """How one goes on where a verb was broken off: another than these two may have kept what it did, and would do it once more."""
     if verb in ('send', 'refresh', 'get'):
@@ -240,4 +255,5 @@ def further(verb):
 
 def complain(text):
     """One line on the error stream, after what was written before."""
+    drained()
     note(' '.join(str(text).split('\n')))

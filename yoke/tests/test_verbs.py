@@ -301,10 +301,15 @@ class Command(FolderTest):
         self.write('town.opl', TOWN)
         done = subprocess.run([sys.executable, '-m', 'yoke', 'start', 'town.opl'], env=environment, stdout=subprocess.PIPE, stderr=subprocess.STDOUT, text=True)
         self.assertEqual((0, '4 nodes, 1 ways, 1 relations\nkept as day/000001-start.saved\n'), (done.returncode, done.stdout))
-        with open('/dev/full', 'w') as full:
-            done = subprocess.run([sys.executable, '-m', 'yoke', 'diff'], env=environment, stdout=full, stderr=subprocess.PIPE, text=True)
-        self.assertEqual(3, done.returncode)
-        self.assertNotIn('Traceback', done.stderr)
+        environment.pop('PYTHONUNBUFFERED', None)
+        for buffered in ({}, {'PYTHONUNBUFFERED': '1'}):
+            for words in (['diff'], ['diff', '--json'], ['status']):
+                with open('/dev/full', 'w') as full:
+                    done = subprocess.run([sys.executable, '-m', 'yoke', *words], env={**environment, **buffered}, stdout=full,
+                                          stderr=subprocess.PIPE, text=True)
+                self.assertEqual(3, done.returncode, (words, buffered))
+                self.assertIn('No space left on device', done.stderr)
+                self.assertNotIn('Traceback', done.stderr)
 
 
 if __name__ == '__main__':
