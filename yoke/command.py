@@ -7,6 +7,8 @@ HUP did, and 70 for a fault of `yoke` itself.
 While a verb runs, all that it prints goes through `printing.Guard`, and the token isn't in the environment, so that no
 program that it starts can read it.
 """
+from __future__ import annotations
+
 import argparse
 import contextlib
 import os
@@ -14,7 +16,8 @@ import re
 import signal
 import sys
 import threading
-from typing import Any, Iterator, NoReturn
+from collections.abc import Iterable, Iterator
+from typing import Any, NoReturn
 
 from yoke import VERSION, api, builds, damage, printing, results, saved, verbs
 from yoke.day import Day
@@ -48,7 +51,7 @@ docs/COMPANION.md explains each verb, and what to do at each fault."""
 BOXES = ('--bbox', '--within')      # options with a box of degrees
 
 
-def parser():
+def parser() -> argparse.ArgumentParser:
     """The parser of all words: each verb adds its own."""
     top = argparse.ArgumentParser(prog='yoke', allow_abbrev=False, description='Edit OpenStreetMap data in a folder, merge what others did, and send it.',
                                   epilog=MAP, formatter_class=argparse.RawDescriptionHelpFormatter)
@@ -73,7 +76,7 @@ class Version(argparse.Action):
         parser.exit()
 
 
-def common(one):
+def common(one: argparse.ArgumentParser) -> None:
     """The options that each verb has."""
     group = one.add_argument_group('the day and the program')
     group.add_argument('--day', metavar='FOLDER', default=os.environ.get('YOKE_DAY') or 'day',
@@ -83,9 +86,9 @@ def common(one):
     group.add_argument('--json', action='store_true', help='print one JSON document: exit code, error, notes, lines and the result as data')
 
 
-def with_boxes(words):
+def with_boxes(words: Iterable[str]) -> list[str]:
     """The words, with a box that begins with a minus joined to its option: argparse would take it for an option of its own."""
-    joined = []
+    joined: list[str] = []
     for word in words:
         if joined and joined[-1] in BOXES and re.match('-[0-9.]', word):
             joined[-1] += '=' + word
@@ -94,7 +97,7 @@ def with_boxes(words):
     return joined
 
 
-def parsed(words):
+def parsed(words: list[str]) -> argparse.Namespace:
     """The words, with those of the profile that they name in the place of words that aren't given."""
     top = parser()
     given = top.parse_args(words)
@@ -110,7 +113,7 @@ def parsed(words):
     return given
 
 
-def main(words=None):
+def main(words: list[str] | None = None) -> int:
     """Runs a verb; answers with the exit code."""
     open_streams()
     with printing.guarded(), api.token_held(), broken_off_by(signal.SIGTERM, signal.SIGHUP):
@@ -121,7 +124,7 @@ def main(words=None):
             return 128 + ended.number
 
 
-def run(words):
+def run(words: list[str]) -> int:
     """The same, with all around it in order."""
     arguments = parsed(with_boxes(words))
     if not arguments.json:
@@ -139,10 +142,10 @@ def run(words):
     return code
 
 
-def attempt(arguments):
+def attempt(arguments: argparse.Namespace) -> tuple[int, BaseException | None]:
     """Runs a verb, and says on the error stream why it ended early; answers with the exit code and what was raised, or None."""
     try:
-        code = arguments.run(arguments)
+        code: int = arguments.run(arguments)
         sys.stdout.flush()
         return code, None
     except Trouble as trouble:
@@ -184,7 +187,7 @@ def attempt(arguments):
         return 70, fault
 
 
-def broken_session(arguments):
+def broken_session(arguments: argparse.Namespace) -> damage.Broken | None:
     """What is wrong with the sessions of the day on which a verb ended so; None where nothing is, or where that can't be told."""
     try:
         return damage.found(Day(arguments.day), Program.of(arguments))
@@ -229,7 +232,7 @@ def open_streams() -> None:
             os.open(os.devnull, os.O_RDWR)
 
 
-def deaf():
+def deaf() -> int:
     """The exit code where nobody reads standard output any more: nothing is flushed into it at the end."""
     os.dup2(os.open(os.devnull, os.O_WRONLY), sys.stdout.fileno())
     return 3
@@ -246,14 +249,14 @@ def drained() -> bool:
     return True
 
 
-def further(verb):
+def further(verb: str) -> str:
     """How one goes on where a verb was broken off: another than these two may have kept what it did, and would do it once more."""
     if verb in ('send', 'refresh', 'get'):
         return 'the same command again goes on from what is kept'
     return 'yoke status shows what is kept: look before the same command again'
 
 
-def complain(text):
+def complain(text: object) -> None:
     """One line on the error stream, after what was written before."""
     drained()
     note(' '.join(str(text).split('\n')))

@@ -110,7 +110,7 @@ class Day:
         self._sync()
         return last
 
-    def check_back(self):
+    def check_back(self) -> None:
         """Refused where `take_back` would be."""
         states = self.states()
         if len(states) < 2:

@@ -1,4 +1,6 @@
 """Files that a user names: read whole, compressed or not, and written without taking another file's place unseen."""
+from __future__ import annotations
+
 import bz2
 import contextlib
 import gzip
@@ -8,12 +10,13 @@ import pathlib
 import stat
 import sys
 import zlib
-from typing import IO, Callable, Dict, Iterable, Iterator
+from typing import IO, Callable, Dict, Iterable, Iterator, Union
 
 from yoke import day, printing
 from yoke.trouble import Refused, Trouble
 
-UNPACK: Dict[str, Callable[[IO[bytes]], IO[bytes]]] = {
+Unpacked = Union[gzip.GzipFile, bz2.BZ2File, lzma.LZMAFile]
+UNPACK: Dict[str, Callable[[IO[bytes]], Unpacked]] = {
     '.gz': lambda file: gzip.GzipFile(fileobj=file), '.bz2': bz2.BZ2File, '.xz': lzma.LZMAFile}
 MOST = 1 << 30          # bytes of a file, unpacked: what `editor` takes
 PIECE = 1 << 20
@@ -22,19 +25,20 @@ PIECE = 1 << 20
 def data_of(name: str, most: int = MOST) -> bytes:
     """The bytes of a file, unpacked where its name ends in .gz, .bz2 or .xz; of `-` those of standard input. Trouble where there are
     none, or more than `most`."""
-    path = pathlib.Path(name)
+    path, data = pathlib.Path(name), b''
     try:
         with contextlib.ExitStack() as stack:
-            file = _standard_input() if name == '-' else stack.enter_context(open(_no_device(path), 'rb'))
-            if path.suffix in UNPACK:
-                file = stack.enter_context(UNPACK[path.suffix](file))
-            return b''.join(_pieces(file, name, most))
+            file: IO[bytes] = _standard_input() if name == '-' else stack.enter_context(open(_no_device(path), 'rb'))
+            unpack = UNPACK.get(path.suffix)
+            pieces = _pieces(stack.enter_context(unpack(file)) if unpack else file, name, most)
+            data = b''.join(pieces)
     except FileNotFoundError:
         raise Trouble('there is no file {}'.format(name)) from None
     except IsADirectoryError:
         raise Trouble('{} is a folder'.format(name)) from None
     except (OSError, EOFError, lzma.LZMAError, zlib.error) as error:
         raise Trouble('{} can\'t be read: {}'.format(name, error)) from None
+    return data
 
 
 def _standard_input() -> IO[bytes]:
@@ -51,7 +55,7 @@ def _no_device(path: pathlib.Path) -> pathlib.Path:
     return path
 
 
-def _pieces(file: IO[bytes], name: str, most: int) -> Iterator[bytes]:
+def _pieces(file: IO[bytes] | Unpacked, name: str, most: int) -> Iterator[bytes]:
     """What a file has; Trouble where it is more than so many bytes."""
     count = 0
     while piece := file.read(PIECE):
@@ -66,7 +70,7 @@ def named(name: str) -> str:
     return './' + name if name.startswith('-') else name
 
 
-def check_outputs(names, read, folder):
+def check_outputs(names: Iterable[str], read: Iterable[str], folder: os.PathLike[str] | str) -> None:
     """Refused where an output of a command is a file that the same command reads, another of its outputs, or a file of the day in a folder."""
     taken = [('/dev/stdin' if name == '-' else name, 'read by the same command') for name in read]
     for name in names:
@@ -78,20 +82,20 @@ def check_outputs(names, read, folder):
         taken.append((name, 'another output of the same command'))
 
 
-def is_same(one, other):
+def is_same(one: str, other: str) -> bool:
     """Whether two names are of one file, which may not be there yet."""
     if os.path.exists(one) and os.path.exists(other):
         return os.path.samefile(one, other)
     return os.path.realpath(one) == os.path.realpath(other)
 
 
-def is_of_day(name, folder):
+def is_of_day(name: str, folder: os.PathLike[str] | str) -> bool:
     """Whether a name, or what it is a link to, is one that files of a day have, and in the folder of the day."""
     places = [os.path.join(os.path.realpath(os.path.dirname(name)), os.path.basename(name)), os.path.realpath(name)]
     return any(os.path.dirname(place) == os.path.realpath(folder) and day.is_own(os.path.basename(place)) for place in places)
 
 
-def write_own(name: str, text: str, mark: bytes, force: bool):
+def write_own(name: str, text: str, mark: bytes, force: bool) -> None:
     """Writes a file whole or not at all, of `-` to standard output; Refused as by `check_own`."""
     check_own(name, mark, force)
     if name == '-':
@@ -100,7 +104,7 @@ def write_own(name: str, text: str, mark: bytes, force: bool):
         day.write_whole(name, text)
 
 
-def check_own(name: str, mark: bytes, force: bool):
+def check_own(name: str, mark: bytes, force: bool) -> None:
     """Refused where a file is there already and wasn't written so by yoke, which its `mark` near its begin tells, unless `force`.
 
     It may hold work that is nowhere else. Trouble where it is a folder.

@@ -5,14 +5,18 @@ A change is a pair of a verb (`create`, `modify` or `delete`) and an `opl.Object
 import re
 from decimal import Decimal, InvalidOperation
 from itertools import groupby
-from typing import Any, Container, Dict, Iterable, List, Mapping, Optional, Tuple
+from typing import Any, Container, Dict, Iterable, List, Mapping, Optional, Sequence, Tuple
 from xml.etree import ElementTree
+from xml.etree.ElementTree import Element
 from xml.sax.saxutils import quoteattr
 
 from yoke import opl
 
 VERBS = ('create', 'modify', 'delete')
 NOT_CARRIED = re.compile('[^\t\n\r -~\x80-\ud7ff\ue000-\ufffd\U00010000-\U0010ffff]')     # of XML, and U+007F, which the API refuses
+
+
+Change = Tuple[str, opl.Object]
 
 
 class NotThere(ValueError):
@@ -70,7 +74,7 @@ def changeset(tags: Mapping[str, str]) -> str:
 
 # ---- read ----
 
-def root_of(text, *names):
+def root_of(text: str, *names: str) -> Element:
     """The root element of a document, whose name has to be one of these; NoXml where it isn't."""
     try:
         root = ElementTree.fromstring(text)
@@ -81,28 +85,28 @@ def root_of(text, *names):
     return root
 
 
-def thing(element):
+def thing(element: Element) -> opl.Object:
     """The object of an element `<node>`, `<way>` or `<relation>`; NoXml where it is none. Places have seven digits after the point."""
     try:
-        key = opl.LETTERS[element.tag] + element.get('id')
+        key = opl.LETTERS[element.tag] + element.attrib['id']
         deleted = element.get('visible') == 'false'
-        place = [None, None] if deleted or element.tag != 'node' or element.get('lon') is None else [
-            Decimal(opl.degrees(Decimal(element.get(name)))) for name in ('lon', 'lat')]
+        has_place = not deleted and element.tag == 'node' and element.get('lon') is not None
+        lon, lat = (Decimal(opl.degrees(Decimal(element.attrib[name]))) if has_place else None for name in ('lon', 'lat'))
         return opl.Object(
             key, int(element.get('version') or 0), deleted, int(element.get('changeset') or 0), element.get('timestamp') or '',
-            int(element.get('uid') or 0), element.get('user') or '', {tag.get('k'): tag.get('v') for tag in element.iter('tag')}, *place,
-            tuple('n' + node.get('ref') for node in element.iter('nd')),
-            tuple((opl.LETTERS[member.get('type')] + member.get('ref'), member.get('role') or '') for member in element.iter('member')))
+            int(element.get('uid') or 0), element.get('user') or '', {tag.attrib['k']: tag.attrib['v'] for tag in element.iter('tag')}, lon, lat,
+            tuple('n' + node.attrib['ref'] for node in element.iter('nd')),
+            tuple((opl.LETTERS[member.attrib['type']] + member.attrib['ref'], member.get('role') or '') for member in element.iter('member')))
     except (KeyError, TypeError, ValueError, InvalidOperation):
         raise NoXml('<{} id="{}"> is no object'.format(element.tag, element.get('id'))) from None
 
 
-def things(text):
+def things(text: str) -> List[opl.Object]:
     """The objects of an `<osm>` document, deleted ones too, in its order."""
     return [thing(element) for element in root_of(text, 'osm') if element.tag in opl.LETTERS]
 
 
-def changes(text):
+def changes(text: str) -> List[Change]:
     """The changes of an osmChange document, in its order."""
     found = []
     for part in root_of(text, 'osmChange'):
@@ -112,7 +116,7 @@ def changes(text):
     return found
 
 
-def changeset_of(text):
+def changeset_of(text: str) -> str:
     """The id of the changeset that an osmChange document of ours is made for."""
     found = re.search(' changeset="([0-9]+)"', text)
     if not found:
@@ -122,7 +126,7 @@ def changeset_of(text):
 
 # ---- answers ----
 
-def answers(sent, text):
+def answers(sent: Iterable[Change], text: str) -> List[str]:
     """The lines of an answer file for `confirm`, of the diffResult that a server answered to changes.
 
     ValueError where it doesn't answer each of them, in its own version, and no other.
@@ -144,7 +148,7 @@ def answers(sent, text):
     return lines
 
 
-def answer(verb, one, result):
+def answer(verb: str, one: opl.Object, result: Element) -> str:
     """The answer to one change, of its line in a diffResult."""
     if verb == 'delete':
         return 'delete {} v{}'.format(one.key, one.version + 1)
@@ -154,7 +158,7 @@ def answer(verb, one, result):
     return 'create {} {} v1'.format(one.key, key) if verb == 'create' else 'modify {} v{}'.format(key, version)
 
 
-def result(sent):
+def result(sent: Iterable[Change]) -> str:
     """The diffResult of changes and deletions that were taken, made here where the server's own never came."""
     return result_of('{} {} v{}'.format(verb, one.key, one.version + 1) for verb, one in sent)
 
@@ -170,7 +174,7 @@ def result_of(lines: Iterable[str]) -> str:
     return '\n'.join(found + ['</diffResult>']) + '\n'
 
 
-def looked_up(sent, text, given=()):
+def looked_up(sent: Sequence[Change], text: str, given: Container[str] = ()) -> List[str]:
     """The lines of an answer file, of what a changeset has (`GET changeset/ID/download`), where no diffResult came.
 
     `given` are keys that the changeset gave to earlier changes: they answer none of these. A new object is the one with the
@@ -201,19 +205,19 @@ def matched(sent: Iterable[Tuple[str, opl.Object]], text: str, given: Container[
     names: Dict[str, str] = {}
     for verb, one in sent:
         if verb == 'create':
-            keys = made.get(body(one, names))
-            line = keys and 'create {} {} v1'.format(one.key, keys[-1])
-            if keys:
-                names[one.key] = keys.pop()
+            left = made.get(body(one, names))
+            line = 'create {} {} v1'.format(one.key, left[-1]) if left else None
+            if left:
+                names[one.key] = left.pop()
         else:
             found = there.get((verb, one.key, one.version + 1))
             alike = found is not None and (verb == 'delete' or body(found, {}) == body(one, names))
-            line = alike and '{} {} v{}'.format(verb, one.key, one.version + 1)
-        lines.append(line or None)
+            line = '{} {} v{}'.format(verb, one.key, one.version + 1) if alike else None
+        lines.append(line)
     return lines
 
 
-def body(one, names):
+def body(one: opl.Object, names: Mapping[str, str]) -> Tuple[object, ...]:
     """What an object has but for its id, as something to compare; `names` are the keys that new objects got."""
     return (one.key[0], tuple(sorted(one.tags.items())), one.lon, one.lat,
             tuple(names.get(key, key) for key in one.nodes), tuple((names.get(key, key), role) for key, role in one.members))

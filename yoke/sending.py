@@ -40,13 +40,16 @@ a version can't be taken twice at all.
 """
 import enum
 import json
+import pathlib
 import re
 from dataclasses import dataclass, field
-from typing import Callable, Dict, List, Optional, Tuple
+from typing import Callable, Dict, List, Optional, Set, Tuple
 
 from yoke import accounts, api, extent, journal, opl, osc, words
 from yoke.api import Account, Limits, Server
 from yoke.day import Day, State
+from yoke.osc import Change
+from yoke.program import Answer
 from yoke.session import Session
 from yoke.stored import Stored
 from yoke.trouble import Clash, NoAnswer, Redacted, Refused, ServerRefused, Trouble
@@ -57,6 +60,11 @@ WAITS = (10, 60)            # seconds between them
 FENCE_WAITS = (5, 15, 60)   # seconds in which a changeset that is closed may still be at work
 CLASHES = (409, 410, 412)   # somebody was faster
 Identity = Tuple[State, int, int]   # a kept session, and the file that it is now
+
+
+def always(chunk: List[Change]) -> bool:
+    """Lets each chunk go out."""
+    return True
 
 
 class Outcome(enum.Enum):
@@ -113,6 +121,23 @@ class Sending:
     def day(self) -> Day:
         return self.session.day
 
+    @property
+    def current(self) -> Open:
+        """The changeset that is open; one has to be."""
+        assert self.changeset is not None
+        return self.changeset
+
+    @property
+    def most(self) -> int:
+        """How many changes the server takes in a changeset."""
+        assert self.limits is not None
+        return self.limits.changes
+
+    @property
+    def _document(self) -> pathlib.Path:
+        """The path of the document that is out."""
+        return self.day.path(self.day.beside(self.day.last(), 'osc'))
+
     def run(self) -> None:
         """Sends until nothing is left; the folder of the day has to be locked.
 
@@ -131,7 +156,7 @@ class Sending:
         self.sender = accounts.check(self.day, self.server, self.account, self.note)
         self._take_up()
 
-    def send_all(self, may_go=lambda chunk: True):
+    def send_all(self, may_go: Callable[[List[Change]], bool] = always) -> bool:
         """Sends the last session, chunk by chunk, and leaves the changeset open. Answers whether nothing is left of it.
 
         `may_go` is asked of each chunk before it goes out; where it says no, the chunk and all after it stay here.
@@ -154,61 +179,67 @@ class Sending:
 
     # ---- where it stands ----
 
-    def _take_up(self):
+    def _take_up(self) -> None:
         """Goes on from rows 2, 3 and 4 to row 1 or 2."""
         self.changeset = noted(self.day)
         if self.day.pending():
             if self.changeset is None:
-                self.changeset = Open(osc.changeset_of(self._read('osc')), self.tags)
+                self.changeset = Open(osc.changeset_of(self._there('osc')), self.tags)
             if self._read('answer') is not None or self._settle():
                 self._confirm()
         if self.changeset:
-            self.changeset.count, is_open = self._looked_at()
+            self.current.count, is_open = self._looked_at()
             confirmed = len(self._earlier())
-            if self.changeset.count > confirmed:
+            if self.current.count > confirmed:
                 raise Trouble("{}; where they are none of this day's, remove {}".format(
-                    self._others(self.changeset.count, confirmed), self.day.path("changeset")))
+                    self._others(self.current.count, confirmed), self.day.path("changeset")))
             if not is_open:
                 self._drop()
-            elif self.changeset.tags != self.tags or self.changeset.count >= self.limits.changes:
+            elif self.current.tags != self.tags or self.current.count >= self.most:
                 self.close()
 
-    def _looked_at(self):
+    def _looked_at(self) -> Tuple[int, bool]:
         """How many changes the changeset has, and whether it is open; one that the server doesn't know isn't."""
         try:
-            return self.server.changeset(self.changeset.number)
+            return self.server.changeset(self.current.number)
         except ServerRefused as refused:
             if refused.status != 404:
                 raise
             return 0, False
 
-    def _read(self, ending):
+    def _read(self, ending: str) -> Optional[str]:
         return self.day.read(self.day.beside(self.day.last(), ending))
 
-    def _write(self, ending, text):
+    def _there(self, ending: str) -> str:
+        """The text of a file of the last session, which has to be there."""
+        text = self._read(ending)
+        assert text is not None
+        return text
+
+    def _write(self, ending: str, text: str) -> None:
         self.day.write(self.day.beside(self.day.last(), ending), text)
 
-    def _remove(self, ending):
+    def _remove(self, ending: str) -> None:
         self.day.remove(self.day.beside(self.day.last(), ending))
 
     # ---- rows 1 and 2 ----
 
     def room(self) -> int:
         """How many changes the next chunk may have; where the changeset is full the chunk goes into another one."""
-        left = self.limits.changes - (self.changeset.count if self.changeset else 0)
+        left = self.most - (self.current.count if self.changeset else 0)
         return min(self.largest(), left) if left > 0 else self.largest()
 
     def largest(self) -> int:
         """How many changes a chunk may have in a changeset of its own."""
-        return min(self._small or self.size, self.limits.changes)
+        return min(self._small or self.size, self.most)
 
-    def _next_chunk(self):
+    def _next_chunk(self) -> List[Change]:
         """The changes of the next chunk; none where nothing is left."""
         if self._ahead_of != identity(self.day.last()):
             self._look_ahead(self.session.ask(['upload {}'.format(self.room())]))
         return self._within_extent(self._ahead[:self.room()])
 
-    def _look_ahead(self, answer):
+    def _look_ahead(self, answer: Answer) -> None:
         """Keeps the next changes of the last session, of an Answer whose last `upload` has them: after a refusal they are asked for no
         second time."""
         self._ahead, self._ahead_of = answer.first_chunk(), identity(self.day.last())
@@ -220,20 +251,20 @@ class Sending:
             self._boxes_of = wanted, extent.Boxes(Stored(self.day.last().path))
         return self._boxes_of[1]
 
-    def _within_extent(self, chunk):
+    def _within_extent(self, chunk: List[Change]) -> List[Change]:
         """As many changes of a chunk as keep the changeset within the extent. Where not even the first does the changeset is closed; a
         change that spans more by itself goes out alone."""
         if self.max_extent is None or not chunk:
             return chunk
         count = 0
-        if self.changeset and (self.changeset.is_measured or not self.changeset.count):
-            count = self._boxes().fitting(chunk, self.changeset.box, self.max_extent)
-        if not count and self.changeset and self.changeset.count:
-            self.note('changeset {}: the next change lies too far away, and goes into another one'.format(self.changeset.number))
+        if self.changeset and (self.current.is_measured or not self.current.count):
+            count = self._boxes().fitting(chunk, self.current.box, self.max_extent)
+        if not count and self.changeset and self.current.count:
+            self.note('changeset {}: the next change lies too far away, and goes into another one'.format(self.current.number))
             self.close()
         return chunk[:count or self._boxes().fitting(chunk, None, self.max_extent) or 1]
 
-    def _open(self):
+    def _open(self) -> None:
         number = self.server.open_changeset(self.tags)
         note_server(self.day, self.server)
         accounts.note_account(self.day, self.sender)
@@ -245,39 +276,39 @@ class Sending:
         """Closes the changeset, if one is open, and forgets it."""
         if self.changeset:
             try:
-                self.server.close_changeset(self.changeset.number)
+                self.server.close_changeset(self.current.number)
             except ServerRefused as refused:
                 if not words.is_of_another_account(refused.text):
                     raise
             self._drop()
 
-    def _drop(self):
+    def _drop(self) -> None:
         self.day.remove('changeset')
         self.changeset = None
 
     # ---- row 3 ----
 
-    def _deliver(self, chunk):
+    def _deliver(self, chunk: List[Change]) -> Outcome:
         """Sends a chunk; answers with its Outcome. Raises Clash or ServerRefused where the server refuses what is in it."""
         try:
-            document = osc.document(chunk, self.changeset.number)
+            document = osc.document(chunk, self.current.number)
         except ValueError as error:
             raise Refused(str(error)) from None
         self._write('osc', document)
         self._out, self._answered = chunk, None
         try:
-            text = self.server.upload(self.changeset.number, document)
+            text = self.server.upload(self.current.number, document)
             self._answered = osc.answers(chunk, text)
         except ServerRefused as refused:
             return self._refused(refused, chunk)
         except (NoAnswer, osc.NoXml) as silence:
             self.unusable = 0       # the server took no offence at this changeset
-            self.note('{}; the changeset {} is looked into'.format(silence, self.changeset.number))
+            self.note('{}; the changeset {} is looked into'.format(silence, self.current.number))
             return Outcome.TAKEN if self._settle() else Outcome.SILENT
         self._write('answer', text)
         return Outcome.TAKEN
 
-    def _refused(self, refused, chunk):
+    def _refused(self, refused: ServerRefused, chunk: List[Change]) -> Outcome:
         """What a 4xx means."""
         if refused.status == 409 and not words.is_version_mismatch(refused.text):
             return self._other_changeset(refused)
@@ -300,16 +331,16 @@ class Sending:
             self._remove('osc')
         raise refused
 
-    def _was_taken(self):
+    def _was_taken(self) -> bool:
         """Whether a document was taken although it was refused, since a proxy had sent it twice."""
-        count, _ = self.server.changeset(self.changeset.number)
+        count, _ = self.server.changeset(self.current.number)
         if not self._counts(count):
             return False
         if not self._found() and not self._found_hidden():
             raise self._unseen()
         return True
 
-    def _make_smaller(self, refused, chunk):
+    def _make_smaller(self, refused: ServerRefused, chunk: List[Change]) -> None:
         """Sees to it that the next document is smaller than this chunk, or goes into another changeset; of a 429 it waits, too."""
         if refused.status == 429:
             self._small = max(1, len(chunk) // 2)
@@ -317,7 +348,7 @@ class Sending:
             self._attempts += 1
             return
         self.note('{}'.format(refused))
-        if self.changeset.count:
+        if self.current.count:
             self.close()
         elif len(chunk) == 1:
             verb, one = chunk[0]
@@ -328,7 +359,7 @@ class Sending:
         else:
             self.size = len(chunk) // 2     # for good: the server's limit of a document doesn't change
 
-    def _span_less(self, chunk):
+    def _span_less(self, chunk: List[Change]) -> None:
         """Lets changesets span half as much as this chunk; where its changes have no place the next chunk has half of them."""
         box = self._boxes().of_all(chunk)
         if box is None or not box.extent:
@@ -337,9 +368,9 @@ class Sending:
             self.max_extent = box.extent // 2
             self.note('from here on a changeset spans {} degrees at most'.format(extent.degrees(self.max_extent)))
 
-    def _other_changeset(self, refused):
+    def _other_changeset(self, refused: ServerRefused) -> Outcome:
         """A 409 for the changeset itself: it is closed, or somebody works in it. A second new one in a row is another fault."""
-        self.unusable = 0 if self.changeset.count else self.unusable + 1
+        self.unusable = 0 if self.current.count else self.unusable + 1
         self.note('{}'.format(refused))
         if words.is_of_another_account(refused.text):
             self._remove('osc')
@@ -350,7 +381,7 @@ class Sending:
             raise refused
         return Outcome.AGAIN
 
-    def _settle(self):
+    def _settle(self) -> bool:
         """Whether the document that is out was taken. If not it never will be: its changeset is closed, and both are gone here.
 
         NoAnswer where that can't be told yet.
@@ -366,7 +397,7 @@ class Sending:
         self._drop()
         return False
 
-    def _look(self):
+    def _look(self) -> Optional[bool]:
         """Whether the document that is out is found; None where no answer tells."""
         try:
             return self._found()
@@ -374,13 +405,13 @@ class Sending:
             self.note('{}'.format(silence))
             return None
 
-    def _fence(self):
+    def _fence(self) -> bool:
         """Closes the changeset until it is closed; answers whether it counts the changes of the document that is out.
 
         A close may be refused while a document is at work in it: NoAnswer where that takes too long. Trouble where it counts
         changes that are neither this day's nor those that are out.
         """
-        number, waits = self.changeset.number, list(FENCE_WAITS)
+        number, waits = self.current.number, list(FENCE_WAITS)
         while True:
             self.server.close_changeset(number)
             count, is_open = self.server.changeset(number)
@@ -392,36 +423,36 @@ class Sending:
             api.pause(waits.pop(0))
         return self._counts(count)
 
-    def _counts(self, count):
+    def _counts(self, count: int) -> bool:
         """Whether so many changes in the changeset are with those of the document that is out. Trouble where they are others."""
         confirmed, out = len(self._earlier()), len(self._sent())
         if count not in (confirmed, confirmed + out):
             raise self._others(count, confirmed)
         return count == confirmed + out
 
-    def _hold_to_count(self):
+    def _hold_to_count(self) -> None:
         """NoAnswer where the changeset counts the changes of the document that is out, though it was refused and isn't found."""
-        count, _ = self.server.changeset(self.changeset.number)
+        count, _ = self.server.changeset(self.current.number)
         if self._counts(count):
             raise self._unseen()
 
-    def _unseen(self):
+    def _unseen(self) -> NoAnswer:
         return NoAnswer('the changeset {} counts the changes of {}, and doesn\'t show them yet'.format(
-            self.changeset.number, self.day.path(self.day.pending())))
+            self.current.number, self._document))
 
-    def _others(self, count, confirmed):
+    def _others(self, count: int, confirmed: int) -> Trouble:
         return Trouble('the changeset {} has {} changes, and {} were confirmed: look what they are before anything is sent again'.format(
-            self.changeset.number, count, confirmed))
+            self.current.number, count, confirmed))
 
-    def _sent(self):
+    def _sent(self) -> List[Change]:
         """The changes of the document that is out."""
-        return osc.changes(self._read('osc'))
+        return osc.changes(self._there('osc'))
 
-    def _found(self):
+    def _found(self) -> bool:
         """Looks whether the server has the document that is out; keeps what says so as the answer."""
         sent = self._sent()
         try:
-            text = self.server.download(self.changeset.number)
+            text = self.server.download(self.current.number)
         except (NoAnswer, ServerRefused) as silence:
             return self._found_by_version(sent, silence)
         try:
@@ -429,12 +460,12 @@ class Sending:
         except osc.NotThere:
             return False
         except osc.NoXml as fault:
-            return self._found_by_version(sent, NoAnswer('the changeset {} can\'t be read: {}'.format(self.changeset.number, fault)))
+            return self._found_by_version(sent, NoAnswer('the changeset {} can\'t be read: {}'.format(self.current.number, fault)))
         except ValueError as fault:
-            if self._counts(self.server.changeset(self.changeset.number)[0]) and self._found_hidden():
+            if self._counts(self.server.changeset(self.current.number)[0]) and self._found_hidden():
                 return True
             raise Trouble('the changeset {} isn\'t what API 0.6 makes of {}: {}'.format(
-                self.changeset.number, self.day.path(self.day.pending()), fault)) from None
+                self.current.number, self._document, fault)) from None
         self._write('answer', text)
         return True
 
@@ -443,7 +474,7 @@ class Sending:
         what says so as the answer. A new object's id is nowhere else, so one that is hidden isn't found."""
         sent, lines = self._sent(), []
         try:
-            found = osc.matched(sent, self.server.download(self.changeset.number), self._given())
+            found = osc.matched(sent, self.server.download(self.current.number), self._given())
         except (NoAnswer, ServerRefused, osc.NoXml) as silence:
             self.note('{}'.format(silence))
             return False
@@ -464,7 +495,7 @@ class Sending:
             return True
         return False
 
-    def _found_by_version(self, sent, silence):
+    def _found_by_version(self, sent: List[Change], silence: Trouble) -> bool:
         """The same where the changeset itself can't be looked into, by the version that a change or deletion made.
 
         The silence is raised where there is neither, or where new objects were taken, whose ids the changeset alone tells.
@@ -473,42 +504,42 @@ class Sending:
         if one is None:
             raise silence
         made = self.server.version(one.key, one.version + 1)
-        if made is None or str(made.changeset) != self.changeset.number:
+        if made is None or str(made.changeset) != self.current.number:
             return False
         if any(verb == 'create' for verb, _ in sent):
             raise silence
         self._write('answer', osc.result(sent))
         return True
 
-    def _given(self):
+    def _given(self) -> Set[str]:
         """The keys that this changeset gave to new objects before: they answer nothing of what is out."""
         return {line.split(' ')[2] for line in self._earlier() if line.startswith('create ')}
 
-    def _earlier(self):
+    def _earlier(self) -> List[str]:
         """The lines of all answers that were confirmed before, of documents in the changeset that is open."""
         lines = []
         for path in sorted(self.day.folder.glob('*.answers')):
             document = self.day.read(path.name.replace('.answers', '.osc'))
-            if path.name != self.day.beside(self.day.last(), 'answers') and document and osc.changeset_of(document) == self.changeset.number:
+            if path.name != self.day.beside(self.day.last(), 'answers') and document and osc.changeset_of(document) == self.current.number:
                 lines += path.read_text(encoding='utf-8').splitlines()
         return lines
 
     # ---- row 4 ----
 
-    def _confirm(self):
+    def _confirm(self) -> List[Change]:
         """Takes the answer in, keeps the session after it, and answers with the next chunk."""
         lines = self._lines_of_answer()
         self._write('answers', ''.join(line + '\n' for line in lines))
         self._measure()
-        self.changeset.count += len(lines)
+        self.current.count += len(lines)
         self._grow()
         answer = self.session.confirm(self.day.beside(self.day.last(), 'answers'), self.room())
         self._look_ahead(answer)
         self.sent, self.unusable = self.sent + len(lines), 0
-        if self.changeset.number not in self.used:
-            self.used.append(self.changeset.number)
-        self.note('changeset {}: {} changes taken, {} left'.format(self.changeset.number, len(lines), answer.upload_size() + self.held))
-        if self.changeset.count >= self.limits.changes:
+        if self.current.number not in self.used:
+            self.used.append(self.current.number)
+        self.note('changeset {}: {} changes taken, {} left'.format(self.current.number, len(lines), answer.upload_size() + self.held))
+        if self.current.count >= self.most:
             self.close()
         return self._next_chunk()
 
@@ -517,20 +548,20 @@ class Sending:
         lines, self._answered = self._answered, None
         if lines is not None:
             return lines
-        sent, text = self._sent(), self._read('answer')
+        sent, text = self._sent(), self._there('answer')
         try:
             return osc.answers(sent, text) if '<diffResult' in text else osc.looked_up(sent, text, self._given())
         except ValueError as fault:
             raise Trouble('{} doesn\'t answer {}: {}'.format(
-                self.day.path(self.day.beside(self.day.last(), 'answer')), self.day.path(self.day.pending()), fault)) from None
+                self.day.path(self.day.beside(self.day.last(), 'answer')), self._document, fault)) from None
 
     def _measure(self) -> None:
         """Lets the box of the changeset be around the changes that were taken, where it was around all before them."""
         assert self.changeset is not None
-        knows = self.max_extent is not None and self._out is not None and (self.changeset.is_measured or not self.changeset.count)
+        knows = self.max_extent is not None and self._out is not None and (self.current.is_measured or not self.current.count)
         if knows:
-            self.changeset.box = extent.joined(self.changeset.box, self._boxes().of_all(self._out or []))
-        self.changeset.is_measured, self._out = knows, None
+            self.current.box = extent.joined(self.current.box, self._boxes().of_all(self._out or []))
+        self.current.is_measured, self._out = knows, None
 
     def _grow(self) -> None:
         """Lets the next chunk have twice as many changes, up to as many as were wanted."""

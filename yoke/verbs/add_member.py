@@ -1,4 +1,6 @@
 """`yoke add-member`: one member into a relation."""
+import argparse
+
 from yoke import results, table
 from yoke.scripts import lists
 from yoke.session import Session
@@ -6,7 +8,7 @@ from yoke.session import Session
 SUMMARY = 'make an object a member of a relation'
 
 
-def add_arguments(parser):
+def add_arguments(parser: argparse.ArgumentParser) -> None:
     parser.add_argument('key', metavar='KEY')
     parser.add_argument('relation', metavar='RELATION')
     parser.add_argument('role', metavar='ROLE', nargs='?', default='')
@@ -14,7 +16,7 @@ def add_arguments(parser):
     parser.add_argument('--again', action='store_true', help='also where it is a member with this role already')
 
 
-def run(arguments):
+def run(arguments: argparse.Namespace) -> int:
     session = Session.of(arguments)
     with session.day.locked():
         found = table.read(session.day.last().text())

@@ -1,6 +1,7 @@
 """`yoke expand`: a script as the program editor takes it."""
+import argparse
 import re
-from typing import Callable, List, Optional
+from typing import Callable, Iterable, List, Optional
 
 from yoke import files, opl, results, stored, table
 from yoke.formats.suspicions import Accepted
@@ -31,13 +32,13 @@ Each finds what is there at its place in the script. `yoke do` expands such scri
 script itself has read, and ids count from -1, or from where the session counts that a first line `resume FILE` names."""
 
 
-def add_arguments(parser):
+def add_arguments(parser: argparse.ArgumentParser) -> None:
     parser.add_argument('script', metavar='SCRIPT', help='a file of lines; - is standard input')
     parser.add_argument('--next', metavar='N', type=int, help='the number of the next new object: 7 stands for the id -7')
     parser.add_argument('--session', action='store_true', help='as `yoke do` would do it now, over the session of the day')
 
 
-def run(arguments):
+def run(arguments: argparse.Namespace) -> int:
     if arguments.next and arguments.session:
         raise Usage('--next or --session, not both')
     try:
@@ -94,7 +95,7 @@ def bad_line(name: str, script: names.Expanded, line: int, why: str) -> BadLine:
     return BadLine('{}:{}: {}'.format(name, number, why), number)
 
 
-def first_number(lines):
+def first_number(lines: Iterable[str]) -> int:
     """The number of the next new object at the begin of a script."""
     steps = (grammar.words_of(line) for line in lines if not grammar.is_skipped(line))
     verb, *rest = next(steps, [''])

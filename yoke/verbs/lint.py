@@ -1,4 +1,7 @@
 """`yoke lint`: every bad line of a script, with its cause."""
+import argparse
+from typing import List
+
 from yoke import results
 from yoke.files import data_of
 from yoke.scripts import grammar, lint, names
@@ -9,11 +12,11 @@ DETAILS = """A script may give names to new objects, and have lines that yoke wr
 do` would run it. Nothing is run. A line that is none ends with 1."""
 
 
-def add_arguments(parser):
+def add_arguments(parser: argparse.ArgumentParser) -> None:
     parser.add_argument('scripts', metavar='SCRIPT', nargs='+', help='a file of lines; - is standard input')
 
 
-def run(arguments):
+def run(arguments: argparse.Namespace) -> int:
     count = 0
     for name in arguments.scripts:
         found = findings(data_of(name))
@@ -24,7 +27,7 @@ def run(arguments):
     return 1 if count else 0
 
 
-def findings(data):
+def findings(data: bytes) -> List[lint.Finding]:
     """What is wrong with a script, with the numbers of its own lines."""
     if len(data) > lint.LARGEST:
         return [lint.Finding(0, '', 'the script has {} bytes, and {} are the most'.format(len(data), lint.LARGEST), 'put new objects into a file, and import it')]
@@ -37,7 +40,7 @@ def findings(data):
             for found in lint.findings(expanded.lines, short=True)]
 
 
-def count(word):
+def count(word: str) -> int:
     """How many new objects the file of an `import` line has; ValueError where that can't be known."""
     try:
         return names.new_objects(data_of(grammar.check_text(word, 'the file')).decode('utf-8', 'replace'))

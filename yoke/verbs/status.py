@@ -1,37 +1,43 @@
 """`yoke status`: where the day stands."""
+import argparse
+from typing import Mapping
+
 from yoke import results
+from yoke.day import Day
 from yoke.sending import noted
 from yoke.session import Session
 
 SUMMARY = 'show where the day stands: what is edited, in conflict, sent, and what to do next'
 
 
-def add_arguments(parser):
+def add_arguments(parser: argparse.ArgumentParser) -> None:
     pass
 
 
-def run(arguments):
+def run(arguments: argparse.Namespace) -> int:
     session = Session.of(arguments)
     day, last = session.day, session.day.last()
-    counts = session.ask(['count']).counts()
-    results.put(session=results.of_state(last), counts=counts, server=(day.read('server') or '').strip() or None, pending=day.pending(),
-                changeset=noted(day).number if noted(day) else None, next=advice(day, counts))
+    counts, changeset = session.ask(['count']).counts(), noted(day)
+    server = (day.read('server') or '').strip()
+    results.put(session=results.of_state(last), counts=counts, server=server or None, pending=day.pending(),
+                changeset=changeset.number if changeset else None, next=advice(day, counts))
     print('session {} by {}, in {}'.format(last.number, last.verb, day.folder))
     print('{nodes} nodes, {ways} ways, {relations} relations; {changed} edited, {conflicts} in conflict'.format(**counts))
-    if day.read('server'):
-        print('server {}'.format(day.read('server').strip()))
-    if noted(day):
-        print('changeset {} is open'.format(noted(day).number))
+    if server:
+        print('server {}'.format(server))
+    if changeset:
+        print('changeset {} is open'.format(changeset.number))
     print(advice(day, counts))
     return 0
 
 
-def advice(day, counts):
+def advice(day: Day, counts: Mapping[str, int]) -> str:
     """The next step."""
     if day.pending():
         return 'it isn\'t known what the server took of {}: yoke send looks, and goes on'.format(day.pending())
-    if day.held():
-        return 'a send was stopped while {} edits were held back, which aren\'t counted here: the same yoke send goes on'.format(len(day.held().keys))
+    held = day.held()
+    if held:
+        return 'a send was stopped while {} edits were held back, which aren\'t counted here: the same yoke send goes on'.format(len(held.keys))
     if counts['conflicts']:
         return 'yoke conflicts shows what clashes, and yoke resolve settles it'
     if counts['changed']:

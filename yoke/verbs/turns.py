@@ -1,4 +1,6 @@
 """`yoke turns`: turn restrictions and lanes of turns whose ways don't meet."""
+import argparse
+
 from yoke import opl, results, sides, table
 from yoke.scripts import turns
 from yoke.session import Session
@@ -9,12 +11,12 @@ DETAILS = """It looks at relations of the types restriction, restriction:.., con
 ways of a role those that meet the junction, or the piece of the same street that does. Ends with 1 where one is left."""
 
 
-def add_arguments(parser):
+def add_arguments(parser: argparse.ArgumentParser) -> None:
     parser.add_argument('keys', metavar='KEY', nargs='*', help='only these relations')
     parser.add_argument('--mend', action='store_true', help='do the mends that are shown, all or nothing')
 
 
-def run(arguments):
+def run(arguments: argparse.Namespace) -> int:
     for key in arguments.keys:
         if not opl.KEY.fullmatch(key) or key[0] != 'r':
             raise Usage('a relation is wanted, as r5, and not {}'.format(key))
