@@ -347,8 +347,9 @@ class Refusals(LoginTest):
         self.assertIn('yoke logout and yoke login', self.err)
 
     def test_a_code_that_is_over(self):
-        self.site.clock = lambda: time.time() + (100 if self.browser.answers else 0)
-        self.assertEqual(6, self.login())
+        gone: list[str] = []        # where the browser went with the code
+        self.site.clock = lambda: time.time() + (100 if gone else 0)
+        self.assertEqual(6, self.login(browser=Browser(before=lambda _, back: gone.append(back))))
         self.assertIn('the code is over', self.err)
         self.no_login()
 
