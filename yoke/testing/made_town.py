@@ -2,7 +2,8 @@
 
     python3 -m yoke.testing.made_town BLOCKS FILE.opl [--seed N] [--slips] [--towns NxM]
 
-Streets cross at shared nodes. `--towns` makes a country of copies of the town, side by side. With `--slips` there are repeated nodes, doubled nodes, rings that aren't closed, and old tags.
+Streets cross at shared nodes. `--towns` makes a country of copies of the town, side by side. With
+`--slips` there are repeated nodes, doubled nodes, rings that aren't closed, and old tags.
 """
 from __future__ import annotations
 
