@@ -1598,7 +1598,7 @@ class Session:
             self.accepted(patch)
             return ' '.join(['ok'] + ([','.join(made)] if made else [])), ''
         else:
-            sys.exit('{} is no step'.format(verb))
+            raise ValueError('{} is no step'.format(verb))
         return 'ok', ''
 
     def forget(self):
