@@ -108,7 +108,8 @@ def score(rules: Rules, feature: Thing, thing: Thing, far: float, names: Names
         return None
     place, shared = 1 - far / rules.within, None
     if len(feature.path) > 1 and len(thing.path) > 1 and feature.is_area == thing.is_area:
-        place = shared = overlap(feature, thing, rules.within)
+        is_named = any(key in tags and key in other for key in rules.like)
+        place = shared = overlap(feature, thing, rules.within, both=not is_named)
         if shared < SOME:
             return None
         if shared >= rules.overlap:
@@ -163,6 +164,8 @@ def judged_by(rules: Rules, feature: Thing, thing: Thing, far: float, names: Nam
     if shared is not None and shared < rules.overlap:
         total = min(total, below)
         total = max(total, rules.doubt) if feature.is_area else total       # two outlines at one place
+    elif shared is not None and feature.is_area and not likes:
+        total = max(total, rules.least)     # outlines without names agree by as much as the rule wants
     return total, ' '.join(reasons)
 
 

@@ -83,14 +83,19 @@ def shapely() -> Any:
     return found
 
 
-def overlap(one: Thing, other: Thing, within: float) -> float:
+def overlap(one: Thing, other: Thing, within: float, both: bool = False) -> float:
     """Which share of two outlines or lines agrees, 0 to 1. Of outlines it is their intersection by
-    their union; of lines the share of the one with the larger share that lies by the other."""
+    their union; of lines the share of the one with the larger share that lies by the other.
+
+    Of two lines with `both` the one with the smaller share counts: a short line by a long one
+    isn't that line then.
+    """
     about = one.middle
     first, second = local(one.path, about), local(other.path, about)
     if one.is_area and other.is_area:
         return of_outlines(first, second)
-    return max(share_near(first, second, within), share_near(second, first, within))
+    shares = share_near(first, second, within), share_near(second, first, within)
+    return min(shares) if both else max(shares)
 
 
 def of_outlines(first: Sequence[Point], second: Sequence[Point]) -> float:
@@ -152,7 +157,7 @@ class Grid:
         self.columns = max(1, math.floor(360 / wide))
         self.wide = 360 / self.columns
         self.cells: Dict[Tuple[int, int], List[Thing]] = defaultdict(list)
-        self.large: List[Thing] = []
+        self.large: List[Tuple[Thing, int, int, int, int]] = []     # with west, east, south, north in cells
         for thing in things:
             self._put(thing)
 
@@ -162,7 +167,7 @@ class Grid:
         west, east = self._x(first + min(steps)), self._x(first + max(steps))
         rows = [self._y(y) for _, y in thing.path]
         if (east - west + 1) * (max(rows) - min(rows) + 1) > MOST_CELLS:
-            self.large.append(thing)
+            self.large.append((thing, west, east, min(rows), max(rows)))
             return
         for x in range(west, east + 1):
             for y in range(min(rows), max(rows) + 1):
@@ -179,4 +184,6 @@ class Grid:
         x, y = self._x(place[0]), self._y(place[1])
         found = {id(thing): thing for dx in (-1, 0, 1) for dy in (-1, 0, 1)
                  for thing in self.cells.get(((x + dx) % self.columns, y + dy), ())}
-        return [*found.values(), *self.large]
+        large = [thing for thing, west, east, south, north in self.large
+                 if south - 1 <= y <= north + 1 and (x - west + 1) % self.columns <= east - west + 2]
+        return [*found.values(), *large]

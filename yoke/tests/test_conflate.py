@@ -180,6 +180,25 @@ class Verb(ConflateTest):
                     self.assertEqual({kind: 1}, self.kinds(), east)
         self.assertIn('python3-shapely', self.err)
 
+    def test_a_short_line_by_a_long_one_isnt_that_line_without_names(self):
+        line = [[13.01, 52.001], [13.0102, 52.0011], [13.0132, 52.0026]]
+        for tags, is_same in (({'name': 'Am Bach'}, True), ({'name': 'Waldweg'}, False), ({}, False)):
+            feature = {'type': 'Feature', 'properties': {'highway': 'path', 'phone': '7', **tags}, 'geometry': {'type': 'LineString', 'coordinates': line}}
+            self.assertEqual(0, self.conflate(json.dumps(feature), '--columns', ','.join(feature['properties']), name='in.geojson'), self.err)
+            self.assertEqual(is_same, 'update' in self.kinds(), tags)
+        self.write('bare.opl', TOWN.replace(',name=Am%20%Bach', ''))
+        self.done('start', 'bare.opl', '--day', 'bare')
+        feature['properties']['name'] = 'Waldweg'
+        self.assertEqual(0, self.conflate(json.dumps(feature), '--columns', 'highway,name,phone', '--day', 'bare', name='in.geojson'), self.err)
+        self.assertNotIn('update', self.kinds())
+
+    def test_outlines_without_names_agree_by_the_share_of_the_rule(self):
+        for north, kind in ((52.00118, 'update'), (52.00121, 'ambiguous')):         # shares of 0.56 and 0.48
+            square = [[13.01, 52.001], [13.0102, 52.001], [13.0102, north], [13.01, north], [13.01, 52.001]]
+            feature = {'type': 'Feature', 'properties': {'building': 'yes', 'phone': '7'}, 'geometry': {'type': 'Polygon', 'coordinates': [square]}}
+            self.assertEqual(0, self.conflate(json.dumps(feature), '--columns', 'building,phone', name='in.geojson'), self.err)
+            self.assertEqual({kind: 1}, self.kinds())
+
     def test_the_largest_ring_of_a_multipolygon_counts(self):
         ring = 'n31 v1 x13.0200000 y52.0010000\nn32 v1 x13.0200100 y52.0010000\nn33 v1 x13.0200100 y52.0010100\n'
         relation = 'w3 v1 Nn31,n32,n33,n31\nw4 v1 Nn11,n12,n13,n14,n11\nr1 v1 Tbuilding=yes,type=multipolygon Mw3@outer,w4@outer\n'
