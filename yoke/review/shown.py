@@ -23,7 +23,7 @@ from yoke import opl, sides
 from yoke.review.items import Edits
 from yoke.saved import Known
 from yoke.table import Table
-from yoke.verbs.conflicts import WHY
+from yoke.verbs.conflicts import why
 
 Item = Dict[str, Any]
 Side = Optional[opl.Object]
@@ -113,7 +113,7 @@ def _conflict(table: Table, known: Known, theirs: Side) -> Item:
     by_parts = bool(known.conflict == 'changed' and known.there and known.mine and theirs)
     tags, part = clash_of(known.there, known.mine, theirs) if by_parts else ([], '')
     return {
-        'why': WHY[known.conflict],
+        'why': why(known),
         'their_version': other.version if other else None,
         'their_user': other.user if other else None,
         'their_deleted': bool(other and other.deleted),

@@ -62,7 +62,7 @@ class Refresh(ServerTest):
         self.server.edit('delete', 'n3')
         self.assertEqual(Clash.code, self.ask('refresh'))
         self.assertIn('2 newer ones merged', self.out)
-        self.assertIn('n3 ref=7: both sides changed it\n    here from version 1; the server has version 2 by somebody, deleted\n    mine ref: 7\n', self.out)
+        self.assertIn('n3 ref=7: changed here, and somebody deleted it\n    here from version 1; the server has version 2 by somebody, deleted\n    mine ref: 7\n', self.out)
         known = self.session.known()
         self.assertEqual((None, 3), (known['n8'].edit, known['n8'].base.version))
         self.done('resolve', 'n3', 'theirs')

@@ -16,6 +16,15 @@ WHY = {
 }
 
 
+def why(known: saved.Known) -> str:
+    """Why an object is in conflict, in a few words."""
+    if known.conflict == 'changed' and known.mine is None:
+        return 'deleted here, and somebody changed it'
+    if known.conflict == 'changed' and known.theirs is not None and known.theirs.deleted:
+        return 'changed here, and somebody deleted it'
+    return WHY[known.conflict]
+
+
 def add_arguments(parser: argparse.ArgumentParser) -> None:
     """The words of the verb."""
     parser.add_argument('keys', metavar='KEY', nargs='*', help='only these objects')
@@ -43,7 +52,7 @@ def show(known: saved.Known) -> None:
         results.add('conflicts', results.of_known(known))
     theirs, base = known.theirs, known.base
     assert theirs is not None and base is not None
-    print('{}: {}'.format(sides.title(known.mine or known.base), WHY[known.conflict]))
+    print('{}: {}'.format(sides.title(known.mine or known.base), why(known)))
     by = ' by {}'.format(sides.plain(theirs.user)) if theirs.user else ''
     print('    here from version {}; the server has version {}{}{}'.format(base.version, theirs.version, by, ', deleted' if theirs.deleted else ''))
     side = None if theirs.deleted else theirs

@@ -163,7 +163,7 @@ function paintNames(pen, to, box) {
     const middle = 2 * Math.floor(line.length / 4), x = line[middle], y = line[middle + 1];
     if (!name || x < box[0] || x > box[2] || y < box[1] || y > box[3]) continue;
     if (++count > MOST_NAMES) return;
-    pen.fillText(name, (x - to.x) * to.s + to.w + 5, (y - to.y) * to.s + to.h);
+    pen.fillText(name, (x - to.x) * to.s + to.w + 9, (y - to.y) * to.s + to.h);
   }
 }
 
