@@ -8,9 +8,10 @@ Streets cross at shared nodes. `--towns` makes a country of copies of the town, 
 from __future__ import annotations
 
 import argparse
+import itertools
 import math
 import random
-from collections.abc import Iterator
+from collections.abc import Iterable, Iterator
 from dataclasses import dataclass, field
 
 from yoke import opl
@@ -176,6 +177,12 @@ def _degrees(units: int) -> str:
     return f'{whole}.{part:07}'.rstrip('0').rstrip('.')
 
 
+def has(path: str, wanted: Iterable[str]) -> bool:
+    """Whether a file has these lines, and no others."""
+    with open(path, encoding='utf-8', errors='replace') as file:
+        return all(one == other for one, other in itertools.zip_longest(file, wanted))
+
+
 def main() -> None:
     words = argparse.ArgumentParser(description=__doc__, formatter_class=argparse.RawDescriptionHelpFormatter)
     words.add_argument('blocks', type=int)
@@ -186,8 +193,12 @@ def main() -> None:
     said = words.parse_args()
     wide, high = map(int, said.towns.split('x'))
     town = make(said.blocks, said.seed, said.slips)
-    with open(said.file, 'x', encoding='utf-8') as file:
-        file.writelines(line + '\n' for line in lines(town, wide, high))
+    try:
+        with open(said.file, 'x', encoding='utf-8') as file:
+            file.writelines(line + '\n' for line in lines(town, wide, high))
+    except FileExistsError:
+        if not has(said.file, (line + '\n' for line in lines(town, wide, high))):
+            words.error(f'{said.file} is there, and is another file: name another one')
     print(len(town) * wide * high, 'objects')
 
 
