@@ -30,7 +30,7 @@ class MadeTownTest(unittest.TestCase):
             self.assertEqual(0, self.made('2', str(path)))
             text = path.read_text(encoding='utf-8')
             self.assertEqual(0, self.made('2', str(path)))
-            self.assertEqual(2, self.made('3', str(path)))
+            self.assertEqual(2, self.made('30', str(path)))
             self.assertEqual(text, path.read_text(encoding='utf-8'))
             path.write_text(text + 'n1\n', encoding='utf-8')
             self.assertEqual(2, self.made('2', str(path)))
