@@ -1,9 +1,9 @@
 """A file of features for `yoke conflate` over a random town, with the truth of each row, and what has to come of it."""
 import random
-from typing import Dict, List, NamedTuple
+from typing import Dict, Iterable, List, NamedTuple, Optional
 
-from yoke.testing.elements import degrees
-from yoke.testing.ledger import Failed, Known, Session, difference, parts
+from yoke.testing.elements import Element, degrees
+from yoke.testing.ledger import Failed, Known, Parts, Session, difference, parts
 
 MARK = 'feature'        # the tag by which a row is known again once its object is on the server
 RULES = 'against Tshop=*\nwithin 10\nsame shop\ntake phone\n'
@@ -23,10 +23,10 @@ def rows_of(session: Session, picks: random.Random, name: str) -> List[Row]:
     """Some of the shops of a session, each moved by at most three metres, and some new ones."""
     shops = [(key, known.mine) for key, known in session.items()
              if known.mine is not None and known.conflict == 'none' and key[0] == 'n' and known.mine.tags.keys() >= {'shop', 'name'}]
-    rows = []
+    rows: List[Row] = []
     for key, shop in picks.sample(shops, min(len(shops), picks.randint(0, 6))):
         number = '{}-{}'.format(name, len(rows))
-        rows.append(Row(key, shop.lon + picks.randint(-2, 2) * METRE, shop.lat + picks.randint(-2, 2) * METRE,
+        rows.append(Row(key, (shop.lon or 0) + picks.randint(-2, 2) * METRE, (shop.lat or 0) + picks.randint(-2, 2) * METRE,
                         {'shop': shop.tags['shop'], 'name': shop.tags['name'], 'phone': '+49 ' + number, MARK: number}))
     for _ in range(picks.randint(1, 4)):
         number = '{}-{}'.format(name, len(rows))
@@ -62,18 +62,18 @@ def check(rows: List[Row], before: Session, after: Session) -> int:
         row = by_shop.get(key) if old else new.pop(now.get('tag ' + MARK, ''), None)
         if row is None:
             raise Failed('a conflation changed {} by {}, which no row of its own says'.format(key, made))
-        told = {'tag phone': row.tags['phone']} if old else {
+        told: Parts = {'tag phone': row.tags['phone']} if old else {
             'there': True, 'place': (row.lon, row.lat), **{'tag ' + key: value for key, value in row.tags.items()}}
         if made != told or old.get('tag phone'):
             raise Failed('a conflation changed {} by {}, and its row says {}'.format(key, made, told))
     return changed
 
 
-def _mine(known: 'Known | None') -> Dict[str, object]:
+def _mine(known: Optional[Known]) -> Parts:
     return parts(known.mine) if known is not None else {}
 
 
-def check_once(living: List[object]) -> None:
+def check_once(living: Iterable[Element]) -> None:
     """Failed where two elements that are there were made of one row."""
     seen: Dict[str, str] = {}
     for element in living:
