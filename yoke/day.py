@@ -246,7 +246,8 @@ class Draft:
         """Removes what was written and isn't kept."""
         if self.file is not None:
             self.file.close()
-            self._path.unlink()
+            with contextlib.suppress(FileNotFoundError):    # broken off just after it got its name
+                self._path.unlink()
             self.file = None
 
     @property

@@ -28,10 +28,11 @@ def data_of(name: str, most: int = MOST) -> bytes:
     path, data = pathlib.Path(name), b''
     try:
         with contextlib.ExitStack() as stack:
-            file: IO[bytes] = _standard_input() if name == '-' else stack.enter_context(open(_no_device(path), 'rb'))
-            unpack = UNPACK.get(path.suffix)
-            pieces = _pieces(stack.enter_context(unpack(file)) if unpack else file, name, most)
-            data = b''.join(pieces)
+            packed: IO[bytes] = _standard_input() if name == '-' else stack.enter_context(open(_no_device(path), 'rb'))
+            file: IO[bytes] | Unpacked = packed
+            if path.suffix in UNPACK:
+                file = stack.enter_context(UNPACK[path.suffix](packed))
+            data = b''.join(_pieces(file, name, most))
     except FileNotFoundError:
         raise Trouble('there is no file {}'.format(name)) from None
     except IsADirectoryError:

@@ -269,7 +269,7 @@ def read(data: bytes, name: str) -> Book:
             raise Trouble(f'{name} is no ledger: its first line is {text[:60]!r}; name a file that isn\'t there yet, or one of yoke')
         if not text or text + '\n' == HEADER:
             continue
-        texts = next(csv.reader([text]), [])
+        texts: List[str] = next(csv.reader([text]), [])
         if texts[-1:] != [END]:
             parts += 1
             continue

@@ -88,6 +88,12 @@ def degrees(number: Union[Decimal, float]) -> str:
     return '0' if text in ('-0', '') else text
 
 
+def place(node: Object) -> Tuple[Decimal, Decimal]:
+    """The longitude and the latitude of a node that has a place, in degrees."""
+    assert node.lon is not None and node.lat is not None
+    return node.lon, node.lat
+
+
 def tags(pairs: Mapping[str, str], text: Callable[[str], str] = quote) -> str:
     """Tags as they stand after a `T`, in the order of the mapping."""
     return ','.join('{}={}'.format(text(key), text(value)) for key, value in pairs.items())

@@ -226,8 +226,10 @@ def is_in(found: Table, key: str, box: Box, depth: int = 2) -> bool:
     for side in (known.mine, known.there) if known else ():
         if side is None:
             continue
-        if side.lon is not None and box[0] <= side.lon <= box[2] and box[1] <= side.lat <= box[3]:
-            return True
+        if side.lon is not None:
+            lon, lat = opl.place(side)
+            if box[0] <= lon <= box[2] and box[1] <= lat <= box[3]:
+                return True
         if depth and any(is_in(found, one, box, depth - 1) for one in side.references):
             return True
     return False

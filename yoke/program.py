@@ -237,7 +237,8 @@ def _stopped(code: int, errors: bytes, lines: list[str]) -> NoReturn:
 
 def _until(output: IO[bytes], number: int) -> tuple[bytes, bytes]:
     """What a program writes before the reply to the step with a number, and that reply; it is empty where none comes."""
-    head, mark = [], b'%d ' % number
+    head: list[bytes] = []
+    mark = b'%d ' % number
     for line in output:
         if line.startswith(mark):
             return b''.join(head), line

@@ -53,6 +53,13 @@ class Known:
         return self.base if self.base and not self.base.deleted else None
 
     @property
+    def shown(self) -> opl.Object:
+        """What the object is here; of one that is deleted here, its base."""
+        found = self.mine or self.base
+        assert found is not None
+        return found
+
+    @property
     def is_new(self) -> bool:
         """Whether it was made here, and no server has it."""
         return 'base' not in self._lines

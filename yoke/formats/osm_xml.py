@@ -10,10 +10,11 @@ What `josm_lines` writes carries two marks that JOSM keeps when it saves a file 
   other ids whenever it opens a file, so their ids tell nothing. The user of a new object is never sent to a server.
 """
 import re
-from dataclasses import dataclass
+from dataclasses import dataclass, replace
 from decimal import Decimal, InvalidOperation
-from typing import Iterator, List, Optional, Tuple
+from typing import Dict, Iterable, Iterator, List, Optional, Tuple
 from xml.etree import ElementTree
+from xml.etree.ElementTree import Element
 from xml.sax.saxutils import quoteattr
 
 from yoke import opl
@@ -71,7 +72,7 @@ def read_osc(data: bytes) -> List[Told]:
 
     Where an object stands more than once, the last content counts, over the version that the first names.
     """
-    changes = {}
+    changes: Dict[str, Optional[Told]] = {}
     for part in _root(data, 'osmChange'):
         if part.tag not in ('create', 'modify', 'delete'):
             raise ValueError('<{}> is no part of an osmChange document'.format(part.tag))
@@ -85,13 +86,13 @@ def _joined(before: Optional[Told], told: Told) -> Optional[Told]:
     """Two changes of one object as one; None where it was made and deleted again."""
     if before is None:
         return told
-    thing = opl.Object(**{**vars(told.thing), 'version': before.thing.version})
+    thing = replace(told.thing, version=before.thing.version)
     if before.action == 'create':
         return None if told.action == 'delete' else Told(thing, 'create')
     return Told(thing, told.action)
 
 
-def _josm_told(element) -> Told:
+def _josm_told(element: Element) -> Told:
     action = element.get('action') or ''
     if action not in ('', 'modify', 'delete'):
         raise ValueError('{} {} has the action {!r}'.format(element.tag, element.get('id'), action))
@@ -108,7 +109,7 @@ def _came_and_went(told: Told) -> bool:
     return told.action == 'delete' and told.thing.key[1] == '-' and not told.mark
 
 
-def _root(data: bytes, name: str):
+def _root(data: bytes, name: str) -> Element:
     try:
         root = ElementTree.fromstring(data)
     except ElementTree.ParseError as error:
@@ -118,7 +119,7 @@ def _root(data: bytes, name: str):
     return root
 
 
-def _thing(element, deleted: bool) -> opl.Object:
+def _thing(element: Element, deleted: bool) -> opl.Object:
     """The object of an element; of a deleted one only its key and version are asked."""
     if element.tag not in opl.LETTERS:
         raise ValueError('<{}> is no object of the map'.format(element.tag))
@@ -135,8 +136,8 @@ def _thing(element, deleted: bool) -> opl.Object:
         members=tuple(_member(member) for member in element.findall('member')))
 
 
-def _tags(element, key: str):
-    tags = {}
+def _tags(element: Element, key: str) -> Dict[str, str]:
+    tags: Dict[str, str] = {}
     for tag in element.findall('tag'):
         name = tag.get('k') or ''
         if not name or name in tags:
@@ -145,21 +146,21 @@ def _tags(element, key: str):
     return tags
 
 
-def _member(element) -> Tuple[str, str]:
+def _member(element: Element) -> Tuple[str, str]:
     kind = element.get('type')
-    if kind not in opl.LETTERS:
+    if kind is None or kind not in opl.LETTERS:
         raise ValueError('a member has the type {!r}'.format(kind))
     return opl.LETTERS[kind] + _whole(element, 'ref'), element.get('role') or ''
 
 
-def _whole(element, name: str) -> str:
+def _whole(element: Element, name: str) -> str:
     text = element.get(name) or ''
     if not re.fullmatch('-?[0-9]{1,19}', text):
         raise ValueError('a {} has the {} {!r}'.format(element.tag, name, text))
     return str(int(text))
 
 
-def _degrees(element, key: str, name: str) -> Decimal:
+def _degrees(element: Element, key: str, name: str) -> Decimal:
     """A coordinate, rounded to 10^-7 degree: JOSM writes more digits of what it moved."""
     try:
         value = Decimal(element.get(name) or '').quantize(SEVENTH)
@@ -172,8 +173,8 @@ def _degrees(element, key: str, name: str) -> Decimal:
     return value
 
 
-def _each_once(keys):
-    seen = set()
+def _each_once(keys: Iterable[str]) -> None:
+    seen: set[str] = set()
     for key in keys:
         if key in seen:
             raise ValueError('{} stands twice'.format(key))
@@ -211,7 +212,7 @@ def _bounds(table: Table, state: str) -> Iterator[str]:
 def _element(thing: opl.Object, base: Optional[opl.Object], action: str) -> Iterator[str]:
     attributes = [('id', thing.key[1:])] + ([('action', action)] if action else []) + _metadata(thing, base)
     if thing.key[0] == 'n':
-        attributes += [('lat', opl.degrees(thing.lat)), ('lon', opl.degrees(thing.lon))]
+        attributes += [('lat', opl.degrees(opl.place(thing)[1])), ('lon', opl.degrees(opl.place(thing)[0]))]
     yield '  <{} {}>'.format(thing.kind, _attributes(thing.key, attributes))
     if action != 'delete':
         for node in thing.nodes:
@@ -223,7 +224,7 @@ def _element(thing: opl.Object, base: Optional[opl.Object], action: str) -> Iter
     yield '  </{}>'.format(thing.kind)
 
 
-def _metadata(thing: opl.Object, base: Optional[opl.Object]):
+def _metadata(thing: opl.Object, base: Optional[opl.Object]) -> List[Tuple[str, str]]:
     """The attributes of the server's version; of a new object the mark by which it is known again."""
     if base is None:
         return [('user', 'yoke ' + thing.key), ('visible', 'true')]
@@ -232,7 +233,7 @@ def _metadata(thing: opl.Object, base: Optional[opl.Object]):
         ('visible', 'true'), ('version', str(base.version))] + ([('changeset', str(base.changeset))] if base.changeset else [])
 
 
-def _attributes(key: str, pairs) -> str:
+def _attributes(key: str, pairs: Iterable[Tuple[str, str]]) -> str:
     for _, value in pairs:
         found = NO_XML.search(value)
         if found:

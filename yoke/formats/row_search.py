@@ -176,6 +176,3 @@ def _is_inside(ring: Sequence[Point]) -> bool:
 def metres_between(one: Tuple[Decimal, Decimal], other: Tuple[Decimal, Decimal]) -> float:
     """Metres between two places, which are near each other."""
     return _to_line([(float(one[0]), float(one[1]))], (float(other[0]), float(other[1])))
-
-
-

@@ -54,7 +54,7 @@ def nearest(table: Table, node: opl.Object, nodes: List[str], way: str) -> int:
 
 def distance(node: opl.Object, one: opl.Object, other: opl.Object) -> float:
     """How far a node lies from a segment, in degrees of latitude, on a plane that is true near the node."""
-    shrink = math.cos(math.radians(float(node.lat)))
+    shrink = math.cos(math.radians(float(opl.place(node)[1])))
     x, y = _flat(node, one, shrink)
     dx, dy = (b - a for a, b in zip((x, y), _flat(node, other, shrink)))
     length = dx * dx + dy * dy
@@ -63,7 +63,8 @@ def distance(node: opl.Object, one: opl.Object, other: opl.Object) -> float:
 
 
 def _flat(node: opl.Object, thing: opl.Object, shrink: float) -> Tuple[float, float]:
-    return float(thing.lon - node.lon) * shrink, float(thing.lat - node.lat)
+    lon, lat = (one - other for one, other in zip(opl.place(thing), opl.place(node)))
+    return float(lon) * shrink, float(lat)
 
 
 def add_members_line(table: Table, pairs: Sequence[Tuple[str, str]], relation: str, at: Optional[int] = None, again: bool = False,

@@ -200,11 +200,13 @@ def query(words: List[str]) -> str:
 
 
 def with_and(words: List[str]) -> List[str]:
-    ends = lambda word: word == ')' or word in grammar.STATES or word.startswith('T')
-    begins = lambda word: word in ('(', 'not', 'child', 'parent') or word in grammar.STATES or word.startswith('T')
-    found = []
+    def is_asking(word: str) -> bool:
+        return word in grammar.STATES or word.startswith('T')
+
+    found: List[str] = []
     for word in words:
-        if found and ends(found[-1]) and begins(word):
+        ends = bool(found) and (found[-1] == ')' or is_asking(found[-1]))
+        if ends and (word in ('(', 'not', 'child', 'parent') or is_asking(word)):
             found.append('and')
         found.append(word)
     return found

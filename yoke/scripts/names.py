@@ -107,7 +107,7 @@ class _Expander:
             self._give(number, name, MAKES[verb])
         return (line, False) if words == before and not name else (' '.join(words), True)
 
-    def _number(self, number: int, verb: str, words: List[str]):
+    def _number(self, number: int, verb: str, words: List[str]) -> None:
         """Counts the ids that a line takes; after a `split` nobody knows the next one."""
         if verb in MAKES and self.next_new is not None:
             self.next_new += 1
@@ -119,7 +119,7 @@ class _Expander:
             except (OSError, ValueError) as error:
                 raise BadName(number, 'the new objects of {} can\'t be counted: {}'.format(words[1], error)) from None
 
-    def _give(self, number: int, name: str, letter: str):
+    def _give(self, number: int, name: str, letter: str) -> None:
         if not NAME.fullmatch(name) or re.fullmatch('[nwr]-?[0-9]+', name):
             raise BadName(number, '{} is no name: a letter, and letters, digits, - and _, but no key'.format(grammar.shown(name)))
         if name in self.names:

@@ -15,7 +15,7 @@ script, and is counted as any other step that is refused.
 import os
 import re
 from collections import Counter
-from typing import Callable, List, Mapping, Optional, Sequence, Tuple
+from typing import Callable, List, Mapping, Optional, Sequence, Set, Tuple
 
 from yoke import opl, sides, table, words
 from yoke.files import data_of
@@ -221,7 +221,7 @@ class _Writer:
         self.script, self.look, self.accepted, self.number = script, look, accepted, 0
         self.done = Expanded([], [], script.names)
         self.table: Optional[table.Table] = None
-        self.changed = set()
+        self.changed: Set[str] = set()
 
     def write(self) -> Expanded:
         for line, self.number in zip(self.script.lines, self.script.numbers):
@@ -357,7 +357,7 @@ class _Writer:
                 raise Refused('there is no {} in the session'.format(key))
         left = [one for one in turns.findings(found) if not keys or one.key in keys]
         for one in left:
-            text = '{}: {}'.format(sides.title(found.mine(one.key)), '; '.join(one.faults))
+            text = '{}: {}'.format(sides.title(found.things[one.key].shown), '; '.join(one.faults))
             if keys and not one.mend:
                 raise Refused('{}: how to mend it isn\'t known'.format(text))
             self._note('{}; {}'.format(text, 'mended: ' + words.cut(one.mend) if one.mend else 'by hand'))

@@ -52,7 +52,7 @@ def _side(name: str, side: opl.Object) -> Iterator[str]:
     for tag, value in side.tags.items():
         yield '    {} = {}'.format(sides.plain(tag), sides.plain(value))
     if side.lon is not None:
-        yield '    place {} {}'.format(opl.degrees(side.lon), opl.degrees(side.lat))
+        yield '    place {} {}'.format(*map(opl.degrees, opl.place(side)))
     if side.nodes:
         yield '    nodes {}'.format(','.join(side.nodes))
     for at, (member, role) in enumerate(side.members, 1):

@@ -319,7 +319,10 @@ class Refusals(ServerTest):
 
     def test_texts(self):
         node = '<create><node id="-1" C lat="1" lon="1">{}</node></create>'
-        tag = lambda key, value: node.format('<tag k="{}" v="{}"/>'.format(key, value))
+
+        def tag(key, value):
+            return node.format('<tag k="{}" v="{}"/>'.format(key, value))
+
         self.assert_not_taken(tag('\u4e2d' * 256, 'a'), 400, 'Key has more than 255 unicode characters in Node -1')
         self.assert_not_taken(tag('a', '\U0001f6b2' * 256), 400, 'Value has more than 255 unicode characters in Node -1')
         self.assert_not_taken(tag('', 'a'), 400, 'Key may not be empty in Node -1')

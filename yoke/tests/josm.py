@@ -110,7 +110,9 @@ class Layer:
 
 
 def _read(one, numbers) -> Primitive:
-    name = lambda kind, number: numbers.get((kind, number), number)
+    def name(kind, number):
+        return numbers.get((kind, number), number)
+
     action = one.get('action')
     return Primitive(
         one.tag, name(one.tag, int(one.get('id'))), {word: one.get(word) for word in METADATA if one.get(word)}, {tag.get('k'): tag.get('v') for tag in one.iter('tag')},

@@ -3,7 +3,7 @@ import random
 import re
 import unittest
 
-from yoke import opl, table
+from yoke import table
 from yoke.formats import foreign, osm_xml
 from yoke.tests import sessions
 
@@ -304,7 +304,9 @@ class ThereAndBack(unittest.TestCase):
 
 def renamed(things, names):
     """Contents by key with other keys."""
-    name = lambda key: names.get(key, key)
+    def name(key):
+        return names.get(key, key)
+
     return {name(key): content and (*content[:3], tuple(map(name, content[3])), tuple((name(member), role) for member, role in content[4]))
             for key, content in things.items()}
 

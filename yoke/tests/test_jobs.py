@@ -7,7 +7,6 @@ from __future__ import annotations
 
 import unittest
 
-from yoke.testing.elements import Element
 from yoke.tests.support import ServerTest
 
 MOST_COMMANDS = 12

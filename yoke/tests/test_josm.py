@@ -260,7 +260,10 @@ class Both(ServerTest):
 
     def test_buildings_with_holes_that_were_imported(self):
         self.begin(town=AREA)
-        square = lambda west, south, size: [[west, south], [west + size, south], [west + size, south + size], [west, south + size], [west, south]]
+        def square(west, south, size):
+            east, north = west + size, south + size
+            return [[west, south], [east, south], [east, north], [west, north], [west, south]]
+
         self.write('a.geojson', json.dumps({'type': 'FeatureCollection', 'features': [
             {'type': 'Feature', 'properties': {'building': 'yes', 'ref': '1'}, 'geometry': {'type': 'Polygon', 'coordinates': [square(9.501, 47.142, 0.001), square(9.5012, 47.1422, 0.0002)]}},
             {'type': 'Feature', 'properties': {'building': 'yes', 'ref': '2'},
@@ -389,7 +392,9 @@ def of_layer(layer, made):
         thing, key = layer.things.get((kind, number)), '{}{}'.format(kind[0], number)
         mark = osm_xml.MARK.fullmatch(thing.words.get('user', '')) if thing else None
         return mark[1] if mark and number < 0 else made.get(key, key)
-    rounded = lambda degree: None if degree is None else Decimal(opl.degrees(degree.quantize(osm_xml.SEVENTH)))
+    def rounded(degree):
+        return None if degree is None else Decimal(opl.degrees(degree.quantize(osm_xml.SEVENTH)))
+
     return {name(one.kind, one.number): (one.tags, rounded(one.lon), rounded(one.lat), tuple(name('node', node) for node in one.nodes),
                                          tuple((name(kind, number), role) for kind, number, role in one.members)) for one in layer.living()}
 

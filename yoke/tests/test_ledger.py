@@ -10,7 +10,7 @@ from unittest import mock
 
 from yoke import ledger, table
 from yoke.day import Day
-from yoke.ledger import Book, Corner, Entry, Identity
+from yoke.ledger import Corner, Entry
 from yoke.testing.elements import opl
 from yoke.tests.support import FolderTest, ServerTest
 from yoke.trouble import Busy, Refused, Trouble

@@ -7,7 +7,7 @@ import subprocess
 import tempfile
 import unittest
 
-from yoke.scripts import grammar, lint, mends
+from yoke.scripts import grammar, lint
 from yoke.tests import definitions, sessions, support
 
 GOOD = """\

@@ -5,7 +5,7 @@ from unittest import mock
 
 from yoke import api
 from yoke.tests.support import TOWN, ServerTest
-from yoke.trouble import Clash, NoAnswer, Refused, Trouble, Usage
+from yoke.trouble import Clash, NoAnswer, Trouble, Usage
 
 
 class Refresh(ServerTest):

@@ -9,12 +9,12 @@ import shutil
 import unittest
 from unittest import mock
 
-from yoke import api, opl, saved
+from yoke import api
 from yoke.sending import SILENCES
 from yoke.testing.database import Refusal
 from yoke.testing.server import MAPPER, User
 from yoke.tests.stops import Stopped, stop_at
-from yoke.tests.support import ServerTest, program
+from yoke.tests.support import ServerTest
 from yoke.trouble import Busy, Clash, Later, NoAnswer, Refused, ServerRefused, Trouble, Usage
 
 EDITS = ['node x13.004 y52 Tamenity=bench', 'way Thighway=footway Nn3,n-1', 'tag w5 Tsurface=asphalt', 'tag n8 Tbackrest=yes', 'delete r9']

@@ -9,7 +9,7 @@ import zipfile
 from typing import Dict, List
 from unittest import mock
 
-from yoke.formats import encodings, features, mapping, row_search, suspicions
+from yoke.formats import features, mapping, row_search, suspicions
 from yoke.tests.support import FolderTest
 from yoke.trouble import Refused, Trouble, Usage
 

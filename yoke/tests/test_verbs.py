@@ -1,5 +1,4 @@
 """The verbs that ask no server: start, do, status, diff, undo, conflicts, resolve; and the command itself."""
-import contextlib
 import io
 import os
 import shutil
@@ -8,7 +7,7 @@ import sys
 import unittest
 from unittest import mock
 
-from yoke import command, verbs
+from yoke import verbs
 from yoke.program import BadLine
 from yoke.tests.support import TOP, TOWN, FolderTest
 from yoke.trouble import Clash, Refused, Trouble, Usage

@@ -77,7 +77,7 @@ def run(program: Program, extract: str, units: Sequence[Unit], owns: Callable[[E
 
 def _answer(program: Program, steps: Sequence[str]) -> Answer:
     """The Answer to steps of which the first is a download; Trouble where that is refused."""
-    answer: Answer = program.run(steps)
+    answer: Answer = program.run(list(steps))
     if answer.replies[0].word != 'ok':
         raise Trouble(f'{words.cut(steps[0])} is refused by the program: {words.refusal(answer.replies[0].rest)}')
     return answer

@@ -239,7 +239,7 @@ def write(outcome: Outcome, asked: Asked, name: str) -> None:
             raise Trouble(f'{asked.file} has no {min(missing, key=opl.rank)} any more: was it changed meanwhile?')
         extracts.write(asked.file, there | refs, found, folder)
         day.write_whole(name + '.opl', found.read_text(encoding='utf-8'))
-    day.write_whole(name + '.osc', osc.document(outcome.changes, 0))
+    day.write_whole(name + '.osc', osc.document(outcome.changes, '0'))
 
 
 def references_of(word: str) -> set[str]:

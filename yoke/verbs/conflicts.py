@@ -52,7 +52,7 @@ def show(known: saved.Known) -> None:
         results.add('conflicts', results.of_known(known))
     theirs, base = known.theirs, known.base
     assert theirs is not None and base is not None
-    print('{}: {}'.format(sides.title(known.mine or known.base), why(known)))
+    print('{}: {}'.format(sides.title(known.shown), why(known)))
     by = ' by {}'.format(sides.plain(theirs.user)) if theirs.user else ''
     print('    here from version {}; the server has version {}{}{}'.format(base.version, theirs.version, by, ', deleted' if theirs.deleted else ''))
     side = None if theirs.deleted else theirs

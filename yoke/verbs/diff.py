@@ -38,7 +38,7 @@ def run(arguments: argparse.Namespace) -> int:
         if results.wanted():
             results.add('objects', results.of_known(known))
         conflict = '' if known.conflict == 'none' else ', in conflict'
-        print('{} {}{}'.format(known.edit, sides.title(known.mine or known.base), conflict))
+        print('{} {}{}'.format(known.edit, sides.title(known.shown), conflict))
         if known.edit != 'deleted' and not arguments.short:
             for line in sides.change(known.there, known.mine):
                 print('    ' + line)

@@ -1,4 +1,6 @@
 """`yoke geojson`: edits and conflicts to look at on a map."""
+import argparse
+
 from yoke import results, table
 from yoke.day import Day
 from yoke.files import check_outputs, write_own
@@ -9,12 +11,12 @@ DETAILS = """Each feature has the properties key, what (new, changed, deleted, c
 after and theirs."""
 
 
-def add_arguments(parser):
+def add_arguments(parser: argparse.ArgumentParser) -> None:
     parser.add_argument('file', metavar='FILE', help='the file to write, or - for standard output')
     parser.add_argument('--force', action='store_true', help='also over a file that yoke didn\'t write')
 
 
-def run(arguments):
+def run(arguments: argparse.Namespace) -> int:
     day = Day(arguments.day)
     check_outputs([arguments.file] if arguments.file != '-' else [], [], day.folder)
     found = table.read(day.last().text())

@@ -1,5 +1,9 @@
 """`yoke josm`: what was done in JOSM, as edits of the session."""
+import argparse
+from typing import Iterable, Optional
+
 from yoke import results, table
+from yoke.day import Day
 from yoke.files import data_of
 from yoke.formats import foreign, osm_xml
 from yoke.progress import note
@@ -13,28 +17,28 @@ done where an object has another version, is in conflict, or was changed there a
 FILE and here already, with the same tags and at the same places, isn't made again, so the same file again does nothing."""
 
 
-def add_arguments(parser):
+def add_arguments(parser: argparse.ArgumentParser) -> None:
     parser.add_argument('file', metavar='FILE', help='an .osm file, also .osm.gz, .osm.bz2 or .osm.xz')
     add_options(parser)
 
 
-def add_options(parser):
+def add_options(parser: argparse.ArgumentParser) -> None:
     parser.add_argument('--show', action='store_true', help='print the steps, and do nothing')
     parser.add_argument('--again', action='store_true', help='also new objects that the session has already')
 
 
-def run(arguments):
+def run(arguments: argparse.Namespace) -> int:
     session = Session.of(arguments)
     with session.day.locked():
         try:
             drawn = osm_xml.read_josm(data_of(arguments.file))
         except ValueError as error:
             raise Trouble('{}: {}'.format(arguments.file, error)) from None
-        start = drawn.state and table.read(begun(session.day, drawn.state, arguments.file))
-        return bring_in('josm', session, arguments, drawn.told, start or None)
+        start = table.read(begun(session.day, drawn.state, arguments.file)) if drawn.state else None
+        return bring_in('josm', session, arguments, drawn.told, start)
 
 
-def begun(day, state, file):
+def begun(day: Day, state: str, file: str) -> str:
     """The text of the session from which `yoke to-josm` wrote a file."""
     text = day.read('josm-{}.start'.format(state))
     if text is None:
@@ -42,7 +46,7 @@ def begun(day, state, file):
     return text
 
 
-def bring_in(verb, session, arguments, told, start=None):
+def bring_in(verb: str, session: Session, arguments: argparse.Namespace, told: Iterable[osm_xml.Told], start: Optional[table.Table] = None) -> int:
     """Does the steps of a document's edits, and says what they were; Refused where something is in the way of one."""
     plan = foreign.plan(told, table.read(session.day.last().text()), start, arguments.again)
     for text in plan.notes:

@@ -3,6 +3,7 @@ import argparse
 from typing import Dict, List, Tuple
 
 from yoke import ledger, results
+from yoke.day import Day
 from yoke.files import check_outputs, data_of, write_own
 from yoke.ledger import Book, Desk, Entry
 from yoke.progress import note
@@ -27,7 +28,7 @@ def add_arguments(parser: argparse.ArgumentParser) -> None:
 
 
 def run(arguments: argparse.Namespace) -> int:
-    session = Session(ledger.Day(arguments.day), None)      # type: ignore[arg-type]
+    session = Session(Day(arguments.day), None)      # type: ignore[arg-type]
     digest = ledger.digest_of(data_of(arguments.file)) if arguments.file else ''
     if arguments.to and arguments.to != '-':
         check_outputs([arguments.to], filter(None, [arguments.file]), session.day.folder)

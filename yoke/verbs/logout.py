@@ -40,6 +40,6 @@ def revoked(place: accounts.Place) -> bool:
     except Trouble:         # a file that is broken, or that others can read, has to go all the same
         return False
     try:
-        return bool(login) and oauth.revoke(login.revoke, login.client_id, login.token)
+        return login is not None and oauth.revoke(login.revoke, login.client_id, login.token)
     except NoAnswer as silence:
         raise NoAnswer(f'{silence}; the login is kept: the same command again, or --forget') from None

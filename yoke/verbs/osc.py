@@ -1,4 +1,6 @@
 """`yoke osc`: the changes of an osmChange file, as edits of the session."""
+import argparse
+
 from yoke.files import data_of
 from yoke.formats import osm_xml
 from yoke.session import Session
@@ -11,12 +13,12 @@ What is new in FILE and here already, with the same tags and at the same places,
 does nothing. What a server did, as a diff of planet.osm has it, comes in by `download` (osmium merge-changes makes OPL of it)."""
 
 
-def add_arguments(parser):
+def add_arguments(parser: argparse.ArgumentParser) -> None:
     parser.add_argument('file', metavar='FILE', help='an .osc file, also .osc.gz')
     add_options(parser)
 
 
-def run(arguments):
+def run(arguments: argparse.Namespace) -> int:
     session = Session.of(arguments)
     with session.day.locked():
         try:

@@ -73,7 +73,7 @@ def show(numbers: list[str], done: history.History, planned: plan.Plan, found: p
     print(f'{name} {", ".join(numbers)}: {len(done.objects) + len(done.left_out)} objects: {counts}')
     for what, count in sorted(planned.counts.items()):
         print(f'{count} {what}')
-    _listed(f'joined {sides.title(known.mine or known.base)}: others changed other parts since; what goes back: '
+    _listed(f'joined {sides.title(known.shown)}: others changed other parts since; what goes back: '
             + '; '.join(sides.change(known.there, known.mine)) for known in found.joined)
     _listed(f'left out {sides.plain(problem)}' for problem in planned.left_out.values())
     for known in found.conflicts[:SHOWN]:

@@ -1,4 +1,5 @@
 """`yoke to-josm`: the session as a file that JOSM opens."""
+import argparse
 import hashlib
 
 from yoke import results, table
@@ -14,12 +15,12 @@ MARK = b"generator='yoke'"
 KEPT = 3        # sessions that were written for JOSM last, kept so that its edits can be told apart from those here
 
 
-def add_arguments(parser):
+def add_arguments(parser: argparse.ArgumentParser) -> None:
     parser.add_argument('file', metavar='FILE', help='the .osm file to write, or - for standard output')
     parser.add_argument('--force', action='store_true', help='also over a file that JOSM saved')
 
 
-def run(arguments):
+def run(arguments: argparse.Namespace) -> int:
     day = Day(arguments.day)
     with day.locked():
         last = day.last()
@@ -41,7 +42,7 @@ def run(arguments):
     return 0
 
 
-def forget(day, start):
+def forget(day: Day, start: str) -> None:
     """Removes the starts of older drawings: all but this one, which was just written, and those that were written last before it.
 
     After `undo` a session with a lower number may be the later one, so numbers say nothing of that.

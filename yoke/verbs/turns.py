@@ -25,7 +25,7 @@ def run(arguments: argparse.Namespace) -> int:
         found = table.read(session.day.last().text())
         left = [one for one in turns.findings(found) if not arguments.keys or one.key in arguments.keys]
         for one in left:
-            print(sides.title(found.mine(one.key)))
+            print(sides.title(found.things[one.key].shown))
             for fault in one.faults:
                 print('    ' + fault)
             print('    right    ' + (one.mend or 'not known: by hand'))
