@@ -3,7 +3,7 @@
 The three-way merge, part by part: a part that the changesets changed goes back, unless somebody changed it since; all other
 parts stay as they are now. `check` holds a session of `yoke revert` against that.
 """
-from typing import Dict, Iterable, List, NamedTuple, Optional, Set
+from typing import Dict, Iterable, List, Mapping, NamedTuple, Optional, Set
 
 from yoke.testing.database import Database
 from yoke.testing.elements import Element
@@ -54,18 +54,22 @@ def clashes(one: Undone) -> bool:
                for name in {*before, *left, *now})
 
 
-def check(database: Database, changesets: List[int], session: Session, left_out: Set[str]) -> None:
+def check(database: Database, changesets: List[int], session: Session, left_out: Set[str], seen: Mapping[str, int]) -> None:
     """Failed where the session of a revert isn't what `wanted` says: an object of the changesets is otherwise and neither in
-    conflict nor named as left out, or another object is edited that didn't have to come back."""
+    conflict nor named as left out, or another object is edited that didn't have to come back.
+
+    `seen` are the versions when the revert began: what others did while it asked it may have seen, or not.
+    """
     objects = undone(database, changesets)
     for key, one in objects.items():
         known = session.get(key)
         if key in left_out or known is not None and known.conflict != 'none':
             continue
+        cases = [one._replace(now=version) for version in database.versions[key] if version.version >= seen.get(key, one.now.version)]
         mine = parts(known.mine) if known is not None else parts(one.now)
-        if mine != wanted(one):
+        if mine not in [wanted(case) for case in cases]:
             raise Failed('revert {}: {} is {}, and has to be {}'.format(changesets, key, mine, wanted(one)))
-        if clashes(one):
+        if all(clashes(case) for case in cases):
             raise Failed('revert {}: {} was changed in the same part since, and is no conflict'.format(changesets, key))
     for key, known in session.items():
         if key in objects or known.conflict != 'none' or parts(known.mine) == parts(known.base):
