@@ -1,11 +1,11 @@
-"""Tests of what reads definitions (definitions.py) and logs of a proof (axioms): `python3 -m unittest bench.check.test_programs`."""
+"""Tests of what reads definitions (definitions.py), logs of a proof (axioms) and pages (english.py): `python3 -m unittest bench.check.test_programs`."""
 import importlib.machinery
 import importlib.util
 import pathlib
 import tempfile
 import unittest
 
-from bench.check import definitions
+from bench.check import definitions, english
 
 HERE = pathlib.Path(__file__).resolve().parent
 
@@ -120,6 +120,11 @@ class Files(unittest.TestCase):
         reached = {it.name for it in tree.reached.values()}
         self.assertLessEqual({'act_of', 'all_lines', 'read_as_spelled'}, reached)
         self.assertFalse({'form_word', 'query_of_words', 'same_text'} & reached)
+
+
+class Words(unittest.TestCase):
+    def test_layout_is_no_word(self):
+        self.assertEqual(4, english.count_words('| `a` | 7 |\n|---|---|\n| → | é |\n```sh\n```\n...\n'))
 
 
 if __name__ == '__main__':
