@@ -1,4 +1,7 @@
-"""Tests of what reads definitions (definitions.py), logs of a proof (axioms) and pages (english.py): `python3 -m unittest bench.check.test_programs`."""
+"""Tests of what reads definitions (definitions.py), logs of a proof (axioms) and pages (english.py).
+
+Run `python3 -m unittest bench.check.test_programs`.
+"""
 import importlib.machinery
 import importlib.util
 import pathlib
