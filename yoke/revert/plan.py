@@ -54,7 +54,7 @@ def make(server: Server, history: History, users_asked: int = USERS_ASKED) -> Pl
         _restore(plan, was, now)
         plan.counts['deleted by others since, and needed'] += 1
     _leave_out_what_lacks_a_reference(plan, history)
-    _leave_what_is_needed(plan)
+    _leave_what_is_needed(plan, history)
     _break_rings(plan)
     _add_users(server, plan, history, users_asked)
     return plan
@@ -159,16 +159,19 @@ def _leave_out_what_lacks_a_reference(plan: Plan, history: History) -> None:
         plan.edits = [edit for edit in plan.edits if edit.thing.key not in lacking]
 
 
-def _leave_what_is_needed(plan: Plan) -> None:
-    """Leaves the objects that the changesets made and that others of their objects need as these were before: a node that
-    somebody else deleted between two of the changesets, and that the second one brought back."""
-    needed = {ref: key for key in plan.restored for ref in plan.base[key].references}
-    needed.update((ref, edit.thing.key) for edit in plan.edits if edit.action == 'modify' for ref in edit.thing.references)
-    for edit in plan.edits:
-        key = edit.thing.key
-        if edit.action == 'delete' and key in needed:
-            plan.left_out[key] = f'{key}: it stays, because {needed[key]} uses it as it was before'
-    plan.edits = [edit for edit in plan.edits if edit.action != 'delete' or edit.thing.key not in needed]
+def _leave_what_is_needed(plan: Plan, history: History) -> None:
+    """Leaves the objects that the changesets made and that others need: objects that come back, as a way whose node somebody
+    else deleted between two of the changesets, and objects of others that are looked at here."""
+    users = {key: plan.base[key] for key in plan.base if key in plan.restored or key not in history.objects}
+    users.update((edit.thing.key, edit.thing) for edit in plan.edits if edit.action == 'modify')
+    needed = {ref: key for key, thing in users.items() for ref in thing.references}
+    while True:
+        stays = [edit.thing.key for edit in plan.edits if edit.action == 'delete' and edit.thing.key in needed]
+        if not stays:
+            return
+        plan.left_out.update((key, f'{key}: it stays, because {needed[key]} uses it') for key in stays)
+        plan.edits = [edit for edit in plan.edits if edit.action != 'delete' or edit.thing.key not in needed]
+        needed.update((ref, key) for key in stays for ref in plan.base[key].references)
 
 
 def _will_be_there(plan: Plan, key: str) -> bool:

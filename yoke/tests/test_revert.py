@@ -227,6 +227,16 @@ class SeveralChangesets(RevertTest):
         self.assert_as_before('w1', 'w2', 'r3')
         self.assertEqual('13.0044000', degrees(self.theirs()['n4'].lon))
 
+    def test_what_another_changeset_uses_that_is_looked_at_stays(self) -> None:
+        first = self.changeset('<create>' + node(-1, 0, lon='13.1') + node(-2, 0, lon='13.2') + '</create>')
+        way = self.server.edit('create', 'w-1', nodes=[1000, 1])
+        second = self.changeset(modify(f'<relation id="3" version="1" changeset="@"><member type="way" ref="{way[1:]}" role=""/></relation>'))
+        self.assertEqual(4, self.revert(first, second), self.out + self.err)
+        self.assertIn(f'left out n1000: it stays, because {way} uses it', self.out)
+        self.assertEqual(0, self.send(), self.err)
+        self.assert_as_before('r3')
+        self.assertEqual([True, False], [self.theirs()[key].visible for key in ('n1000', 'n1001')])
+
 
 class Refusals(RevertTest):
     def test_words_that_are_no_changeset(self) -> None:
