@@ -85,6 +85,11 @@ def of(program: str, checkout: pathlib.Path = HERE.parent) -> Build | None:
     return next((it for it in known if it.sha256 == sha256), None)
 
 
+def is_of_clone(program: str, checkout: pathlib.Path = HERE.parent) -> bool:
+    """Whether it is bin/yokeorange of this checkout, which has no build of its own."""
+    return os.path.realpath(program) == str(checkout / 'bin' / NAME) and (checkout / 'launcher').is_dir()
+
+
 def text_of(path: pathlib.Path) -> str:
     """The text of a small file, '' where it can't be read."""
     try:
@@ -99,6 +104,8 @@ def described(named: str | None = None) -> str:
     if program is None:
         wanted = named or os.environ.get('YOKE_EDITOR') or NAME
         return f'program: none ({wanted} isn\'t there): name it by --program or $YOKE_EDITOR'
+    if is_of_clone(program):
+        return f'program: {program}, which runs what ./editor of this clone runs: plain, unless you proved it here'
     try:
         build, sha256 = of(program), sha256_of(program)
     except OSError as error:

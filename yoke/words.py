@@ -105,6 +105,9 @@ def status(code: int, message: str) -> str:
 
 def bad_line(step: str) -> str:
     """What to say of a line that is none of a script's."""
+    slip = re.search(r'(?<= )[a-z][\w:]*=\S*', step)
+    if step.startswith('find ') and slip:
+        return f'no query: {cut(slip[0])} is no word of one; a tag is written T{cut(slip[0])}, with %20% for a blank'
     return 'no line of a script: {}; docs/REFUSALS.md, "Bad lines of a script", has the common slips'.format(cut(step))
 
 

@@ -89,6 +89,12 @@ class BuildsTest(unittest.TestCase):
         self.put(self.checkout / 'RELEASE', f'version: 0.1.0\nsha256: {SUM}\n')
         self.assertEqual(builds.Build('proved', '0.1.0', SUM), self.build())
 
+    def test_the_one_of_a_clone(self) -> None:
+        program = pathlib.Path(builds.HERE.parent, 'bin', 'yokeorange')
+        self.assertTrue(builds.is_of_clone(str(program)))
+        self.assertFalse(builds.is_of_clone('/bin/sh'))
+        self.assertIn('./editor of this clone', builds.described(str(program)))
+
     def test_what_is_said(self) -> None:
         with mock.patch('yoke.builds.HERE', self.folder / 'prefix'):
             self.assertIn('of unknown build', builds.described())

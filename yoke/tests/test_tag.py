@@ -57,6 +57,8 @@ class Tag(FolderTest):
     def test_no_query(self):
         self.assertEqual(Refused.code, self.yoke('tag', 'a=b', '--find', 'street'))
         self.assertIn('no line of a script', self.err)
+        self.assertEqual(Refused.code, self.yoke('tag', 'a=b', '--find', 'amenity=bench'))
+        self.assertIn('no query: amenity=bench is no word of one; a tag is written Tamenity=bench', self.err)
 
     def test_a_table(self):
         self.write('a.csv', '\ufeffkey;surface;lit\r\nw5;asphalt;\r\nway/6;"fine; gravel";yes\r\nhttps://www.openstreetmap.org/node/1;;\r\n')

@@ -58,6 +58,11 @@ def address(port: int) -> str:
     return f'http://127.0.0.1:{port}'
 
 
+def stopping(port: int) -> str:
+    """The command that ends the server on a port."""
+    return 'yoke practice --stop' + ('' if port == PORT else f' --port {port}')
+
+
 def serve(data: str, port: int) -> int:
     """Serves until Ctrl-C or TERM."""
     try:
@@ -68,7 +73,8 @@ def serve(data: str, port: int) -> int:
     try:
         server = strict.StrictServer(elements, port, users=users).__enter__()
     except OSError as error:
-        raise Refused(f'port {port} is taken ({error.strerror}): name another one by --port, or end it: yoke practice --stop') from None
+        raise Refused(f'port {port} is taken ({error.strerror}): name another one by --port, and in --api too; '
+                      f'if the server there is yours, {stopping(port)} ends it') from None
     print(f'{address(port)} has {len(elements)} objects; the token is {TOKEN}; Ctrl-C ends it', flush=True)
     try:
         threading.Event().wait()
@@ -81,7 +87,7 @@ def begin(data: str, port: int) -> int:
     """Starts a server in the background, and returns once it answers."""
     pid_file = pathlib.Path(PID_FILE.format(port))
     if pid_file.exists():
-        raise Refused(f'{pid_file} is there already: yoke practice --stop --port {port} ends that server')
+        raise Refused(f'{pid_file} is there already: {stopping(port)} ends that server')
     words = [sys.executable, '-m', 'yoke', 'practice', data, '--port', str(port)]
     package = pathlib.Path(__file__).resolve().parents[2]
     child = subprocess.Popen(words, stdin=subprocess.DEVNULL, stdout=subprocess.PIPE, stderr=subprocess.PIPE, text=True,
@@ -91,7 +97,7 @@ def begin(data: str, port: int) -> int:
     if not line:
         raise Trouble(child.stderr.read().strip().removeprefix('yoke: ') or 'the practice server ended at once')
     pid_file.write_text(f'{child.pid}\n', encoding='ascii')
-    print(f'{line.split(";")[0]}; the token is {TOKEN}; yoke practice --stop ends it')
+    print(f'{line.split(";")[0]}; the token is {TOKEN}; {stopping(port)} ends it')
     return 0
 
 
