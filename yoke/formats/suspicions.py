@@ -112,7 +112,8 @@ def of_columns(columns: Mapping[str, Values]) -> Iterator[Suspicion]:
     """What is suspicious in the values of columns by themselves."""
     for name, values in columns.items():
         for code, test, advice in (
-                ('spreadsheet-errors', is_error, 'mend the formula or the form of the cell, and save the table anew'),
+                ('spreadsheet-errors', is_error, 'mend the formula or the form of the cell, and save the table anew; '
+                 'accepted, these values go on the map as they are'),
                 ('control-characters', lambda text: bool(CONTROL.search(text.strip())), 'accepted, these rows are left out')):
             bad = [(where, text) for where, text in values if test(text)]
             if bad:

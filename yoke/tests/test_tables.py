@@ -146,7 +146,8 @@ class Suspicious(TableTest):
 
     def test_faults_of_a_spreadsheet(self) -> None:
         for value in ('#REF!', '#N/A', '#NAME?', '#DIV/0!', '#BEZUG!', '#NV', '#WERT!', 'Err:502', 'NULL', 'nan', '####', '4,93E+11', '02. Jan', '3-Feb'):
-            self.stops(f'key;phone\nn11;1\nn12;{value}\n', 'spreadsheet-errors:phone', f'{value} (line 3)', words=['--columns', 'phone'])
+            self.stops(f'key;phone\nn11;1\nn12;{value}\n', 'spreadsheet-errors:phone', f'{value} (line 3)',
+                       'accepted, these values go on the map as they are', words=['--columns', 'phone'])
         self.done('tag', '--csv', 'a.csv', '--columns', 'phone', '--accept', 'spreadsheet-errors:phone')
         self.assertEqual('3-Feb', self.mine('n12')['phone'])
 
