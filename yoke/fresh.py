@@ -9,6 +9,7 @@ as hold them, and names each object that may be the same thing:
 |---|---|
 | have the same house number, and the same street or place | 50 m |
 | are of the same kind (such as shop=bakery) and have the same name | 50 m |
+| are of the same kind, and their names are as alike as `conflate` wants it | 30 m |
 | have the same tags, apart from those about the edit | 3 m |
 | are outlines of the same kind, and the middle of one lies in the other | |
 | are lines of the same kind, with the same ends | 3 m |
@@ -33,6 +34,8 @@ from typing import Set, Tuple
 
 from yoke import opl, osc
 from yoke.api import Server
+from yoke.conflate.names import Names
+from yoke.conflate.rules import Rules
 from yoke.day import Day
 from yoke.extracts import boxes, header
 from yoke.formats.drawing import UNITS, Box
@@ -43,6 +46,7 @@ MARGIN = 60  # metres around new objects that are asked for
 CELL = UNITS // 50  # 0.02 degrees: new objects in one cell are asked for by one call
 MOST_CALLS = 200  # of one look
 NEAR = 50  # metres: of things with one address, or one name
+ALIKE = Rules()  # from how alike on names are one, and within how many metres
 SAME = 3  # metres: of things with the same tags
 METRES = 111_320  # of a degree of latitude
 SMALLEST = 1000  # units of 10^-7 degree: a box as narrow as that isn't cut further
@@ -161,17 +165,22 @@ def own_tags(tags: Mapping[str, str]) -> Dict[str, str]:
     return {key: value for key, value in tags.items() if not ABOUT_THE_EDIT.fullmatch(key)}
 
 
-def why_same(new: Thing, there: Thing) -> str:
-    """Why two objects may be the same thing, in a few words; empty where nothing says so."""
+def why_same(new: Thing, there: Thing, names: Names) -> str:
+    """Why two objects may be the same thing, in a few words; empty where nothing says so. `names`
+    are those of all objects, by which it is known which words are rare.
+    """
     mine, theirs = new.thing.tags, there.thing.tags
     far = metres(new.middle, there.middle)
     kind = main_kind(mine)
     is_same_kind = kind is not None and kind == main_kind(theirs)
     if far <= NEAR and address(mine) is not None and address(mine) == address(theirs):
         return 'the same address'
-    name = mine.get('name')
-    if far <= NEAR and is_same_kind and name and plain(name) == plain(theirs.get('name', '')):
-        return 'the same kind and name'
+    name, other = mine.get('name'), theirs.get('name')
+    if far <= NEAR and is_same_kind and name and other:
+        if plain(name) == plain(other):
+            return 'the same kind and name'
+        if far <= ALIKE.within and names.alike(name, other) >= ALIKE.unlike:
+            return 'the same kind and a like name'
     if kind is not None and new.is_outline and there.is_outline and kind[0] in theirs:
         if is_inside(new.middle, there.path) or is_inside(there.middle, new.path):
             return 'an outline at the same place'
@@ -340,12 +349,17 @@ def candidates(
         if thing is not None:
             for cell in _cells(thing):
                 cells[cell].append(thing)
+    names = Names(
+        one.tags['name']
+        for one in (*there.values(), *(mine.thing for mine in new))
+        if 'name' in one.tags
+    )
     result = []
     for mine in new:
         uses, best = set(mine.thing.references), None
         near = {one.thing.key: one for cell in _cells(mine) for one in cells.get(cell, ())}
         for other in near.values():
-            why = '' if other.thing.key in uses else why_same(mine, other)
+            why = '' if other.thing.key in uses else why_same(mine, other, names)
             far = metres(mine.middle, other.middle)
             if why and (best is None or far < best.metres):
                 best = Candidate(mine.thing.key, other.thing, why, far)

@@ -7,6 +7,7 @@ from typing import Dict
 from unittest import mock
 
 from yoke import fresh, opl
+from yoke.conflate.names import Names
 from yoke.fresh import Extract, Thing
 from yoke.tests.sessions import opened
 from yoke.tests.support import TOWN, FolderTest, ServerTest
@@ -17,6 +18,11 @@ def thing(tags: Dict[str, str], *path: tuple) -> Thing:
     return Thing(opl.Object('n1' if len(path) == 1 else 'w1', tags=tags), path)
 
 
+def why_same(new: Thing, there: Thing) -> str:
+    names = [one.thing.tags.get('name', '') for one in (new, there)]
+    return fresh.why_same(new, there, Names(names))
+
+
 SQUARE = ((13.0, 52.0), (13.0002, 52.0), (13.0002, 52.0002), (13.0, 52.0002), (13.0, 52.0))
 
 
@@ -24,14 +30,14 @@ class Same(unittest.TestCase):
     def test_addresses(self) -> None:
         new = thing({'addr:housenumber': '7 A', 'addr:street': 'High  Street'}, (13.0, 52.0))
         there = {'addr:housenumber': '7 a', 'addr:street': 'High Street', 'shop': 'bakery'}
-        self.assertEqual('the same address', fresh.why_same(new, thing(there, (13.0005, 52.0))))
-        self.assertEqual('', fresh.why_same(new, thing(there, (13.0009, 52.0))))
+        self.assertEqual('the same address', why_same(new, thing(there, (13.0005, 52.0))))
+        self.assertEqual('', why_same(new, thing(there, (13.0009, 52.0))))
         self.assertEqual(
-            '', fresh.why_same(new, thing({**there, 'addr:street': 'Low Street'}, (13.0, 52.0)))
+            '', why_same(new, thing({**there, 'addr:street': 'Low Street'}, (13.0, 52.0)))
         )
         self.assertEqual(
             '',
-            fresh.why_same(
+            why_same(
                 thing({'addr:housenumber': '7'}, (13.0, 52.0)),
                 thing({'addr:housenumber': '7'}, (13.0, 52.0001)),
             ),
@@ -41,28 +47,37 @@ class Same(unittest.TestCase):
         new = thing({'shop': 'bakery', 'name': 'Koch'}, (13.0, 52.0))
         self.assertEqual(
             'the same kind and name',
-            fresh.why_same(
-                new, thing({'shop': 'bakery', 'name': 'KOCH', 'phone': '1'}, (13.0, 52.0004))
-            ),
+            why_same(new, thing({'shop': 'bakery', 'name': 'KOCH', 'phone': '1'}, (13.0, 52.0004))),
         )
         self.assertEqual(
-            '', fresh.why_same(new, thing({'shop': 'bakery', 'name': 'Lang'}, (13.0, 52.0004)))
+            '', why_same(new, thing({'shop': 'bakery', 'name': 'Lang'}, (13.0, 52.0004)))
         )
         self.assertEqual(
-            '', fresh.why_same(new, thing({'shop': 'butcher', 'name': 'Koch'}, (13.0, 52.0)))
+            '', why_same(new, thing({'shop': 'butcher', 'name': 'Koch'}, (13.0, 52.0)))
         )
+
+    def test_like_names(self) -> None:
+        new = thing({'shop': 'bakery', 'name': 'BACKEREI KOCH'}, (13.0, 52.0))
+        for name, lat, is_same in (
+            ('Bäckerei Koch', 52.0002, True),
+            ('Bäckerei Koch', 52.0004, False),
+            ('Bäckerei Lang', 52.0, False),
+            ('Bäckerei Kocher', 52.0, True),
+        ):
+            why = why_same(new, thing({'shop': 'bakery', 'name': name}, (13.0, lat)))
+            self.assertEqual('the same kind and a like name' if is_same else '', why, name)
+        butcher = thing({'shop': 'butcher', 'name': 'Bäckerei Koch'}, (13.0, 52.0))
+        self.assertEqual('', why_same(new, butcher))
 
     def test_tags(self) -> None:
         new = thing({'natural': 'tree', 'source': 'survey'}, (13.0, 52.0))
         self.assertEqual(
-            'the same tags', fresh.why_same(new, thing({'natural': 'tree'}, (13.0, 52.00002)))
+            'the same tags', why_same(new, thing({'natural': 'tree'}, (13.0, 52.00002)))
         )
-        self.assertEqual('', fresh.why_same(new, thing({'natural': 'tree'}, (13.0, 52.0001))))
+        self.assertEqual('', why_same(new, thing({'natural': 'tree'}, (13.0, 52.0001))))
         self.assertEqual(
             '',
-            fresh.why_same(
-                thing({'source': 'x'}, (13.0, 52.0)), thing({'source': 'x'}, (13.0, 52.0))
-            ),
+            why_same(thing({'source': 'x'}, (13.0, 52.0)), thing({'source': 'x'}, (13.0, 52.0))),
         )
 
     def test_outlines(self) -> None:
@@ -70,17 +85,15 @@ class Same(unittest.TestCase):
         far = tuple((lon + 0.0003, lat) for lon, lat in SQUARE)
         self.assertEqual(
             'an outline at the same place',
-            fresh.why_same(
-                thing({'building': 'yes'}, *moved), thing({'building': 'house'}, *SQUARE)
-            ),
+            why_same(thing({'building': 'yes'}, *moved), thing({'building': 'house'}, *SQUARE)),
         )
         self.assertEqual(
             '',
-            fresh.why_same(thing({'building': 'yes'}, *far), thing({'building': 'house'}, *SQUARE)),
+            why_same(thing({'building': 'yes'}, *far), thing({'building': 'house'}, *SQUARE)),
         )
         self.assertEqual(
             '',
-            fresh.why_same(
+            why_same(
                 thing({'building': 'yes'}, *moved), thing({'landuse': 'residential'}, *SQUARE)
             ),
         )
@@ -88,9 +101,9 @@ class Same(unittest.TestCase):
     def test_lines(self) -> None:
         new = thing({'highway': 'path'}, (13.0, 52.0), (13.001, 52.0005), (13.002, 52.0))
         there = thing({'highway': 'path', 'name': 'x'}, (13.002, 52.00001), (13.0, 52.0))
-        self.assertEqual('a line with the same ends', fresh.why_same(new, there))
+        self.assertEqual('a line with the same ends', why_same(new, there))
         self.assertEqual(
-            '', fresh.why_same(new, thing({'highway': 'path'}, (13.002, 52.001), (13.0, 52.0)))
+            '', why_same(new, thing({'highway': 'path'}, (13.002, 52.001), (13.0, 52.0)))
         )
 
     def test_boxes_hold_what_is_near(self) -> None:
@@ -145,6 +158,15 @@ class Send(ServerTest):
         self.assertEqual(0, self.send(), self.err)
         self.assertEqual(
             2, len([change for change in self.server.history if change.user == 'mapper'])
+        )
+
+    def test_a_name_in_another_case_and_without_accents_stops_it(self) -> None:
+        self.begin('node x13.50001 y52.50001 Tshop=bakery,name=BACKEREI%20%KOCH')
+        tags = {'shop': 'bakery', 'name': 'Bäckerei Koch'}
+        key = self.server.edit('create', 'n-1', place=('13.5', '52.5'), tags=tags)
+        self.assertEqual(Refused.code, self.send())
+        self.assertIn(
+            f'n-1 may be {key} Bäckerei Koch: the same kind and a like name, 1 m away', self.out
         )
 
     def test_unseen_passes(self) -> None:
