@@ -44,7 +44,9 @@ class Proof:
 
     def has_ended(self):
         """Whether it ended; then with its status and what it took."""
-        pid, status, used = os.wait4(self.process.pid, os.WNOHANG)  # Popen would throw away what it took
+        pid, status, used = os.wait4(
+            self.process.pid, os.WNOHANG
+        )  # Popen would throw away what it took
         if pid:
             self.status = self.process.returncode = os.waitstatus_to_exitcode(status)
             self.used, self.ended = used, time.monotonic()
@@ -103,11 +105,17 @@ class Build:
     def run(self):
         """Proves, builds and keeps the program: its path. The store's lock is held."""
         self.store.clear('log', 'part', 'tmp')
-        self.note('{} with {}, {} at a time\n'.format(self.toolkit.line, count(len(self.crates), 'crate'), self.jobs))
+        self.note(
+            '{} with {}, {} at a time\n'.format(
+                self.toolkit.line, count(len(self.crates), 'crate'), self.jobs
+            )
+        )
         self.take_kept()
         self.hold_to_machine()
         self.guard = Guard(self.store.path('tmp'))
-        self.meter = measure.Meter(self.guard.shell.pid, self.store.folder) if self.wishes.measures else None
+        self.meter = (
+            measure.Meter(self.guard.shell.pid, self.store.folder) if self.wishes.measures else None
+        )
         try:
             self.tell_begin()
             self.prove()
@@ -115,8 +123,11 @@ class Build:
             example.hold(self.home, part)
             return self.keep(part)
         except (KeyboardInterrupt, SystemExit):
-            say('interrupted: {} of {} crates are proved and kept, and ./editor goes on from there'
-                .format(len(self.proved), len(self.crates)))
+            say(
+                'interrupted: {} of {} crates are proved and kept, and ./editor goes on from there'.format(
+                    len(self.proved), len(self.crates)
+                )
+            )
             raise
         finally:
             self.guard.end()
@@ -151,12 +162,17 @@ class Build:
         memory, swap = machine.free_memory(), machine.free_swap()
         largest = max(left, key=self.schedule.need)
         if self.schedule.need(largest) > memory + swap:
-            found.append('too little memory: the proof of {} may take {}, and {} are free. Close other programs first'
-                         .format(largest, gigabytes(self.schedule.need(largest)), gigabytes(memory + swap)))
+            found.append(
+                'too little memory: the proof of {} may take {}, and {} are free. Close other programs first'.format(
+                    largest, gigabytes(self.schedule.need(largest)), gigabytes(memory + swap)
+                )
+            )
         disk, needed = machine.free_disk(self.store.folder), self.disk(left)
         if needed > disk:
-            found.append('too little disk: {} may take up to {} until the program is built, and {} are free. XDG_CACHE_HOME\n'
-                         'names another folder'.format(self.store.folder, gigabytes(needed), gigabytes(disk)))
+            found.append(
+                'too little disk: {} may take up to {} until the program is built, and {} are free. XDG_CACHE_HOME\n'
+                'names another folder'.format(self.store.folder, gigabytes(needed), gigabytes(disk))
+            )
         return found
 
     def disk(self, names):
@@ -171,10 +187,18 @@ class Build:
     def tell_begin(self):
         """Says what is about to be done, how long it takes, and where the log is."""
         left, kept = len(self.waiting()), len(self.proved)
-        say('proving {}{} and building the program, with {}: {}'.format(
-            count(left, 'crate'), ' ({} proved already)'.format(kept) if kept else '',
-            count(self.jobs, 'processor'), minutes(self.seconds_left())))
-        say('It may be interrupted, and goes on later from what is proved. Log: ' + self.store.log('build.log'))
+        say(
+            'proving {}{} and building the program, with {}: {}'.format(
+                count(left, 'crate'),
+                ' ({} proved already)'.format(kept) if kept else '',
+                count(self.jobs, 'processor'),
+                minutes(self.seconds_left()),
+            )
+        )
+        say(
+            'It may be interrupted, and goes on later from what is proved. Log: '
+            + self.store.log('build.log')
+        )
 
     # ---- proofs ----
 
@@ -202,8 +226,12 @@ class Build:
         remove(to)
         words = calls.proof(crate, self.crates, self.toolkit.folder, self.store.path('rlib'), to)
         text = keys.of_text(self.home, crate)
-        process = self.guard.start([*words, '--jobs', str(start.jobs)], self.folder_of(start.name),
-                                   self.store.log(start.name), start.nice)
+        process = self.guard.start(
+            [*words, '--jobs', str(start.jobs)],
+            self.folder_of(start.name),
+            self.store.log(start.name),
+            start.nice,
+        )
         self.running.append(Proof(start, process, text, time.monotonic(), free))
         self.note('begun: {}, jobs {}, nice {}\n'.format(start.name, start.jobs, start.nice))
         return True
@@ -219,7 +247,11 @@ class Build:
         found = []
         for it in self.running:
             done = RATES[it.start.jobs] * it.seconds / pace
-            found.append(Running(it.start, max(10.0, MORE * done, self.schedule.seconds[it.start.name] - done)))
+            found.append(
+                Running(
+                    it.start, max(10.0, MORE * done, self.schedule.seconds[it.start.name] - done)
+                )
+            )
         return found
 
     def pace(self):
@@ -233,7 +265,9 @@ class Build:
 
     def seconds_left(self):
         """The seconds until all is proved, as far as the schedule and the proofs that ended tell."""
-        left = self.schedule.seconds_left(self.waiting(), self.proved, self.left_of_running(), self.alone)
+        left = self.schedule.seconds_left(
+            self.waiting(), self.proved, self.left_of_running(), self.alone
+        )
         return left * self.pace()
 
     def end(self, proof):
@@ -242,14 +276,23 @@ class Build:
         self.rows.append(proof)
         if proof.signal and name not in self.alone:
             self.alone.add(name)
-            say('the proof of {} was stopped by signal {}, {}: once more, with one job and nothing beside it'
-                .format(name, proof.signal, 'most likely for memory' if proof.signal == 9 else 'from outside'))
+            say(
+                'the proof of {} was stopped by signal {}, {}: once more, with one job and nothing beside it'.format(
+                    name,
+                    proof.signal,
+                    'most likely for memory' if proof.signal == 9 else 'from outside',
+                )
+            )
             return
         self.hold_to_verdict(proof)
         self.proved.add(name)
         self.reckoned += self.schedule.seconds[name]
         self.taken += proof.seconds * RATES[proof.start.jobs]
-        left = ', {} left'.format(minutes(self.seconds_left())) if self.waiting() or self.running else ''
+        left = (
+            ', {} left'.format(minutes(self.seconds_left()))
+            if self.waiting() or self.running
+            else ''
+        )
         self.tell('{} of {} proved{}: {}'.format(len(self.proved), len(self.crates), left, name))
 
     def hold_to_verdict(self, proof):
@@ -259,19 +302,36 @@ class Build:
         with open(log, encoding='utf-8', errors='replace') as file:
             last = (file.read().splitlines() or [''])[-1]
         if proof.signal:
-            raise Stop(stopped_by('the proof of ' + name, proof.signal, self.jobs, proof.free) + '. What is proved is kept')
+            raise Stop(
+                stopped_by('the proof of ' + name, proof.signal, self.jobs, proof.free)
+                + '. What is proved is kept'
+            )
         if proof.status and machine.free_disk(self.store.folder) < FULL:
-            raise Stop('the proof of {} ended with status {}, and the disk is full: {} are free in {}. What is proved is kept'
-                       .format(name, proof.status, gigabytes(machine.free_disk(self.store.folder)), self.store.folder))
+            raise Stop(
+                'the proof of {} ended with status {}, and the disk is full: {} are free in {}. What is proved is kept'.format(
+                    name,
+                    proof.status,
+                    gigabytes(machine.free_disk(self.store.folder)),
+                    self.store.folder,
+                )
+            )
         if proof.status:
-            raise Stop('{} isn\'t proved: rattle ended with status {}. The end of {}:\n{}What is proved is kept'
-                       .format(name, proof.status, log, end_of(log)))
+            raise Stop(
+                '{} isn\'t proved: rattle ended with status {}. The end of {}:\n{}What is proved is kept'.format(
+                    name, proof.status, log, end_of(log)
+                )
+            )
         if not calls.is_verdict(crate.is_program, last, self.toolkit.logic):
-            raise Stop('the verdict on {} has words that this launcher doesn\'t know, so it isn\'t taken for a proof:\n    {}'
-                       .format(name, last))
+            raise Stop(
+                'the verdict on {} has words that this launcher doesn\'t know, so it isn\'t taken for a proof:\n    {}'.format(
+                    name, last
+                )
+            )
         if not proof.text == self.texts[name] == keys.of_text(self.home, crate):
-            raise Stop('the sources of {} changed while it was proved, so its proof isn\'t kept: run ./editor again. What is\n'
-                       'proved and unchanged is kept'.format(name))
+            raise Stop(
+                'the sources of {} changed while it was proved, so its proof isn\'t kept: run ./editor again. What is\n'
+                'proved and unchanged is kept'.format(name)
+            )
         if not crate.is_program:
             self.store.keep(name, self.keys[name], last)
 
@@ -282,8 +342,15 @@ class Build:
         crate = self.crates[PROGRAM]
         kit, part = self.toolkit.folder, self.store.path('part', NAME)
         checked, compiled = self.store.path('part', 'checked'), part + '.o'
-        self.tell('all {} proved: compiling and linking the program'.format(count(len(self.proved), 'crate')))
-        self.call('compiling', calls.compiling(crate, self.crates, kit, self.store.path('rlib'), checked, compiled))
+        self.tell(
+            'all {} proved: compiling and linking the program'.format(
+                count(len(self.proved), 'crate')
+            )
+        )
+        self.call(
+            'compiling',
+            calls.compiling(crate, self.crates, kit, self.store.path('rlib'), checked, compiled),
+        )
         self.call('linking', calls.linking(kit, compiled, part))
         return part
 
@@ -300,13 +367,19 @@ class Build:
         if step.signal:
             raise Stop(stopped_by(what + ' the program', step.signal, 1, free))
         if step.status:
-            raise Stop('{} the program failed with status {}. The end of {}:\n{}'.format(what, step.status, log, end_of(log)))
+            raise Stop(
+                '{} the program failed with status {}. The end of {}:\n{}'.format(
+                    what, step.status, log, end_of(log)
+                )
+            )
 
     def keep(self, part):
         """Keeps the program with its record, and removes the libraries, unless they are wanted: its path."""
         if keys.of_texts(self.home, self.crates) != self.texts:
             raise Stop('the sources changed while the program was built: run ./editor again')
-        path = keep_program(self.home, self.store, self.toolkit, self.texts, part, self.keys[PROGRAM], 'rattle')
+        path = keep_program(
+            self.home, self.store, self.toolkit, self.texts, part, self.keys[PROGRAM], 'rattle'
+        )
         if not self.wishes.keeps:
             for name in self.store.names():
                 self.store.forget(name)
@@ -325,8 +398,11 @@ class Build:
         """Says what is being proved, where nothing was said for a while."""
         if self.running and time.monotonic() - self.told > SILENCE:
             names = ', '.join(it.start.name for it in self.running)
-            self.tell('{} of {} proved, {} left; now: {}'.format(
-                len(self.proved), len(self.crates), minutes(self.seconds_left()), names))
+            self.tell(
+                '{} of {} proved, {} left; now: {}'.format(
+                    len(self.proved), len(self.crates), minutes(self.seconds_left()), names
+                )
+            )
 
     def note(self, text):
         """Writes to the build's log."""
@@ -337,17 +413,38 @@ class Build:
     def table(self):
         """What each proof took, and what all of them took together."""
         form = '{:24} {:>6} {:>4} {:>8} {:>12} {:>9} {:>9}{}\n'
-        lines = ['what each proof took\n',
-                 form.format('crate', 'lines', 'jobs', 'minutes', 'processors', 'largest', 'all of it', '')]
+        lines = [
+            'what each proof took\n',
+            form.format(
+                'crate', 'lines', 'jobs', 'minutes', 'processors', 'largest', 'all of it', ''
+            ),
+        ]
         for it in [it for it in self.rows if it.used]:
             crate = self.crates.get(it.start.name)
-            lines.append(form.format(
-                it.start.name, crate.lines if crate else '', it.start.jobs, '{:.1f}'.format(it.seconds / 60),
-                '{:.0f} s'.format(it.worked), gigabytes(1024 * it.used.ru_maxrss), gigabytes(it.peak) if it.peak else '-',
-                ' stopped by signal {}'.format(it.signal) if it.signal else ''))
-        lines.append(form.format(
-            'all', sum(it.lines for it in self.crates.values()), '', '{:.1f}'.format((time.monotonic() - self.begun) / 60),
-            '{:.0f} s'.format(sum(it.worked for it in self.rows if it.used)), '', '', ''))
+            lines.append(
+                form.format(
+                    it.start.name,
+                    crate.lines if crate else '',
+                    it.start.jobs,
+                    '{:.1f}'.format(it.seconds / 60),
+                    '{:.0f} s'.format(it.worked),
+                    gigabytes(1024 * it.used.ru_maxrss),
+                    gigabytes(it.peak) if it.peak else '-',
+                    ' stopped by signal {}'.format(it.signal) if it.signal else '',
+                )
+            )
+        lines.append(
+            form.format(
+                'all',
+                sum(it.lines for it in self.crates.values()),
+                '',
+                '{:.1f}'.format((time.monotonic() - self.begun) / 60),
+                '{:.0f} s'.format(sum(it.worked for it in self.rows if it.used)),
+                '',
+                '',
+                '',
+            )
+        )
         if self.meter:
             lines.append(self.meter.told())
         return ''.join(lines)
@@ -355,8 +452,15 @@ class Build:
 
 def keep_program(home, store, toolkit, texts, part, key, how):
     """Keeps a built program in the store, and a copy of it in the checkout for who wants to install it: the kept one's path."""
-    record = {'key': key, 'sources': keys.of_sources(texts), 'toolkit': toolkit.identity, 'line': toolkit.line,
-              'sha256': keys.of_file(part), 'by': how, 'commit': commit(home)}
+    record = {
+        'key': key,
+        'sources': keys.of_sources(texts),
+        'toolkit': toolkit.identity,
+        'line': toolkit.line,
+        'sha256': keys.of_file(part),
+        'by': how,
+        'commit': commit(home),
+    }
     path = store.keep_program(part, record)
     copy_to_checkout(home, path)
     return path
@@ -374,14 +478,29 @@ def copy_to_checkout(home, path, tells=True):
         os.replace(to + '.part', to)
     except OSError as error:
         if tells:
-            say('{} can\'t be written ({}): the program is in {} alone'.format(to, error.strerror, path))
+            say(
+                '{} can\'t be written ({}): the program is in {} alone'.format(
+                    to, error.strerror, path
+                )
+            )
 
 
 def commit(home):
     """The commit of the checkout, with "and changes" where files differ from it; '' where there is none."""
     try:
-        words = ['git', '-C', home, 'describe', '--always', '--dirty= and changes', '--abbrev=40', '--exclude=*']
-        done = subprocess.run(words, stdin=subprocess.DEVNULL, stdout=subprocess.PIPE, stderr=subprocess.DEVNULL)
+        words = [
+            'git',
+            '-C',
+            home,
+            'describe',
+            '--always',
+            '--dirty= and changes',
+            '--abbrev=40',
+            '--exclude=*',
+        ]
+        done = subprocess.run(
+            words, stdin=subprocess.DEVNULL, stdout=subprocess.PIPE, stderr=subprocess.DEVNULL
+        )
     except OSError:
         return ''
     return done.stdout.decode('utf-8', 'replace').strip() if done.returncode == 0 else ''

@@ -36,16 +36,24 @@ class Follower:
                 self.crate = line[3:]
             elif line.startswith('logic=proved '):
                 self.proved += 1
-                say('{} of {} proved after {}: {}'.format(
-                    self.proved, self.crates, minutes(time.monotonic() - self.begun), self.crate))
+                say(
+                    '{} of {} proved after {}: {}'.format(
+                        self.proved, self.crates, minutes(time.monotonic() - self.begun), self.crate
+                    )
+                )
 
 
 def build(home, store, toolkit, crates, texts, why, jobs):
     """Proves and builds the program by rt's own commands: its path. The store's lock is held."""
     jobs = jobs or machine.processors()
-    say('the Rattle toolkit on the path is another than the one that this launcher was made for: ' + '; '.join(why))
-    say('so rt itself proves the {} and builds the program: this takes longer, more memory (up to 10 GB) and more disk\n'
-        '(up to 15 GB, in crates/*/out)'.format(count(len(crates), 'crate')))
+    say(
+        'the Rattle toolkit on the path is another than the one that this launcher was made for: '
+        + '; '.join(why)
+    )
+    say(
+        'so rt itself proves the {} and builds the program: this takes longer, more memory (up to 10 GB) and more disk\n'
+        '(up to 15 GB, in crates/*/out)'.format(count(len(crates), 'crate'))
+    )
     store.clear('log', 'tmp')
     folder, log = os.path.join(home, 'crates', PROGRAM), store.log('build.log')
     say('It may be interrupted, and goes on later from what is proved. Log: ' + log)
@@ -53,14 +61,24 @@ def build(home, store, toolkit, crates, texts, why, jobs):
     try:
         call(guard, ['rt', 'all', 'check', '--jobs', str(jobs)], folder, log, len(crates), jobs)
         say('linking the program')
-        call(guard, ['rt', 'run', '--', os.devnull], folder, store.log('linking'), len(crates), jobs)
+        call(
+            guard, ['rt', 'run', '--', os.devnull], folder, store.log('linking'), len(crates), jobs
+        )
         if keys.of_texts(home, crates) != texts:
             raise Stop('the sources changed while the program was built: run ./editor again')
         part = store.path('part', PROGRAM)
         with open(os.path.join(folder, 'out', PROGRAM), 'rb') as built, open(part, 'wb') as to:
             to.write(built.read())
         os.chmod(part, 0o755)
-        return keep_program(home, store, toolkit, texts, part, keys.of(toolkit.identity, sorted(texts.items())), 'rt')
+        return keep_program(
+            home,
+            store,
+            toolkit,
+            texts,
+            part,
+            keys.of(toolkit.identity, sorted(texts.items())),
+            'rt',
+        )
     except (KeyboardInterrupt, SystemExit):
         say('interrupted: what is proved is kept, and ./editor goes on from there')
         raise
@@ -86,4 +104,8 @@ def call(guard, words, folder, log, crates, jobs):
         end = end_of(log)
         if KILLED.search(end):
             raise Stop(end + stopped_by(proof, 9, jobs, free))
-        raise Stop('{} ended with status {}. The end of {}:\n{}'.format(' '.join(words[:3]), status, log, end))
+        raise Stop(
+            '{} ended with status {}. The end of {}:\n{}'.format(
+                ' '.join(words[:3]), status, log, end
+            )
+        )

@@ -13,7 +13,12 @@ ARCHIVES = ('c/libos_c.a', 'c/liblibc_c.a')
 # cache= crate-checked=), or is a later rattle's.
 TRUSTED = 'native=nat,char,string logic-built=trusted libraries-built=trusted statements=trusted'
 LIBRARY = 'logic=proved functions=[0-9]+ sum={} ' + TRUSTED
-PROGRAM = 'logic=proved functions=[0-9]+ axioms=[0-9]+ target=' + TARGET + ' cpu=x86-64-v2 sum={} ' + TRUSTED
+PROGRAM = (
+    'logic=proved functions=[0-9]+ axioms=[0-9]+ target='
+    + TARGET
+    + ' cpu=x86-64-v2 sum={} '
+    + TRUSTED
+)
 
 
 def of_crate(crate, names, kit, rlibs):
@@ -28,9 +33,17 @@ def of_crate(crate, names, kit, rlibs):
 
 def proof(crate, names, kit, rlibs, to):
     """The words of a crate's proof, but for its jobs: a library is built to `to`, a program only checked."""
-    words = [*of_crate(crate, names, kit, rlibs), '--logic-built', os.path.join(kit, 'logic_built'), '-o', to]
+    words = [
+        *of_crate(crate, names, kit, rlibs),
+        '--logic-built',
+        os.path.join(kit, 'logic_built'),
+        '-o',
+        to,
+    ]
     rattle = os.path.join(kit, 'bin', 'rattle')
-    return [rattle, 'check', *words] if crate.is_program else [rattle, 'build', *words, '--statements']
+    return (
+        [rattle, 'check', *words] if crate.is_program else [rattle, 'build', *words, '--statements']
+    )
 
 
 def compiling(crate, names, kit, rlibs, checked, to):
@@ -43,7 +56,11 @@ def compiling(crate, names, kit, rlibs, checked, to):
 def linking(kit, compiled, to):
     """The words that link a program."""
     words = ['--target', TARGET, '--toolchain', os.path.join(kit, 'toolchain'), '-o', to, compiled]
-    return [os.path.join(kit, 'bin', 'rattle-link'), *words, *(os.path.join(kit, it) for it in ARCHIVES)]
+    return [
+        os.path.join(kit, 'bin', 'rattle-link'),
+        *words,
+        *(os.path.join(kit, it) for it in ARCHIVES),
+    ]
 
 
 def is_verdict(is_program, line, logic):

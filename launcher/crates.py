@@ -39,7 +39,11 @@ def listed(text):
             continue
         words = head.split()
         if not colon or len(words) != 1:
-            raise Stop('crates.txt has the line "{}", and the launcher reads NAME: DEP DEP .. alone'.format(line.strip()))
+            raise Stop(
+                'crates.txt has the line "{}", and the launcher reads NAME: DEP DEP .. alone'.format(
+                    line.strip()
+                )
+            )
         if words[0] in found:
             raise Stop('crates.txt lists {} twice'.format(words[0]))
         found[words[0]] = tuple(libraries.split())
@@ -58,7 +62,11 @@ def read(home, names):
         if name in found:
             return
         if name in opened:
-            raise Stop('crates.txt: {} stands on itself'.format(' on '.join([*opened[opened.index(name):], name])))
+            raise Stop(
+                'crates.txt: {} stands on itself'.format(
+                    ' on '.join([*opened[opened.index(name) :], name])
+                )
+            )
         if name not in every:
             raise Stop('crates.txt doesn\'t list {}'.format(name))
         opened.append(name)
@@ -78,7 +86,11 @@ def crate(home, name, libraries, below):
     folder = os.path.join(home, 'crates', name)
     is_program = os.path.isfile(os.path.join(folder, 'src', 'main.rt'))
     if not is_program and not os.path.isfile(os.path.join(folder, 'src', 'lib.rt')):
-        raise Stop('crates.txt lists {}, and {} has neither src/lib.rt nor src/main.rt'.format(name, folder))
+        raise Stop(
+            'crates.txt lists {}, and {} has neither src/lib.rt nor src/main.rt'.format(
+                name, folder
+            )
+        )
     line = '{}: {}'.format(name, ' '.join(libraries))
     return Crate(name, line, libraries, below, is_program, lines_of_code(folder))
 

@@ -15,8 +15,12 @@ def hold(home: str, program: str) -> None:
     folder = os.path.join(home, part)
     if not os.path.isfile(os.path.join(folder, wanted)):
         return
-    done = subprocess.run([program, script], cwd=folder, stdin=subprocess.DEVNULL, stdout=subprocess.PIPE)
+    done = subprocess.run(
+        [program, script], cwd=folder, stdin=subprocess.DEVNULL, stdout=subprocess.PIPE
+    )
     with open(os.path.join(folder, wanted), 'rb') as file:
         if done.returncode or done.stdout != file.read():
-            raise Stop(f'the built program doesn\'t answer examples/{script} as examples/{wanted} has it '
-                       f'(status {done.returncode})')
+            raise Stop(
+                f'the built program doesn\'t answer examples/{script} as examples/{wanted} has it '
+                f'(status {done.returncode})'
+            )

@@ -10,14 +10,17 @@ class Guard:
 
     A shell in that group reads from a pipe whose other end the launcher alone holds. When the launcher ends, by SIGKILL too,
     the shell reads the end of the pipe and kills the group. Ctrl-C and Ctrl-Z reach the launcher alone, which is in another
-    group: it ends the group as it ends, and stops and continues it (`pause`) as it is stopped and continued."""
+    group: it ends the group as it ends, and stops and continues it (`pause`) as it is stopped and continued.
+    """
 
     def __init__(self, temporary):
         # rattle leaves temporary folders behind where it is killed, so it gets one that the launcher empties.
         self.environment = dict(os.environ, TMPDIR=temporary)
         read, self.held = os.pipe()
         how = {'stdin': read, 'stdout': subprocess.DEVNULL, 'stderr': subprocess.DEVNULL}
-        self.shell = subprocess.Popen(['sh', '-c', 'read _; kill -9 0'], preexec_fn=os.setpgrp, **how)
+        self.shell = subprocess.Popen(
+            ['sh', '-c', 'read _; kill -9 0'], preexec_fn=os.setpgrp, **how
+        )
         os.close(read)
         self.before = signal.signal(signal.SIGTSTP, self.pause)
 
@@ -35,7 +38,12 @@ class Guard:
                     file.write('500')
 
         with open(log, 'wb') as out:
-            how = {'cwd': folder, 'stdin': subprocess.DEVNULL, 'stdout': out, 'stderr': subprocess.STDOUT}
+            how = {
+                'cwd': folder,
+                'stdin': subprocess.DEVNULL,
+                'stdout': out,
+                'stderr': subprocess.STDOUT,
+            }
             return subprocess.Popen(words, preexec_fn=join, env=self.environment, **how)
 
     def pause(self, *_):

@@ -71,10 +71,19 @@ def of_sources(texts):
 
 def of_plain(home, crates):
     """One hash over all that a plain build reads: the sources of the crates and their lines, the export itself, the version."""
-    found = [[name, it.line, of_folder(os.path.join(home, 'crates', name, 'src'))] for name, it in sorted(crates.items())]
+    found = [
+        [name, it.line, of_folder(os.path.join(home, 'crates', name, 'src'))]
+        for name, it in sorted(crates.items())
+    ]
     folder = os.path.join(home, 'plain')
-    own = [it for it in files_below(folder) if not it.startswith('tests' + os.sep) and '__pycache__' not in it]
-    return of(FORM_PLAIN, found, of_folder(folder, own), of_file(os.path.join(home, 'CHANGELOG.md')))
+    own = [
+        it
+        for it in files_below(folder)
+        if not it.startswith('tests' + os.sep) and '__pycache__' not in it
+    ]
+    return of(
+        FORM_PLAIN, found, of_folder(folder, own), of_file(os.path.join(home, 'CHANGELOG.md'))
+    )
 
 
 def plain_again(home):
@@ -89,5 +98,7 @@ def of_crates(crates, texts, toolkit):
     found = {}
     for name, crate in crates.items():
         words = calls.proof(crate, crates, 'KIT', 'RLIBS', 'TO')
-        found[name] = of(FORM, toolkit, words, texts[name], sorted([it, found[it]] for it in crate.below))
+        found[name] = of(
+            FORM, toolkit, words, texts[name], sorted([it, found[it]] for it in crate.below)
+        )
     return found

@@ -35,7 +35,9 @@ def names_in(script):
     for line in script.splitlines():
         words = line.split()
         if len(words) > 1 and words[0] in READS:
-            name = ESCAPE.sub(lambda it: chr(int(it[1], 16)) if int(it[1], 16) < 0x110000 else it[0], words[1])
+            name = ESCAPE.sub(
+                lambda it: chr(int(it[1], 16)) if int(it[1], 16) < 0x110000 else it[0], words[1]
+            )
             if name not in found:
                 found.append(name)
     return found
@@ -56,8 +58,11 @@ def given(names, folder):
         if not os.path.isfile(path):
             continue
         if not can_be_given(name):
-            raise Stop('--look takes only files of this folder and below it, by their plain names, and the script names\n'
-                       '{}: ./editor runs it once the program is proved'.format(name), 2)
+            raise Stop(
+                '--look takes only files of this folder and below it, by their plain names, and the script names\n'
+                '{}: ./editor runs it once the program is proved'.format(name),
+                2,
+            )
         words += ['--data', '{}={}'.format(name, os.path.abspath(path))]
     return words
 
@@ -66,7 +71,9 @@ def script_of(words):
     """The script among the program's words, which --look takes alone."""
     words = words[1:] if words[:1] == ['--'] else words
     if len(words) != 1:
-        raise Stop('--look takes one script, and no option of the program: ./editor --look SCRIPT', 2)
+        raise Stop(
+            '--look takes one script, and no option of the program: ./editor --look SCRIPT', 2
+        )
     return words[0]
 
 
@@ -77,7 +84,12 @@ def command(script, folder):
     with open(os.path.join(folder, script), 'rb') as file:
         text = file.read(LARGEST).decode('utf-8', 'replace')
     name = script if can_be_given(script) else 'the.script'
-    words = ['rt', 'try', '--data', '{}={}'.format(name, os.path.abspath(os.path.join(folder, script)))]
+    words = [
+        'rt',
+        'try',
+        '--data',
+        '{}={}'.format(name, os.path.abspath(os.path.join(folder, script))),
+    ]
     return [*words, *given([it for it in names_in(text) if it != name], folder), '--', name]
 
 
@@ -85,12 +97,24 @@ def run(home, words):
     """Runs the script of `--look`: the status."""
     script = script_of(words)
     if not shutil.which('rt'):
-        raise Stop('--look needs the Rattle toolkit: there is no command rt on the path. {} says which it is'
-                   .format(os.path.join(home, 'docs', 'INSTALL.md')), 127)
+        raise Stop(
+            '--look needs the Rattle toolkit: there is no command rt on the path. {} says which it is'.format(
+                os.path.join(home, 'docs', 'INSTALL.md')
+            ),
+            127,
+        )
     call = command(script, os.getcwd())
     if machine.free_memory() + machine.free_swap() < MEMORY:
-        say('this may take {}, and {} are free'.format(gigabytes(MEMORY), gigabytes(machine.free_memory())))
-    say('running {} unproved, by rt try: one to three minutes, and nothing is proved by it. Nothing is kept'.format(script))
+        say(
+            'this may take {}, and {} are free'.format(
+                gigabytes(MEMORY), gigabytes(machine.free_memory())
+            )
+        )
+    say(
+        'running {} unproved, by rt try: one to three minutes, and nothing is proved by it. Nothing is kept'.format(
+            script
+        )
+    )
     sys.stdout.flush()
     # rt gets standard error through a pipe, since its last lines are for who writes Rattle, and are put in plain words here.
     how = {'stdin': subprocess.DEVNULL, 'stderr': subprocess.PIPE}
@@ -112,12 +136,22 @@ def told(status, said):
         for line in lines:
             if line.startswith('editor: '):
                 print(line, file=sys.stderr)
-        say('that was the program as it is written, and nothing of it is proved. ./editor SCRIPT proves it first')
+        say(
+            'that was the program as it is written, and nothing of it is proved. ./editor SCRIPT proves it first'
+        )
         return status
     for line in lines[-12:]:
         print('    ' + line, file=sys.stderr)
     if 0 <= status <= 128:
-        say('no answer without a proof: {}'.format(SAYS.get(status, 'rt try ended with status {}'.format(status))))
+        say(
+            'no answer without a proof: {}'.format(
+                SAYS.get(status, 'rt try ended with status {}'.format(status))
+            )
+        )
         return status or 1
-    say('no answer without a proof: rt try was stopped by signal {}'.format(-status if status < 0 else status - 128))
+    say(
+        'no answer without a proof: rt try was stopped by signal {}'.format(
+            -status if status < 0 else status - 128
+        )
+    )
     return 1

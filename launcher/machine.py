@@ -2,7 +2,9 @@
 import os
 import re
 
-CPU_LIMIT, MEMORY_LIMIT, MEMORY_HELD = ('/sys/fs/cgroup/' + it for it in ('cpu.max', 'memory.max', 'memory.stat'))
+CPU_LIMIT, MEMORY_LIMIT, MEMORY_HELD = (
+    '/sys/fs/cgroup/' + it for it in ('cpu.max', 'memory.max', 'memory.stat')
+)
 
 
 def found_in(path, pattern):

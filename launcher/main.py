@@ -72,11 +72,23 @@ def export(folder, libraries):
     from plain import tokens, workspace
 
     try:
-        made = workspace.write(pathlib.Path(HOME), pathlib.Path(folder), workspace.choice_of(libraries), plain_version())
+        made = workspace.write(
+            pathlib.Path(HOME),
+            pathlib.Path(folder),
+            workspace.choice_of(libraries),
+            plain_version(),
+        )
     except tokens.Refused as why:
-        raise Stop('{}\nThe export doesn\'t know this form, so it wrote nothing: plain/__init__.py says how to add one'.format(why)) from why
-    say('wrote {} with {:,} lines of plain Rust to {}. Nothing of it is proved. {} says how to build it'.format(
-        count(len(made.crates), 'crate'), made.lines, folder, os.path.join(folder, 'README.md')))
+        raise Stop(
+            '{}\nThe export doesn\'t know this form, so it wrote nothing: plain/__init__.py says how to add one'.format(
+                why
+            )
+        ) from why
+    say(
+        'wrote {} with {:,} lines of plain Rust to {}. Nothing of it is proved. {} says how to build it'.format(
+            count(len(made.crates), 'crate'), made.lines, folder, os.path.join(folder, 'README.md')
+        )
+    )
     return 0
 
 
@@ -85,7 +97,9 @@ def write_manuals(folder: str) -> int:
     from launcher import manual
 
     made = manual.write(HOME, folder, plain_version())
-    say(f'wrote {count(len(made), "manual page")} to {folder}: man -l {os.path.join(folder, made[0])}')
+    say(
+        f'wrote {count(len(made), "manual page")} to {folder}: man -l {os.path.join(folder, made[0])}'
+    )
     return 0
 
 
@@ -113,9 +127,13 @@ def unproved(store: Store, found: sources.Sources, arguments: list[str]) -> str:
     kept = store.program(found.plain, None, PLAIN)
     path, is_look = (kept[0], False) if kept else built_now(store, found, arguments)
     if is_look:
-        say('running the program as the toolkit compiles it before any proof: nothing of it is proved. ./editor --prove proves it')
+        say(
+            'running the program as the toolkit compiles it before any proof: nothing of it is proved. ./editor --prove proves it'
+        )
     else:
-        say('running a plain Rust build of these sources: nothing of it is proved. ./editor --prove proves it, with the toolkit')
+        say(
+            'running a plain Rust build of these sources: nothing of it is proved. ./editor --prove proves it, with the toolkit'
+        )
     return path
 
 
@@ -132,7 +150,9 @@ def built_now(store: Store, found: sources.Sources, arguments: list[str]) -> tup
     if cargo:
         return plain_build.build(HOME, store, cargo, found.plain, plain_version()), False
     if shutil.which('rt'):
-        say(f'{why}, so the toolkit compiles the program. For a build of half a minute, {plain_build.INSTALL}')
+        say(
+            f'{why}, so the toolkit compiles the program. For a build of half a minute, {plain_build.INSTALL}'
+        )
         return kept_look.build(HOME, store, found.plain), True
     raise Stop(f'{why}, and no Rattle toolkit: {plain_build.INSTALL}', 127)
 
@@ -200,15 +220,21 @@ def proved_now(store, crates, texts, flags):
             return found[0]
         other = store.program(keys.of_sources(texts), None)
         if other:
-            say('there is a program of these sources, proved by {}; the toolkit on the path is another, {}'.format(
-                other[1].get('line'), toolkit.named(kit)))
+            say(
+                'there is a program of these sources, proved by {}; the toolkit on the path is another, {}'.format(
+                    other[1].get('line'), toolkit.named(kit)
+                )
+            )
         return built(store, kit, crates, texts, flags, jobs)
 
 
 def told_of_other(other):
     """Says that another launcher is at work."""
-    say('another ./editor ({}) proves and builds: this one waits for it. Ctrl-C ends this one alone'
-        .format(other or 'of this user'))
+    say(
+        'another ./editor ({}) proves and builds: this one waits for it. Ctrl-C ends this one alone'.format(
+            other or 'of this user'
+        )
+    )
 
 
 def built(store, kit, crates, texts, flags, jobs):
@@ -240,9 +266,17 @@ def compared(path, sources):
         return 0
     same = keys.of_file(path) == release.sha256
     if release.sources and release.sources != sources:
-        say('it isn\'t compared with the released program of commit {}, whose sources are others'.format(release.commit))
+        say(
+            'it isn\'t compared with the released program of commit {}, whose sources are others'.format(
+                release.commit
+            )
+        )
         return 0
-    say('its bytes are {} of the released program of commit {}'.format('those' if same else 'NOT those', release.commit))
+    say(
+        'its bytes are {} of the released program of commit {}'.format(
+            'those' if same else 'NOT those', release.commit
+        )
+    )
     return 0 if same else 1
 
 
@@ -266,13 +300,30 @@ def version_text():
     lines = ['yokeorange ' + version(), 'commit: ' + (build.commit(HOME) or 'unknown')]
     lines.append('toolkit: ' + (toolkit.named(kit) if kit else 'none on the path'))
     if found:
-        lines.append('program: {}, proved from these sources by {}'.format(found[0], found[1].get('line')))
+        lines.append(
+            'program: {}, proved from these sources by {}'.format(found[0], found[1].get('line'))
+        )
         lines.append('sha256: ' + found[1].get('sha256', ''))
     else:
-        lines.append('program: not proved yet from these {}: ./editor --prove does it'.format(count(len(crates), 'crate')))
+        lines.append(
+            'program: not proved yet from these {}: ./editor --prove does it'.format(
+                count(len(crates), 'crate')
+            )
+        )
     if plain:
-        lines.append('without proof: {}, a plain build of these sources by {}'.format(plain[0], plain[1].get('rust')))
-    lines.append('release: ' + ('{}, commit {}'.format(release.version, release.commit) if release and release.sha256 else 'none yet'))
+        lines.append(
+            'without proof: {}, a plain build of these sources by {}'.format(
+                plain[0], plain[1].get('rust')
+            )
+        )
+    lines.append(
+        'release: '
+        + (
+            '{}, commit {}'.format(release.version, release.commit)
+            if release and release.sha256
+            else 'none yet'
+        )
+    )
     return '\n'.join(lines) + '\n'
 
 
@@ -285,5 +336,9 @@ def help_text():
     seconds = plan.seconds_left(list(crates), set(), [])
     largest = max(plan.need(it) for it in crates)
     disk = build.DISK_OF_WORK + build.DISK_OF_LINE * sum(it.lines for it in crates.values())
-    return words.HELP.format(minutes=minutes(seconds), memory=gigabytes(max(largest, min(USUAL_MEMORY, plan.memory))),
-                             disk=gigabytes(disk), log=os.path.join(default_folder(), 'log', 'build.log'))
+    return words.HELP.format(
+        minutes=minutes(seconds),
+        memory=gigabytes(max(largest, min(USUAL_MEMORY, plan.memory))),
+        disk=gigabytes(disk),
+        log=os.path.join(default_folder(), 'log', 'build.log'),
+    )

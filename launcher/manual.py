@@ -14,11 +14,14 @@ from launcher.messages import Stop
 WIDTH = 78
 FENCE = '```'
 ANCHOR = re.compile(r'<a id="[^"]*"></a>')
-MARK = re.compile(r'\*\*(.+?)\*\*|`([^`]+)`|\[((?:`[^`]*`|[^\]`])*)\]\([^)]*\)|(?<![*\w])\*([^*\s][^*]*)\*')
+MARK = re.compile(
+    r'\*\*(.+?)\*\*|`([^`]+)`|\[((?:`[^`]*`|[^\]`])*)\]\([^)]*\)|(?<![*\w])\*([^*\s][^*]*)\*'
+)
 LABELLED = re.compile(r'\*\*([A-Z][a-z, ]+)\.\*\* ?(.*)', re.S)
 
 
 # ---- the pages ----
+
 
 def cells(line):
     """The cells of a table's row: a | that is written \\| or stands in a `word` isn't the end of one."""
@@ -57,11 +60,13 @@ def blocks(lines):
         at += 1
         if line.startswith(FENCE):
             at = lines.index(FENCE, at) + 1
-            yield 'code', lines[first + 1:at - 1]
+            yield 'code', lines[first + 1 : at - 1]
         elif line.startswith('|'):
             while at < len(lines) and lines[at].startswith('|'):
                 at += 1
-            yield 'table', [cells(row) for row in lines[first:at] if not re.fullmatch(r'[|\s:-]+', row)]
+            yield 'table', [
+                cells(row) for row in lines[first:at] if not re.fullmatch(r'[|\s:-]+', row)
+            ]
         elif line.startswith('#'):
             yield 'heading', (line.count('#'), line.lstrip('# '))
         elif line.strip():
@@ -74,10 +79,19 @@ def blocks(lines):
 
 # ---- roff ----
 
+
 def plain(text):
     """Text as roff has it, with nothing in it that roff reads as its own."""
-    text = text.replace('\\', '\\e').replace('-', '\\-').replace("'", '\\(aq').replace('^', '\\(ha').replace('~', '\\(ti')
-    return ''.join(it if it < '\x7f' else '\\[u{:04X}]'.format(ord(it)) for it in text.replace('`', '\\(ga'))
+    text = (
+        text.replace('\\', '\\e')
+        .replace('-', '\\-')
+        .replace("'", '\\(aq')
+        .replace('^', '\\(ha')
+        .replace('~', '\\(ti')
+    )
+    return ''.join(
+        it if it < '\x7f' else '\\[u{:04X}]'.format(ord(it)) for it in text.replace('`', '\\(ga')
+    )
 
 
 def roff(text):
@@ -86,13 +100,15 @@ def roff(text):
     found, at = '', 0
     for mark in MARK.finditer(text):
         bold, word, link, italic = mark.groups()
-        found += plain(text[at:mark.start()])
+        found += plain(text[at : mark.start()])
         if link is not None:
             found += roff(link)
         elif italic is not None:
             found += '\\fI{}\\fR'.format(plain(italic))
         else:
-            found += '\\fB{}\\fR'.format(plain(word) if word else roff(bold).replace('\\fR', '\\fB'))
+            found += '\\fB{}\\fR'.format(
+                plain(word) if word else roff(bold).replace('\\fR', '\\fB')
+            )
         at = mark.end()
     return found + plain(text[at:])
 
@@ -115,8 +131,11 @@ def tagged(tag, text):
 
 def row(heading, parts):
     """A row of a table: the first cell is a tag, and the cells after the second say what they are."""
-    told = [text if at == 0 or name in ('it says', 'meaning') else '{}: {}'.format(name, text)
-            for at, (name, text) in enumerate(zip(heading[1:], parts[1:])) if text]
+    told = [
+        text if at == 0 or name in ('it says', 'meaning') else '{}: {}'.format(name, text)
+        for at, (name, text) in enumerate(zip(heading[1:], parts[1:]))
+        if text
+    ]
     text = '; '.join([*(it.removesuffix('.') for it in told[:-1]), *told[-1:]])
     return tagged(parts[0], text) if parts[0] else '.IP\n' + filled(text)
 
@@ -126,16 +145,24 @@ def written(block):
     kind, held = block
     if kind == 'heading':
         level, text = held
-        return '.SH {}\n'.format(roff(text.upper())) if level <= 2 else '.SS {}\n'.format(roff(text))
+        return (
+            '.SH {}\n'.format(roff(text.upper())) if level <= 2 else '.SS {}\n'.format(roff(text))
+        )
     if kind == 'code':
-        return '.PP\n.RS 4\n.nf\n{}.fi\n.RE\n'.format(''.join(safe(plain(line)) + '\n' for line in held))
+        return '.PP\n.RS 4\n.nf\n{}.fi\n.RE\n'.format(
+            ''.join(safe(plain(line)) + '\n' for line in held)
+        )
     if kind == 'table':
         return ''.join(row(held[0], it) for it in held[1:])
     if kind == 'item':
         mark, text = held
         return '.IP {} 4\n{}'.format(mark, filled(text))
     label = LABELLED.fullmatch(held)
-    return tagged('**{}**'.format(label[1]), label[2]) if label and label[2] else '.PP\n' + filled(label[1] + ':' if label else held)
+    return (
+        tagged('**{}**'.format(label[1]), label[2])
+        if label and label[2]
+        else '.PP\n' + filled(label[1] + ':' if label else held)
+    )
 
 
 def body(found):
@@ -145,6 +172,7 @@ def body(found):
 
 
 # ---- the manual pages ----
+
 
 class Part:
     """What a manual page takes from a section of a page, all of it or blocks of some kinds.
@@ -158,7 +186,11 @@ class Part:
     def text(self, pages):
         """The part in roff."""
         title = [('heading', (2, self.title or self.heading))] if self.title != '' else []
-        found = [it for it in blocks(section(pages[self.page], self.heading)) if not self.kinds or it[0] in self.kinds]
+        found = [
+            it
+            for it in blocks(section(pages[self.page], self.heading))
+            if not self.kinds or it[0] in self.kinds
+        ]
         return body(title + found)
 
 
@@ -207,24 +239,81 @@ COMPANION_RUN = '''.SH SYNOPSIS
 \\fB\\-\\-version\\fR
 '''
 
-COMMANDS, SCRIPTS, REFUSALS, SHEET, COMPANION = 'COMMANDS.md', 'SCRIPTS.md', 'REFUSALS.md', 'CHEATSHEET.md', 'COMPANION.md'
-FAMILIES = ('Files', 'New objects', 'Changes of one object', 'Deletions', 'Ways cut, joined, reversed', 'Some faults', 'Steps', 'Looks',
-            'Settling conflicts', 'Uploads', 'Sessions', 'Meetings')
+COMMANDS, SCRIPTS, REFUSALS, SHEET, COMPANION = (
+    'COMMANDS.md',
+    'SCRIPTS.md',
+    'REFUSALS.md',
+    'CHEATSHEET.md',
+    'COMPANION.md',
+)
+FAMILIES = (
+    'Files',
+    'New objects',
+    'Changes of one object',
+    'Deletions',
+    'Ways cut, joined, reversed',
+    'Some faults',
+    'Steps',
+    'Looks',
+    'Settling conflicts',
+    'Uploads',
+    'Sessions',
+    'Meetings',
+)
 
 # The name and section of each manual page, what it is about, and its parts.
 MANUALS = {
-    ('yokeorange', 1): ('edit OpenStreetMap data by a script, without a screen or a network', [
-        RUN, Part(SCRIPTS, 'The command line', 'Options', ('table', 'item')), Part(SHEET, 'Lines of a script', kinds=('table',)),
-        Part(SCRIPTS, 'The exit status', 'Exit status', ('text',)), Part(REFUSALS, 'Statuses', '', ('table',)), Part(SCRIPTS, 'Limits', kinds=('table',)),
-        EXAMPLE]),
-    ('yokeorange-script', 5): ('scripts of yokeorange: lines, words, replies, groups, the ids of new objects, queries', [
-        Part(SCRIPTS, it) for it in ('Lines', 'Words', 'Replies', 'Steps and groups', 'Ids of new objects', 'Queries')]),
-    ('yokeorange-commands', 5): ('each line of a script of yokeorange', [Part(COMMANDS, '', 'Description'), *(Part(COMMANDS, it) for it in FAMILIES)]),
-    ('yokeorange-refusals', 7): ('refusals and statuses of yokeorange, bad files and bad lines, with ways out', [
-        Part(REFUSALS, '', 'Description'), *(Part(REFUSALS, it) for it in ('Longer ways out', 'Statuses', 'Bad lines of a script'))]),
-    ('yoke', 1): ('keep a folder of OpenStreetMap edits, and send them to a server', [
-        COMPANION_RUN, Part(COMPANION, '', 'Description', ('text',)), Part(COMPANION, 'The way of an edit', kinds=('text',)),
-        Part(COMPANION, 'All verbs', 'Verbs'), Part(COMPANION, 'Exit codes', 'Exit status'), Part(COMPANION, 'The folder of a day')]),
+    ('yokeorange', 1): (
+        'edit OpenStreetMap data by a script, without a screen or a network',
+        [
+            RUN,
+            Part(SCRIPTS, 'The command line', 'Options', ('table', 'item')),
+            Part(SHEET, 'Lines of a script', kinds=('table',)),
+            Part(SCRIPTS, 'The exit status', 'Exit status', ('text',)),
+            Part(REFUSALS, 'Statuses', '', ('table',)),
+            Part(SCRIPTS, 'Limits', kinds=('table',)),
+            EXAMPLE,
+        ],
+    ),
+    ('yokeorange-script', 5): (
+        'scripts of yokeorange: lines, words, replies, groups, the ids of new objects, queries',
+        [
+            Part(SCRIPTS, it)
+            for it in (
+                'Lines',
+                'Words',
+                'Replies',
+                'Steps and groups',
+                'Ids of new objects',
+                'Queries',
+            )
+        ],
+    ),
+    ('yokeorange-commands', 5): (
+        'each line of a script of yokeorange',
+        [Part(COMMANDS, '', 'Description'), *(Part(COMMANDS, it) for it in FAMILIES)],
+    ),
+    ('yokeorange-refusals', 7): (
+        'refusals and statuses of yokeorange, bad files and bad lines, with ways out',
+        [
+            Part(REFUSALS, '', 'Description'),
+            *(
+                Part(REFUSALS, it)
+                for it in ('Longer ways out', 'Statuses', 'Bad lines of a script')
+            ),
+        ],
+    ),
+    ('yoke', 1): (
+        'keep a folder of OpenStreetMap edits, and send them to a server',
+        [
+            COMPANION_RUN,
+            Part(COMPANION, '', 'Description', ('text',)),
+            Part(COMPANION, 'The way of an edit', kinds=('text',)),
+            Part(COMPANION, 'All verbs', 'Verbs'),
+            Part(COMPANION, 'Exit codes', 'Exit status'),
+            Part(COMPANION, 'The folder of a day'),
+        ],
+    ),
 }
 
 
@@ -237,13 +326,20 @@ def made(manual, pages, version):
     """A manual page, from the texts of the pages and the version."""
     name, number = manual
     what, parts = MANUALS[manual]
-    others = ['.BR {} ({})'.format(plain(other), at) for other, at in MANUALS if other != name] + ['.BR osmium (1)']
-    return ''.join([
-        '.\\" Made from the pages of docs/ by ./editor \\-\\-man: change those.\n',
-        '.TH {} {} "" "yokeorange {}" Yokeorange\n'.format(plain(name).upper(), number, plain(version)),
-        NAMES.format(name=plain(name), what=plain(what)),
-        *(part if isinstance(part, str) else part.text(pages) for part in parts),
-        ALSO.format(others=',\n'.join(others).replace('),', ') ,'))])
+    others = ['.BR {} ({})'.format(plain(other), at) for other, at in MANUALS if other != name] + [
+        '.BR osmium (1)'
+    ]
+    return ''.join(
+        [
+            '.\\" Made from the pages of docs/ by ./editor \\-\\-man: change those.\n',
+            '.TH {} {} "" "yokeorange {}" Yokeorange\n'.format(
+                plain(name).upper(), number, plain(version)
+            ),
+            NAMES.format(name=plain(name), what=plain(what)),
+            *(part if isinstance(part, str) else part.text(pages) for part in parts),
+            ALSO.format(others=',\n'.join(others).replace('),', ') ,')),
+        ]
+    )
 
 
 def of(home, version):

@@ -29,7 +29,9 @@ def memory_of(process):
     """The bytes that a process holds, with its part of what it shares with others."""
     try:
         with open('/proc/{}/smaps_rollup'.format(process), encoding='ascii') as file:
-            return 1024 * sum(int(it) for it in re.findall(r'^(?:Pss|SwapPss):\s+(\d+)', file.read(), re.M))
+            return 1024 * sum(
+                int(it) for it in re.findall(r'^(?:Pss|SwapPss):\s+(\d+)', file.read(), re.M)
+            )
     except OSError:
         return 0
 
@@ -78,4 +80,5 @@ class Meter:
     def told(self):
         """What was seen, in a line."""
         return 'all proofs together: {} of memory and {} of disk at the most; the least memory that was free: {}\n'.format(
-            gigabytes(self.memory), gigabytes(self.disk), gigabytes(self.least_free))
+            gigabytes(self.memory), gigabytes(self.disk), gigabytes(self.least_free)
+        )

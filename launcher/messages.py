@@ -42,7 +42,10 @@ def stopped_by(what, signal, jobs, free):
     text += ': out of memory? {} were free when it began'.format(gigabytes(free))
     if jobs > 1:
         return text + '. Close other programs, and run with fewer jobs: JOBS=1 ./editor'
-    return text + ', and nothing else ran beside it: close other programs, or take a machine with more memory'
+    return (
+        text
+        + ', and nothing else ran beside it: close other programs, or take a machine with more memory'
+    )
 
 
 def end_of(path, lines=12):

@@ -24,9 +24,12 @@ LOCK = 'plain-lock'
 PROGRAMS = 'plain-programs'
 EACH_LOOK = 0.05
 # What of the environment could change how the program is built, and not how fast.
-LEFT_OUT = re.compile(r'RUSTFLAGS|CARGO_ENCODED_RUSTFLAGS|CARGO_BUILD_.*|CARGO_PROFILE_.*|CARGO_TARGET_.*')
-INSTALL = ('install cargo, with Rust {}.{} or later: "sudo apt-get install cargo-web rustc-web" on Debian 12, else https://rustup.rs'
-           .format(*OLDEST))
+LEFT_OUT = re.compile(
+    r'RUSTFLAGS|CARGO_ENCODED_RUSTFLAGS|CARGO_BUILD_.*|CARGO_PROFILE_.*|CARGO_TARGET_.*'
+)
+INSTALL = 'install cargo, with Rust {}.{} or later: "sudo apt-get install cargo-web rustc-web" on Debian 12, else https://rustup.rs'.format(
+    *OLDEST
+)
 
 
 @dataclass(frozen=True)
@@ -54,7 +57,13 @@ def find() -> tuple[Cargo | None, str]:
 def answer(words: list[str]) -> str:
     """What a command writes, '' where it fails."""
     try:
-        done = subprocess.run(words, stdin=subprocess.DEVNULL, stdout=subprocess.PIPE, stderr=subprocess.DEVNULL, text=True)
+        done = subprocess.run(
+            words,
+            stdin=subprocess.DEVNULL,
+            stdout=subprocess.PIPE,
+            stderr=subprocess.DEVNULL,
+            text=True,
+        )
     except OSError:
         return ''
     return done.stdout.strip() if not done.returncode else ''
@@ -77,8 +86,10 @@ def told_of_other(other: str) -> None:
 def built(home: str, store: Store, cargo: Cargo, key: str, version: str) -> str:
     """Writes the workspace, builds it and keeps the program: its path."""
     is_first = not os.path.isdir(store.path('plain', 'target'))
-    say(f'building the program as plain Rust with {" ".join(cargo.rust.split()[:2])}'
-        + (': about half a minute, once' if is_first else ''))
+    say(
+        f'building the program as plain Rust with {" ".join(cargo.rust.split()[:2])}'
+        + (': about half a minute, once' if is_first else '')
+    )
     workspace = export(home, store, version)
     log = store.path('plain', 'build.log')
     os.makedirs(store.path('plain', 'tmp'), mode=0o700, exist_ok=True)
@@ -90,7 +101,13 @@ def built(home: str, store: Store, cargo: Cargo, key: str, version: str) -> str:
     shutil.copyfile(program, part)
     os.chmod(part, 0o755)
     example.hold(home, part)
-    record = {'key': key, 'sources': key, 'kind': 'plain', 'rust': cargo.rust, 'sha256': keys.of_file(part)}
+    record = {
+        'key': key,
+        'sources': key,
+        'kind': 'plain',
+        'rust': cargo.rust,
+        'sha256': keys.of_file(part),
+    }
     return store.keep_program(part, record, PROGRAMS)
 
 
@@ -106,8 +123,10 @@ def export(home: str, store: Store, version: str) -> str:
             remove(str(folder))
             workspace.write(pathlib.Path(home), folder, version=version)
     except tokens.Refused as why:
-        raise Stop(f'{why}\nThe export to plain Rust doesn\'t know this form: plain/__init__.py says how to add one. The toolkit\'s\n'
-                   '`rt check` says whether Rattle knows it') from why
+        raise Stop(
+            f'{why}\nThe export to plain Rust doesn\'t know this form: plain/__init__.py says how to add one. The toolkit\'s\n'
+            '`rt check` says whether Rattle knows it'
+        ) from why
     return str(folder)
 
 
@@ -126,10 +145,23 @@ def hold_to_rust(store: Store, cargo: Cargo) -> None:
 
 def called(store: Store, cargo: Cargo, workspace: str, log: str) -> str:
     """Calls cargo: the path of the program that it made."""
-    words = [cargo.path, 'build', '--release', '--locked', '--offline', '--package', 'editor', '--target-dir',
-             store.path('plain', 'target'), '--message-format', 'json-render-diagnostics']
+    words = [
+        cargo.path,
+        'build',
+        '--release',
+        '--locked',
+        '--offline',
+        '--package',
+        'editor',
+        '--target-dir',
+        store.path('plain', 'target'),
+        '--message-format',
+        'json-render-diagnostics',
+    ]
     guard = Guard(store.path('plain', 'tmp'))
-    guard.environment = {name: value for name, value in guard.environment.items() if not LEFT_OUT.fullmatch(name)}
+    guard.environment = {
+        name: value for name, value in guard.environment.items() if not LEFT_OUT.fullmatch(name)
+    }
     try:
         process = guard.start(words, workspace, log)
         while process.poll() is None:
@@ -153,4 +185,8 @@ def executable(line: str) -> str:
         told = json.loads(line)
     except ValueError:
         return ''
-    return str(told.get('executable') or '') if isinstance(told, dict) and told.get('reason') == 'compiler-artifact' else ''
+    return (
+        str(told.get('executable') or '')
+        if isinstance(told, dict) and told.get('reason') == 'compiler-artifact'
+        else ''
+    )

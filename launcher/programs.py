@@ -9,7 +9,9 @@ from launcher import keys
 from launcher.store import NAME
 
 RELEASE = 'RELEASE'
-FIELD = re.compile(r'(version|commit|sha256|sources|toolkit|gate|builds|plain-commit|plain-sha256|plain-static-sha256|plain-sources): (.+)')
+FIELD = re.compile(
+    r'(version|commit|sha256|sources|toolkit|gate|builds|plain-commit|plain-sha256|plain-static-sha256|plain-sources): (.+)'
+)
 HASH = re.compile('[0-9a-f]{64}')
 
 
@@ -31,7 +33,11 @@ class Release:
 
     def proved_text(self) -> str:
         """The lines on the proved program, as the file has them."""
-        return ''.join(f'{name}: {value}\n' for name, value in vars(self).items() if value and not name.startswith('plain_'))
+        return ''.join(
+            f'{name}: {value}\n'
+            for name, value in vars(self).items()
+            if value and not name.startswith('plain_')
+        )
 
     def is_plain(self, sha256: str) -> bool:
         """Whether a hash is that of a released program of which nothing is proved."""
@@ -40,7 +46,11 @@ class Release:
 
 def read_release(text):
     """What a RELEASE says, or None where it names no program. Lines that aren't fields are left out."""
-    found = {it[1].replace('-', '_'): it[2] for it in (FIELD.fullmatch(line.strip()) for line in text.splitlines()) if it}
+    found = {
+        it[1].replace('-', '_'): it[2]
+        for it in (FIELD.fullmatch(line.strip()) for line in text.splitlines())
+        if it
+    }
     release = Release(**found)
     hashes = (release.sha256, release.plain_sha256, release.plain_static_sha256)
     return release if any(HASH.fullmatch(it) for it in hashes) else None
@@ -61,15 +71,25 @@ def beside(home, release):
     if not os.path.isfile(path):
         return None, ''
     if not release:
-        return None, '{} isn\'t used: there is no released program whose hash it could have'.format(path)
+        return None, '{} isn\'t used: there is no released program whose hash it could have'.format(
+            path
+        )
     found = keys.of_file(path)
     if found != release.sha256 and not release.is_plain(found):
-        return None, ('{} isn\'t used: its SHA-256 is {}, and that of the released program {}'
-                      .format(path, found, release.sha256 or release.plain_sha256))
+        return None, (
+            '{} isn\'t used: its SHA-256 is {}, and that of the released program {}'.format(
+                path, found, release.sha256 or release.plain_sha256
+            )
+        )
     if not os.access(path, os.X_OK):
         return None, '{0} is the released program, and may not be run: chmod +x {0}'.format(path)
     if release.is_plain(found):
-        return path, 'running the released plain build of commit {}, of which nothing is proved'.format(release.plain_commit or 'unknown')
+        return (
+            path,
+            'running the released plain build of commit {}, of which nothing is proved'.format(
+                release.plain_commit or 'unknown'
+            ),
+        )
     return path, 'running the released program of commit {}'.format(release.commit or 'unknown')
 
 

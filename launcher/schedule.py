@@ -53,12 +53,19 @@ class Schedule:
         self.crates, self.processors, self.memory = crates, processors, memory
         below = all_below(crates)
         self.lines_below = {name: sum(crates[it].lines for it in below[name]) for name in crates}
-        self.seconds = {name: SECONDS + SECONDS_A_LINE * it.lines + SECONDS_A_LINE_BELOW * self.lines_below[name]
-                        for name, it in crates.items()}
+        self.seconds = {
+            name: SECONDS
+            + SECONDS_A_LINE * it.lines
+            + SECONDS_A_LINE_BELOW * self.lines_below[name]
+            for name, it in crates.items()
+        }
         self.above = {name: sum(name in below[it] for it in crates) for name in crates}
         self.chain = self.chains()
         # Nearly equal chains: first what most crates wait for.
-        self.order = sorted(crates, key=lambda it: (-(self.chain[it] // CLOSE), -self.above[it], -self.chain[it], it))
+        self.order = sorted(
+            crates,
+            key=lambda it: (-(self.chain[it] // CLOSE), -self.above[it], -self.chain[it], it),
+        )
 
     def chains(self):
         """The seconds of the longest chain of proofs that begins with each crate."""
@@ -79,7 +86,9 @@ class Schedule:
         Where the end hangs on the longest chain, the crate that begins it has a second job and needn't wait for a processor,
         since what has time to spare yields to it. A further job costs processor time, so any other crate has one job while
         another is ready and has room in memory."""
-        ready = [it for it in self.order if it in waiting and proved.issuperset(self.crates[it].below)]
+        ready = [
+            it for it in self.order if it in waiting and proved.issuperset(self.crates[it].below)
+        ]
         if any(it.start.name in alone for it in running):
             return None
         for name in ready:

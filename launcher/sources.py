@@ -22,7 +22,7 @@ PARTS = ('src', 'specs', 'proofs')
 # Folders and files besides the crates' on which a program hangs.
 BESIDE = ('launcher', 'plain', 'crates.txt', 'CHANGELOG.md', 'LICENSE')
 # Seconds, in units of the system's times: what is younger may change once more without another time.
-SETTLED = 2 * 10 ** 9
+SETTLED = 2 * 10**9
 MEMO = 'sources'
 MEMOS_KEPT = 8
 
@@ -38,7 +38,9 @@ class Sources:
 def found(home: str, store: Store) -> Sources:
     """The hashes of the sources here, by the memory of the store where nothing changed since."""
     mark, newest = mark_of(home)
-    memo = store.path(MEMO, hashlib.sha256(os.fsencode(os.path.realpath(home))).hexdigest()[:16] + '.json')
+    memo = store.path(
+        MEMO, hashlib.sha256(os.fsencode(os.path.realpath(home))).hexdigest()[:16] + '.json'
+    )
     kept = read_record(memo)
     if kept and kept.get('mark') == mark:
         return Sources(str(kept['proved']), str(kept['plain']))
@@ -51,7 +53,9 @@ def remembered(home: str, store: Store, memo: str, mark: str, newest: int) -> So
     made = hashed(home)
     if os.path.isdir(store.path(MEMO)) and newest < now - SETTLED and mark_of(home)[0] == mark:
         try:
-            write_whole(memo, json.dumps({'mark': mark, 'proved': made.proved, 'plain': made.plain}) + '\n')
+            write_whole(
+                memo, json.dumps({'mark': mark, 'proved': made.proved, 'plain': made.plain}) + '\n'
+            )
             tidy(store)
         except OSError:
             pass  # then they are hashed again
@@ -78,7 +82,11 @@ def mark_of(home: str) -> tuple[str, int]:
     total, newest = hashlib.sha256(), 0
     left = [os.path.join(home, it) for it in reversed(BESIDE)]
     crates = os.path.join(home, 'crates')
-    left += [os.path.join(crates, name, part) for name in sorted(os.listdir(crates), reverse=True) for part in PARTS]
+    left += [
+        os.path.join(crates, name, part)
+        for name in sorted(os.listdir(crates), reverse=True)
+        for part in PARTS
+    ]
     while left:
         path = left.pop()
         try:
@@ -89,7 +97,11 @@ def mark_of(home: str) -> tuple[str, int]:
             continue
         is_folder = it.st_mode & 0o170000 == 0o040000
         # The times of a folder tell of what else was made and removed in it; its names are among those below.
-        said = (path, it.st_mode) if is_folder else (path, it.st_mode, it.st_size, it.st_mtime_ns, it.st_ctime_ns, it.st_ino)
+        said = (
+            (path, it.st_mode)
+            if is_folder
+            else (path, it.st_mode, it.st_size, it.st_mtime_ns, it.st_ctime_ns, it.st_ino)
+        )
         total.update(repr(said).encode('utf-8', 'surrogateescape'))
         if is_folder:
             left += [os.path.join(path, name) for name in sorted(os.listdir(path), reverse=True)]

@@ -92,7 +92,9 @@ class Store:
         """Makes the folder and its parts where they aren't there. `home` is the checkout, in which it may not lie."""
         folder = self.folder
         if os.path.realpath(folder).startswith(os.path.realpath(home) + os.sep):
-            raise Stop('{} lies in the checkout: set XDG_CACHE_HOME to a folder outside it'.format(folder))
+            raise Stop(
+                '{} lies in the checkout: set XDG_CACHE_HOME to a folder outside it'.format(folder)
+            )
         try:
             os.makedirs(os.path.dirname(folder), mode=0o700, exist_ok=True)
             with contextlib.suppress(FileExistsError):
@@ -103,17 +105,33 @@ class Store:
             with tempfile.TemporaryFile(dir=folder):
                 pass
         except OSError as error:
-            raise Stop('{} can\'t be written: {}. XDG_CACHE_HOME names another folder'.format(folder, error.strerror)) from error
+            raise Stop(
+                '{} can\'t be written: {}. XDG_CACHE_HOME names another folder'.format(
+                    folder, error.strerror
+                )
+            ) from error
 
     def hold_to_owner(self):
         """Refuses a folder that another user made or can write to: what lies in it is believed."""
         found = os.lstat(self.folder)
         if not stat.S_ISDIR(found.st_mode):
-            raise Stop('{} is no folder, and what is proved is kept in one of that name'.format(self.folder))
+            raise Stop(
+                '{} is no folder, and what is proved is kept in one of that name'.format(
+                    self.folder
+                )
+            )
         if found.st_uid != os.geteuid():
-            raise Stop('{} belongs to {}, so what lies in it isn\'t believed'.format(self.folder, user_name(found.st_uid)))
+            raise Stop(
+                '{} belongs to {}, so what lies in it isn\'t believed'.format(
+                    self.folder, user_name(found.st_uid)
+                )
+            )
         if found.st_mode & 0o077:
-            raise Stop('{0} is open to other users, so what lies in it isn\'t believed: chmod 700 {0}'.format(self.folder))
+            raise Stop(
+                '{0} is open to other users, so what lies in it isn\'t believed: chmod 700 {0}'.format(
+                    self.folder
+                )
+            )
 
     def path(self, *parts):
         """A path in the folder."""
@@ -178,7 +196,11 @@ class Store:
         if not record or record.get('key') != key or not os.path.isdir(self.rlib(name)):
             return None
         try:
-            return record.get('verdict') if keys.of_folder(self.rlib(name)) == record.get('sum') else None
+            return (
+                record.get('verdict')
+                if keys.of_folder(self.rlib(name)) == record.get('sum')
+                else None
+            )
         except (OSError, Stop):
             return None
 

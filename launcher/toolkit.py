@@ -13,8 +13,17 @@ from launcher.store import read_record, write_whole
 
 PROGRAMS = ('bin/rattle', 'bin/rattle-link', *calls.ARCHIVES)
 PARTS = (*PROGRAMS, 'logic_built', calls.LOGIC, 'rlibs/std.rlib', 'toolchain')
-WORDS = ('--statements', '--logic-built', '--crate-checked', '--jobs', '--extern', '--links', '--antt-project', '--toolchain',
-         '--backend')
+WORDS = (
+    '--statements',
+    '--logic-built',
+    '--crate-checked',
+    '--jobs',
+    '--extern',
+    '--links',
+    '--antt-project',
+    '--toolchain',
+    '--backend',
+)
 MEMO = 'toolkit.json'
 
 
@@ -44,7 +53,9 @@ def logic_wanted(home):
 def answer(words):
     """What a command writes to standard output; '' where it can't be run."""
     try:
-        done = subprocess.run(words, stdin=subprocess.DEVNULL, stdout=subprocess.PIPE, stderr=subprocess.DEVNULL)
+        done = subprocess.run(
+            words, stdin=subprocess.DEVNULL, stdout=subprocess.PIPE, stderr=subprocess.DEVNULL
+        )
     except OSError:
         return ''
     return done.stdout.decode('utf-8', 'replace').strip()
@@ -70,7 +81,11 @@ def find(store):
     rt = os.path.realpath(rt)
     memo = store.path(MEMO)
     kept = read_record(memo)
-    if kept and kept.get('rt') == rt and kept.get('marks') == marks([rt, *read_by(kept.get('folder'))]):
+    if (
+        kept
+        and kept.get('rt') == rt
+        and kept.get('marks') == marks([rt, *read_by(kept.get('folder'))])
+    ):
         return Toolkit(kept['folder'], kept['line'], kept['identity'])
     found = look(rt)
     if os.path.isdir(store.folder):
@@ -89,7 +104,11 @@ def read_by(folder):
 def look(rt):
     """The toolkit of the command `rt`, looked at whole."""
     page = answer([rt, 'doc'])
-    folder = os.path.dirname(os.path.realpath(page)) if os.path.isabs(page) and os.path.isfile(page) else ''
+    folder = (
+        os.path.dirname(os.path.realpath(page))
+        if os.path.isabs(page) and os.path.isfile(page)
+        else ''
+    )
     line = answer([rt, 'version'])
     sums = [keys.of_file(it) if os.path.isfile(it) else '' for it in read_by(folder)]
     return Toolkit(folder, line, keys.of(line, sums or [keys.of_file(rt)]))
@@ -99,10 +118,16 @@ def misfits(toolkit, home):
     """What makes this another toolkit than the one that the launcher's own calls were made for: nothing where it fits."""
     if not toolkit.folder:
         return ['rt doc names no page of it']
-    found = ['it has no {}'.format(it) for it in PARTS if not os.path.exists(os.path.join(toolkit.folder, it))]
+    found = [
+        'it has no {}'.format(it)
+        for it in PARTS
+        if not os.path.exists(os.path.join(toolkit.folder, it))
+    ]
     wanted = logic_wanted(home)
     if wanted and toolkit.logic != wanted:
-        found.append('its logic is {}, and TOOLKIT names {}'.format(toolkit.logic or 'not told', wanted))
+        found.append(
+            'its logic is {}, and TOOLKIT names {}'.format(toolkit.logic or 'not told', wanted)
+        )
     if not found:
         said = answer([os.path.join(toolkit.folder, 'bin', 'rattle'), 'build', '--help'])
         found = ['its rattle build has no {}'.format(it) for it in WORDS if it not in said]
@@ -118,6 +143,10 @@ def demand(toolkit, home):
     """The toolkit, or `Stop` where there is none."""
     if toolkit:
         return toolkit
-    raise Stop('there is no proved program of these sources yet, and what proves and builds it is missing:\n'
-               'there is no command rt, the Rattle toolkit\'s, on the path. {} says which toolkit it is'
-               .format(os.path.join(home, 'docs', 'INSTALL.md')), 127)
+    raise Stop(
+        'there is no proved program of these sources yet, and what proves and builds it is missing:\n'
+        'there is no command rt, the Rattle toolkit\'s, on the path. {} says which toolkit it is'.format(
+            os.path.join(home, 'docs', 'INSTALL.md')
+        ),
+        127,
+    )

@@ -79,14 +79,23 @@ def read(words):
     if words[0] == '--prove' or words[0] in FLAGS:
         other = [it for it in words if it != '--prove' and it not in FLAGS]
         if other or '--prove' not in words:
-            raise Stop('{} goes with --prove and no script: ./editor --help says more'.format(' '.join(words)), 2)
+            raise Stop(
+                '{} goes with --prove and no script: ./editor --help says more'.format(
+                    ' '.join(words)
+                ),
+                2,
+            )
         return Words('prove', [], {FLAGS[it]: True for it in words if it in FLAGS})
     return Words('run', words)
 
 
 def rust_words(words):
     """The folder for the export, and which libraries it takes."""
-    if words and (len(words) == 1 or len(words) == 3 and words[1] == '--crates') and not words[0].startswith('-'):
+    if (
+        words
+        and (len(words) == 1 or len(words) == 3 and words[1] == '--crates')
+        and not words[0].startswith('-')
+    ):
         return [words[0], words[2] if len(words) == 3 else 'stand-in']
     raise Stop('usage: ./editor --rust FOLDER [--crates stand-in|real|vendor=DIR]', 2)
 
@@ -103,13 +112,20 @@ def script_in(words):
             at += 1
         elif not ended and word.startswith('-') and word != '-':
             if word.partition('=')[0] not in LIMITS:
-                raise Stop('there is no option {}: ./editor --help has those that there are'.format(word), 2)
+                raise Stop(
+                    'there is no option {}: ./editor --help has those that there are'.format(word),
+                    2,
+                )
         else:
             names.append(word)
         at += 1
     if len(names) != 1:
-        raise Stop('one script is wanted, and {} named: ./editor --help says more'.format(
-            'none is' if not names else '{} are'.format(len(names))), 2)
+        raise Stop(
+            'one script is wanted, and {} named: ./editor --help says more'.format(
+                'none is' if not names else '{} are'.format(len(names))
+            ),
+            2,
+        )
     return names[0]
 
 

@@ -39,11 +39,13 @@ class Variant:
 
 def copied(name: str, generics: Generics) -> str:
     """The clone of a type that is `Copy`."""
-    return (f'impl{generics.head("Copy")} rattle_std::Clone for {name}{generics.given()} {{\n'
-            '    fn clone(&self) -> Result<Self, rattle_std::alloc::AllocError> {\n'
-            '        Ok(*self)\n'
-            '    }\n'
-            '}')
+    return (
+        f'impl{generics.head("Copy")} rattle_std::Clone for {name}{generics.given()} {{\n'
+        '    fn clone(&self) -> Result<Self, rattle_std::alloc::AllocError> {\n'
+        '        Ok(*self)\n'
+        '    }\n'
+        '}'
+    )
 
 
 PLACE = re.compile(r'\{([^{}]*)\}')
@@ -54,14 +56,16 @@ def shown(name: str, variants: list[Variant]) -> str:
 
     Raises ValueError with what is wrong where a message has a form that isn't known."""
     arms = ''.join(f'            {name}::{arm(it)},\n' for it in variants)
-    return (f'impl ::core::fmt::Display for {name} {{\n'
-            "    fn fmt(&self, f: &mut ::core::fmt::Formatter<'_>) -> ::core::fmt::Result {\n"
-            '        match self {\n'
-            f'{arms}'
-            '        }\n'
-            '    }\n'
-            '}\n\n'
-            f'impl ::std::error::Error for {name} {{}}')
+    return (
+        f'impl ::core::fmt::Display for {name} {{\n'
+        "    fn fmt(&self, f: &mut ::core::fmt::Formatter<'_>) -> ::core::fmt::Result {\n"
+        '        match self {\n'
+        f'{arms}'
+        '        }\n'
+        '    }\n'
+        '}\n\n'
+        f'impl ::std::error::Error for {name} {{}}'
+    )
 
 
 def arm(variant: Variant) -> str:
@@ -72,6 +76,10 @@ def arm(variant: Variant) -> str:
         if not re.fullmatch('[a-z_][a-z0-9_]*', it):
             raise ValueError(f'a message of an error with {{{it}}}: only names of fields are known')
     if names and variant.fields != '{':
-        raise ValueError('a message of an error that names fields, of a variant that has none by name')
-    pattern = {'': '', '(': '(..)', '{': f' {{ {"".join(it + ", " for it in names)}.. }}'}[variant.fields]
+        raise ValueError(
+            'a message of an error that names fields, of a variant that has none by name'
+        )
+    pattern = {'': '', '(': '(..)', '{': f' {{ {"".join(it + ", " for it in names)}.. }}'}[
+        variant.fields
+    ]
     return f'{variant.name}{pattern} => write!(f, {variant.message})'

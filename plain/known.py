@@ -7,22 +7,51 @@ The export refuses everything else. Before a name is added here: read what the t
 # Attributes, by the word they begin with.
 ATTRIBUTES = frozenset({'derive', 'tactic', 'cycle', 'error', 'cfg', 'test'})
 # Names that a derive may have.
-DERIVES = frozenset({'Clone', 'Copy', 'Debug', 'Drop', 'Eq', 'Error', 'Hash', 'Ord', 'PartialEq', 'PartialOrd'})
+DERIVES = frozenset(
+    {'Clone', 'Copy', 'Debug', 'Drop', 'Eq', 'Error', 'Hash', 'Ord', 'PartialEq', 'PartialOrd'}
+)
 # Macros, and how their arguments begin: `in` an allocator, `rt` a handle with a semicolon, or nothing of Rattle's.
 MACROS = {
-    'assert': 'rt', 'assert_eq': 'rt', 'bail': '', 'format': 'in', 'format_args': '', 'matches': '', 'println': 'rt',
-    'unreachable': '', 'vec': 'in', 'write': '',
+    'assert': 'rt',
+    'assert_eq': 'rt',
+    'bail': '',
+    'format': 'in',
+    'format_args': '',
+    'matches': '',
+    'println': 'rt',
+    'unreachable': '',
+    'vec': 'in',
+    'write': '',
 }
 # Words of Rust that the crates don't use, and words of Rattle that code never has: each is refused.
-REFUSED_WORDS = frozenset({
-    'also_owns', 'async', 'await', 'derive_where', 'ensures', 'extern', 'final', 'ghost', 'macro_rules', 'requires', 'static',
-    'union', 'unsafe', 'yield', 'size_of', 'align_of', 'transmute'})
+REFUSED_WORDS = frozenset(
+    {
+        'also_owns',
+        'async',
+        'await',
+        'derive_where',
+        'ensures',
+        'extern',
+        'final',
+        'ghost',
+        'macro_rules',
+        'requires',
+        'static',
+        'union',
+        'unsafe',
+        'yield',
+        'size_of',
+        'align_of',
+        'transmute',
+    }
+)
 
 # Modules that are imported as such, and then named in paths.
 MODULES = frozenset({'std::env', 'std::fmt', 'std::fs', 'std::io', 'std::mem', 'std::slice'})
 
 # Paths, as they are written once imports are put in: types, traits, functions, and what belongs to a type.
-STD = frozenset('''
+STD = frozenset(
+    '''
 std::alloc::AllocError
 std::alloc::AllocFailed
 std::alloc::Global
@@ -77,8 +106,10 @@ std::test::Fail
 std::vec::Vec::from_slice
 std::vec::Vec::new
 std::vec::Vec::with_capacity
-'''.split())
-KIT = frozenset('''
+'''.split()
+)
+KIT = frozenset(
+    '''
 anyhow::Context
 anyhow::Result
 anyhow::bail
@@ -102,21 +133,51 @@ jiff::civil::Date
 jiff::civil::Date::new
 memchr::memchr
 memchr::memchr_iter
-'''.split())
+'''.split()
+)
 # The libraries of the toolkit besides `std`.
 KIT_CRATES = ('anyhow', 'clap', 'indexmap', 'itoa', 'jiff', 'memchr', 'thiserror')
 # Types that are in scope without an import, by their path.
-PRELUDE = {'Box': 'std::boxed::Box', 'String': 'std::string::String', 'Vec': 'std::vec::Vec', 'str': 'std::str',
-           'Option': 'std::option::Option', 'Result': 'std::result::Result'}
-PRIMITIVES = frozenset({'bool', 'char', 'f32', 'f64', 'i8', 'i16', 'i32', 'i64', 'i128', 'isize',
-                        'u8', 'u16', 'u32', 'u64', 'u128', 'usize'})
-OF_PRIMITIVES = frozenset({'char::from_u32', 'i64::from', 'u16::from', 'u32::from', 'u64::MAX', 'u64::from'})
+PRELUDE = {
+    'Box': 'std::boxed::Box',
+    'String': 'std::string::String',
+    'Vec': 'std::vec::Vec',
+    'str': 'std::str',
+    'Option': 'std::option::Option',
+    'Result': 'std::result::Result',
+}
+PRIMITIVES = frozenset(
+    {
+        'bool',
+        'char',
+        'f32',
+        'f64',
+        'i8',
+        'i16',
+        'i32',
+        'i64',
+        'i128',
+        'isize',
+        'u8',
+        'u16',
+        'u32',
+        'u64',
+        'u128',
+        'usize',
+    }
+)
+OF_PRIMITIVES = frozenset(
+    {'char::from_u32', 'i64::from', 'u16::from', 'u32::from', 'u64::MAX', 'u64::from'}
+)
 
 # Traits of the library that the crates implement.
-IMPLEMENTED = frozenset({'Clone', 'From', 'Hash', 'Index', 'Model', 'Ord', 'PartialOrd', 'Write', 'fmt::Display'})
+IMPLEMENTED = frozenset(
+    {'Clone', 'From', 'Hash', 'Index', 'Model', 'Ord', 'PartialOrd', 'Write', 'fmt::Display'}
+)
 
 # Methods of the library. A method that a crate declares is taken from there as it is.
-METHODS = frozenset('''
+METHODS = frozenset(
+    '''
 all alloc allocator and any append arg as_bytes as_mut as_ref as_slice as_str binary_search_by_key
 capacity chars checked_add clear clone cmp collect contains context copied copy_from_slice count
 dedup dedup_by disable_help_flag disable_version_flag encode_utf8 entry enumerate
@@ -127,4 +188,5 @@ open or_insert parse partition_point pop pop_first position pow push put read re
 reserve reserve_exact retain rev saturating_add saturating_mul saturating_sub set sort sort_by
 split_at split_first split_once stderr strip_prefix swap_remove take then to_digit to_vec
 try_get_matches_from unsigned_abs unwrap unwrap_or value_parser wrapping_mul write write_u64 writeln
-'''.split())
+'''.split()
+)

@@ -79,8 +79,11 @@ class Reader:
         self.at = 0
         self.rules: Counter[str] = Counter()
         self.imports: dict[str, str] = {}
-        self.declared = {self.text(at + 1) for at in range(len(self.code))
-                         if self.text(at) in ('mod', 'struct', 'enum', 'trait', 'type')}
+        self.declared = {
+            self.text(at + 1)
+            for at in range(len(self.code))
+            if self.text(at) in ('mod', 'struct', 'enum', 'trait', 'type')
+        }
         for it in self.tokens:
             if '\0' in it.text or it.kind == 'string' and '\n' in it.text:
                 raise Refused(path, it.line, 'a string over several lines, or a byte 0')
@@ -110,7 +113,9 @@ class Reader:
     def expect(self, text: str) -> None:
         """Steps over a token that has to stand here."""
         if self.text(self.at) != text:
-            raise self.refuse(f'`{text}` was expected, and there is `{self.text(self.at)}`', self.at)
+            raise self.refuse(
+                f'`{text}` was expected, and there is `{self.text(self.at)}`', self.at
+            )
         self.at += 1
 
     def name(self) -> str:
@@ -171,10 +176,19 @@ class Reader:
 
     def with_comments(self, first: int) -> int:
         """Where the comment lines begin that stand right above a token."""
-        while first >= 2 and self.tokens[first - 1].kind == 'space' and self.tokens[first - 1].text.count('\n') == 1 \
-                and self.tokens[first - 2].kind == 'line' and not self.tokens[first - 2].text.startswith('//!'):
+        while (
+            first >= 2
+            and self.tokens[first - 1].kind == 'space'
+            and self.tokens[first - 1].text.count('\n') == 1
+            and self.tokens[first - 2].kind == 'line'
+            and not self.tokens[first - 2].text.startswith('//!')
+        ):
             before = self.tokens[first - 3] if first >= 3 else END
-            if before.kind == 'space' and '\n' not in before.text or before.kind not in ('space', 'end'):
+            if (
+                before.kind == 'space'
+                and '\n' not in before.text
+                or before.kind not in ('space', 'end')
+            ):
                 return first  # a remark behind code
             first -= 2
         return first
@@ -207,8 +221,11 @@ class Reader:
             place += 1
         # The comments right above the first item are of that item, unless they speak of the file.
         at = place
-        while at and (self.tokens[at - 1].kind == 'space' and self.tokens[at - 1].text.count('\n') < 2
-                      or self.tokens[at - 1].text.startswith('///')):
+        while at and (
+            self.tokens[at - 1].kind == 'space'
+            and self.tokens[at - 1].text.count('\n') < 2
+            or self.tokens[at - 1].text.startswith('///')
+        ):
             at -= 1
         if any(self.tokens[it].text.startswith('///') for it in range(at, place)):
             place = at
@@ -236,7 +253,12 @@ class Reader:
             if self.text(self.at + 1) != '[':
                 raise self.refuse('`#` that is no attribute', self.at)
             end = self.closing(self.at + 1)
-            it = Attribute(self.text(self.at + 2), [self.text(at) for at in range(self.at + 3, end)], self.at, end)
+            it = Attribute(
+                self.text(self.at + 2),
+                [self.text(at) for at in range(self.at + 3, end)],
+                self.at,
+                end,
+            )
             if it.name not in known.ATTRIBUTES:
                 raise self.refuse(f'the attribute `#[{it.name}]`', self.at)
             if it.name in ('tactic', 'cycle'):
@@ -277,7 +299,13 @@ class Reader:
         elif word == 'impl':
             self.implementation(start)
         else:
-            {'use': self.use, 'mod': self.module, 'trait': self.trait, 'const': self.constant, 'type': self.alias}[word]()
+            {
+                'use': self.use,
+                'mod': self.module,
+                'trait': self.trait,
+                'const': self.constant,
+                'type': self.alias,
+            }[word]()
 
     def no_attributes(self, given: list[Attribute]) -> None:
         """Refuses attributes where none is known."""
@@ -289,7 +317,10 @@ class Reader:
         if self.text(self.at) == 'pub':
             self.at += 1
             if self.text(self.at) == '(':
-                if self.text(self.at + 1) not in ('crate', 'super') or self.text(self.at + 2) != ')':
+                if (
+                    self.text(self.at + 1) not in ('crate', 'super')
+                    or self.text(self.at + 2) != ')'
+                ):
                     raise self.refuse('a form of `pub(..)`', self.at)
                 self.at += 3
 
@@ -298,7 +329,10 @@ class Reader:
         self.at += 1
         if self.text(self.at) == 'use':
             while self.text(self.at) != ';':
-                if self.text(self.at) in ('', 'fn', 'ghost') or self.token(self.at).kind == 'string':
+                if (
+                    self.text(self.at) in ('', 'fn', 'ghost')
+                    or self.token(self.at).kind == 'string'
+                ):
                     raise self.refuse('a ghost import that doesn\'t end', start)
                 self.at += 1
             self.at += 1
@@ -326,9 +360,14 @@ class Reader:
         for at in range(self.at, end):
             if self.token(at).kind in ('char', 'lifetime') or self.text(at) == "'":
                 raise self.refuse('a quote within a term', at)
-            if self.text(at) + self.text(at + 1) in ('--', '{-', '-}') and self.code[at] + 1 == self.code[at + 1]:
+            if (
+                self.text(at) + self.text(at + 1) in ('--', '{-', '-}')
+                and self.code[at] + 1 == self.code[at + 1]
+            ):
                 raise self.refuse('a comment within a term', at)
-        if any(it.kind in ('line', 'block') for it in self.tokens[self.code[self.at]:self.code[end]]):
+        if any(
+            it.kind in ('line', 'block') for it in self.tokens[self.code[self.at] : self.code[end]]
+        ):
             raise self.refuse('a comment within a term', self.at)
         self.at = end + 1
 
@@ -342,10 +381,14 @@ class Reader:
         start, depth = self.at + 1, 0
         for at in range(start, end + 1):
             text = self.text(at)
-            depth += (text in ('(', '[', '<')) - (text in (')', ']') or text == '>' and self.text(at - 1) != '-')
+            depth += (text in ('(', '[', '<')) - (
+                text in (')', ']') or text == '>' and self.text(at - 1) != '-'
+            )
             if at == end or text == ',' and not depth:
                 if at > start:
-                    found.declared.append(tidied(''.join(self.out[self.code[start]:self.code[at]])).strip())
+                    found.declared.append(
+                        tidied(''.join(self.out[self.code[start] : self.code[at]])).strip()
+                    )
                     found.names.append(self.text(start))
                 start = at + 1
         self.at = end + 1
@@ -358,7 +401,13 @@ class Reader:
             text = self.text(at)
             if not text or text in CLOSES or text == ';':
                 raise self.refuse(f'`{text}` where one of {" ".join(ends)} was expected', at)
-            at = self.angle(at) + 1 if text == '<' else self.closing(at) + 1 if text in OPENS else at + 1
+            at = (
+                self.angle(at) + 1
+                if text == '<'
+                else self.closing(at) + 1
+                if text in OPENS
+                else at + 1
+            )
         self.walk(start, at)
         self.at = at
 
@@ -396,14 +445,22 @@ class Reader:
                 raise self.refuse(f'the attribute `#[{it.name}]` before `{word}`', it.start)
             self.derive(it, item)
         if item.variants and not any('Error' in it.words for it in given):
-            raise self.refuse('`#[error(..)]` without a derived Error', given[0].start if given else self.at - 1)
+            raise self.refuse(
+                '`#[error(..)]` without a derived Error', given[0].start if given else self.at - 1
+            )
 
     def until_comma(self, end: int) -> None:
         """Walks through a type up to the next comma before a place, and over it."""
         start = self.at
         while self.at < end and self.text(self.at) != ',':
             text = self.text(self.at)
-            self.at = self.angle(self.at) + 1 if text == '<' else self.closing(self.at) + 1 if text in OPENS else self.at + 1
+            self.at = (
+                self.angle(self.at) + 1
+                if text == '<'
+                else self.closing(self.at) + 1
+                if text in OPENS
+                else self.at + 1
+            )
         self.walk(start, self.at)
         self.at += self.at < end
 
@@ -440,8 +497,14 @@ class Reader:
         elif self.at < end:
             self.expect(',')
         for it in given:
-            if it.name != 'error' or len(it.words) != 3 or self.token(it.start + 4).kind != 'string':
-                raise self.refuse(f'the attribute `#[{it.name}..]` of a variant in this form', it.start)
+            if (
+                it.name != 'error'
+                or len(it.words) != 3
+                or self.token(it.start + 4).kind != 'string'
+            ):
+                raise self.refuse(
+                    f'the attribute `#[{it.name}..]` of a variant in this form', it.start
+                )
             item.variants.append(derives.Variant(name, it.words[1], fields))
             if 'thiserror' not in self.scope.real:
                 self.strike(it.start, it.end, 'derive-error')
@@ -454,7 +517,11 @@ class Reader:
                 raise self.refuse(f'a derive of `{name}`', it.start)
         if ('Copy' in names) != ('Clone' in names):
             raise self.refuse('a derive of one of Clone and Copy alone', it.start)
-        kept = [name for name in names if name != 'Drop' and (name != 'Error' or 'thiserror' in self.scope.real)]
+        kept = [
+            name
+            for name in names
+            if name != 'Drop' and (name != 'Error' or 'thiserror' in self.scope.real)
+        ]
         if 'Drop' in names:
             self.count('derive-drop')
         if 'Copy' in names:
@@ -490,7 +557,7 @@ class Reader:
                 raise self.refuse('a formatter in another form', head)
             self.count('fmt')
             first, last = self.code[head + 1], self.code[close]
-            self.out[first:last + 1] = [FORMATTER] + [''] * (last - first)
+            self.out[first : last + 1] = [FORMATTER] + [''] * (last - first)
         else:
             self.walk(self.at + 1, close)
         self.at = close + 1
@@ -525,13 +592,22 @@ class Reader:
         self.count('test')
         for at in range(self.code[result], self.code[result_end]):
             self.out[at] = ''
-        self.behind(self.at, '\n' + self.indent(self.at) + 'rattle_std::test::run(|rt: HostRuntime| -> Result<(), Fail> {')
+        self.behind(
+            self.at,
+            '\n'
+            + self.indent(self.at)
+            + 'rattle_std::test::run(|rt: HostRuntime| -> Result<(), Fail> {',
+        )
         self.out[self.code[end]] = '})\n' + self.indent(self.at)[:-4] + '}'
 
     def indent(self, at: int) -> str:
         """The space with which the statements of the block that opens at a place are indented."""
         space = self.tokens[self.code[at] + 1]
-        return space.text.rpartition('\n')[2] if space.kind == 'space' and '\n' in space.text else '    '
+        return (
+            space.text.rpartition('\n')[2]
+            if space.kind == 'space' and '\n' in space.text
+            else '    '
+        )
 
     def clauses(self) -> bool:
         """Strikes out the clauses of a function, with the remarks between them. Whether there were any."""
@@ -578,8 +654,17 @@ class Reader:
             name += self.text(at)
         root = name.partition(':')[0]
         full = self.imports.get(root, root)
-        is_library = full.partition(':')[0] in ('std', *known.KIT_CRATES) or root not in self.imports and root not in self.declared
-        if is_library and root not in ('crate', 'self', 'super') and root not in self.scope.libraries and name not in known.IMPLEMENTED:
+        is_library = (
+            full.partition(':')[0] in ('std', *known.KIT_CRATES)
+            or root not in self.imports
+            and root not in self.declared
+        )
+        if (
+            is_library
+            and root not in ('crate', 'self', 'super')
+            and root not in self.scope.libraries
+            and name not in known.IMPLEMENTED
+        ):
             raise self.refuse(f'an impl of `{name}`', head)
         return name
 
@@ -672,8 +757,14 @@ class Reader:
         elif word in known.KIT_CRATES:
             self.hold_to_library(word, root)
             self.replace(root, f'rattle_std::{word}', 'kit-path')
-        elif word not in ('crate', 'self', 'super') and word not in self.scope.libraries and word not in self.declared:
-            raise self.refuse(f'an import of `{word}`, which crates.txt doesn\'t name for this crate', root)
+        elif (
+            word not in ('crate', 'self', 'super')
+            and word not in self.scope.libraries
+            and word not in self.declared
+        ):
+            raise self.refuse(
+                f'an import of `{word}`, which crates.txt doesn\'t name for this crate', root
+            )
         for name, path in leaves:
             if word == 'std' or word in known.KIT_CRATES:
                 self.hold_to_path(path, root)
@@ -714,7 +805,9 @@ class Reader:
     def hold_to_library(self, word: str, at: int) -> None:
         """Refuses a library of the toolkit that crates.txt doesn't name for this crate."""
         if word not in self.scope.libraries:
-            raise self.refuse(f'the library {word}, which crates.txt doesn\'t name for this crate', at)
+            raise self.refuse(
+                f'the library {word}, which crates.txt doesn\'t name for this crate', at
+            )
 
     def hold_to_path(self, path: str, at: int) -> None:
         """Refuses a path of a library that isn't known."""
@@ -741,7 +834,11 @@ class Reader:
 
     def hold_to_range(self, at: int) -> None:
         """Refuses `a..` without an end as a value: as an iterator it ends otherwise in Rattle."""
-        if self.text(at - 1) not in ('(', ',', '[', '{', '.', '|') and self.text(at + 2) in (')', '{', ';'):
+        if self.text(at - 1) not in ('(', ',', '[', '{', '.', '|') and self.text(at + 2) in (
+            ')',
+            '{',
+            ';',
+        ):
             raise self.refuse('a range without an end', at)
 
     def attribute_within(self, at: int) -> int:
@@ -785,7 +882,11 @@ class Reader:
         elif before == ':' and self.text(at - 2) != ':' and after == '+':
             self.strike(at, at + 1, 'drop-bound')
             self.out[self.code[at + 1] + 1] = ''
-        elif before == ':' and self.text(at - 2) != ':' and after in (',', '>', '{', ';', '=', 'where'):
+        elif (
+            before == ':'
+            and self.text(at - 2) != ':'
+            and after in (',', '>', '{', ';', '=', 'where')
+        ):
             self.strike(at - 1, at, 'drop-bound')
         else:
             raise self.refuse('`Drop` that isn\'t a bound', at)
@@ -812,7 +913,12 @@ class Reader:
         if name not in known.MACROS:
             raise self.refuse(f'the macro `{name}!`', at)
         form = known.MACROS[name]
-        if form == 'in' and self.text(first) != 'in' or form == 'rt' and self.text(first + 1) != ';':
+        if (
+            form == 'in'
+            and self.text(first) != 'in'
+            or form == 'rt'
+            and self.text(first + 1) != ';'
+        ):
             raise self.refuse(f'`{name}!` without what it is passed in Rattle', at)
         if form == 'in':
             self.strike(first, first, name)

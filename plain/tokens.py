@@ -14,7 +14,9 @@ TOKEN = re.compile(
     r'|(?P<word>[A-Za-z_][A-Za-z0-9_]*(?![\w]))'
     r'|(?P<number>[0-9][0-9A-Za-z_]*)'
     r'|(?P<sign>[!#$%&()*+,\-./:;<=>?@\[\]^{|}~])'
-    r'|(?P<other>\w+|.)', re.S)
+    r'|(?P<other>\w+|.)',
+    re.S,
+)
 OPENS = {'{': '}', '(': ')', '[': ']'}
 CLOSES = frozenset(OPENS.values())
 

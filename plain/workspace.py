@@ -57,9 +57,16 @@ def choice_of(word: str) -> Choice:
         return Choice(frozenset(VERSIONS))
     folder = word.partition('vendor=')[2]
     if not word.startswith('vendor=') or not os.path.isdir(folder):
-        raise Stop(f'--crates takes stand-in, real or vendor=DIR with a folder that is there, and not {word}', 2)
-    found = {it for it in VERSIONS for path in pathlib.Path(folder).iterdir()
-             if re.fullmatch(it + r'(-\d.*)?', path.name) and (path / 'Cargo.toml').is_file()}
+        raise Stop(
+            f'--crates takes stand-in, real or vendor=DIR with a folder that is there, and not {word}',
+            2,
+        )
+    found = {
+        it
+        for it in VERSIONS
+        for path in pathlib.Path(folder).iterdir()
+        if re.fullmatch(it + r'(-\d.*)?', path.name) and (path / 'Cargo.toml').is_file()
+    }
     return Choice(frozenset(found), os.path.abspath(folder))
 
 
@@ -92,14 +99,19 @@ class Folder:
         except (OSError, ValueError, KeyError, TypeError):
             self.notes = {}
             if path.exists() and (not path.is_dir() or any(path.iterdir())):
-                raise Stop(f'{path} isn\'t empty, and no earlier export wrote it: name another folder', 2) from None
+                raise Stop(
+                    f'{path} isn\'t empty, and no earlier export wrote it: name another folder', 2
+                ) from None
 
     def hold(self) -> None:
         """Refuses a folder in which a file was changed that an export wrote."""
         for name, sum_before in self.before.items():
             path = self.path / name
             if path.is_file() and digest(path.read_bytes()) != sum_before:
-                raise Stop(f'{path} was changed after it was written: move it away, or name another folder', 2)
+                raise Stop(
+                    f'{path} was changed after it was written: move it away, or name another folder',
+                    2,
+                )
 
     def put(self, name: str, text: str) -> None:
         """Writes a file where its text is another, so that cargo builds again only what changed."""
@@ -109,7 +121,9 @@ class Folder:
         if self.before.get(name) == self.made[name] and path.is_file():
             return
         if name not in self.before and path.exists() and path.read_bytes() != data:
-            raise Stop(f'{path} is there, and no export wrote it: move it away, or name another folder', 2)
+            raise Stop(
+                f'{path} is there, and no export wrote it: move it away, or name another folder', 2
+            )
         path.parent.mkdir(parents=True, exist_ok=True)
         part = path.with_name(path.name + '.part')
         part.write_bytes(data)
@@ -151,7 +165,9 @@ def needed(listed: dict[str, tuple[str, ...]]) -> list[str]:
     return [it for it in listed if it in found]
 
 
-def write(top: pathlib.Path, to: pathlib.Path, choice: Choice | None = None, version: str = '0.0.0') -> Export:
+def write(
+    top: pathlib.Path, to: pathlib.Path, choice: Choice | None = None, version: str = '0.0.0'
+) -> Export:
     """Writes the workspace of the repository in `top` into a folder.
 
     Raises `Refused` where a source has a form that isn't known, before anything is written; `Stop` where the folder holds
@@ -160,7 +176,11 @@ def write(top: pathlib.Path, to: pathlib.Path, choice: Choice | None = None, ver
     listed = crates.listed((top / 'crates.txt').read_text(encoding='utf-8'))
     names = needed(listed)
     sources = {name: sorted((top / 'crates' / name / 'src').rglob('*.rt')) for name in names}
-    texts = {path: decoded(path.relative_to(top).as_posix(), path.read_bytes()) for it in sources.values() for path in it}
+    texts = {
+        path: decoded(path.relative_to(top).as_posix(), path.read_bytes())
+        for it in sources.values()
+        for path in it
+    }
     functions = reader.functions_in(texts.values())
     folder = Folder(to)
     folder.hold()
@@ -179,10 +199,19 @@ def write(top: pathlib.Path, to: pathlib.Path, choice: Choice | None = None, ver
                 notes[target], files[target] = kept, None
                 made.lines += int(kept[1])
                 continue
-            written = reader.plain(source, texts[path], scope, path.parent.name == 'src' and path.stem in ('lib', 'main'))
+            written = reader.plain(
+                source,
+                texts[path],
+                scope,
+                path.parent.name == 'src' and path.stem in ('lib', 'main'),
+            )
             made.read += 1
             made.rules += written.rules
-            count = sum(1 for it in written.text.splitlines() if it.strip() and not it.strip().startswith('//'))
+            count = sum(
+                1
+                for it in written.text.splitlines()
+                if it.strip() and not it.strip().startswith('//')
+            )
             made.lines += count
             notes[target], files[target] = [mark, str(count)], written.text
     to.mkdir(parents=True, exist_ok=True)
@@ -202,30 +231,48 @@ def decoded(source: str, data: bytes) -> str:
     try:
         return data.decode('utf-8')
     except UnicodeDecodeError as error:
-        raise Refused(source, data[:error.start].count(b'\n') + 1, 'bytes that are no UTF-8') from None
+        raise Refused(
+            source, data[: error.start].count(b'\n') + 1, 'bytes that are no UTF-8'
+        ) from None
 
 
 # ---- what isn't source of a crate ----
 
-def others(top: pathlib.Path, names: list[str], listed: dict[str, tuple[str, ...]], choice: Choice,
-           version: str) -> dict[str, str]:
+
+def others(
+    top: pathlib.Path,
+    names: list[str],
+    listed: dict[str, tuple[str, ...]],
+    choice: Choice,
+    version: str,
+) -> dict[str, str]:
     """Manifests, the lock, the library, the session cases, the licence and a README, by their places."""
-    found = {'Cargo.toml': workspace_manifest(names), 'LICENSE': (top / 'LICENSE').read_text(encoding='utf-8'),
-             'README.md': readme(choice), '.gitignore': 'target\n'}
+    found = {
+        'Cargo.toml': workspace_manifest(names),
+        'LICENSE': (top / 'LICENSE').read_text(encoding='utf-8'),
+        'README.md': readme(choice),
+        '.gitignore': 'target\n',
+    }
     for name in names:
         found[f'crates/{name}/Cargo.toml'] = manifest(name, below(listed[name], choice), version)
-    found[f'{LIBRARY}/Cargo.toml'] = manifest(LIBRARY, {it: VERSIONS[it] for it in sorted(choice.real - {'thiserror'})}, version)
+    found[f'{LIBRARY}/Cargo.toml'] = manifest(
+        LIBRARY, {it: VERSIONS[it] for it in sorted(choice.real - {'thiserror'})}, version
+    )
     for path in sorted((HERE / 'library' / 'src').glob('*.rs')):
         found[f'{LIBRARY}/src/{path.name}'] = path.read_text(encoding='utf-8')
     for name in VERSIONS:
         if name != 'thiserror':
-            path = HERE / 'library' / ('real' if name in choice.real else 'stand_in') / (name + '.rs')
+            path = (
+                HERE / 'library' / ('real' if name in choice.real else 'stand_in') / (name + '.rs')
+            )
             found[f'{LIBRARY}/src/{name}.rs'] = path.read_text(encoding='utf-8')
     if CASES in names:
         found.update(cases(top / 'crates' / CASES))
     if choice.vendor:
-        found['.cargo/config.toml'] = (MARK + '[source.crates-io]\nreplace-with = "vendored"\n\n[source.vendored]\n'
-                                       f'directory = "{choice.vendor}"\n')
+        found['.cargo/config.toml'] = (
+            MARK + '[source.crates-io]\nreplace-with = "vendored"\n\n[source.vendored]\n'
+            f'directory = "{choice.vendor}"\n'
+        )
     if not choice.real:
         found['Cargo.lock'] = lock(names, listed, version)
     return found
@@ -234,9 +281,14 @@ def others(top: pathlib.Path, names: list[str], listed: dict[str, tuple[str, ...
 def cases(crate: pathlib.Path) -> dict[str, str]:
     """The session cases, what they have to print, and the test that runs them."""
     to = f'crates/{CASES}'
-    found = {f'{to}/data/{it.name}': it.read_text(encoding='utf-8') for it in sorted((crate / 'data').iterdir())}
+    found = {
+        f'{to}/data/{it.name}': it.read_text(encoding='utf-8')
+        for it in sorted((crate / 'data').iterdir())
+    }
     found[f'{to}/expected'] = (crate / 'stdout').read_text(encoding='utf-8')
-    found[f'{to}/tests/session_cases.rs'] = (HERE / 'library' / 'session_cases.rs').read_text(encoding='utf-8')
+    found[f'{to}/tests/session_cases.rs'] = (HERE / 'library' / 'session_cases.rs').read_text(
+        encoding='utf-8'
+    )
     return found
 
 
@@ -254,26 +306,34 @@ def below(libraries: Iterable[str], choice: Choice) -> dict[str, str]:
 def workspace_manifest(names: list[str]) -> str:
     """The manifest of the workspace."""
     members = ''.join(f'    "{it}",\n' for it in [LIBRARY, *(f'crates/{name}' for name in names)])
-    return (f'{MARK}[workspace]\nresolver = "2"\nmembers = [\n{members}]\n\n'
-            '[profile.release]\nopt-level = 3\noverflow-checks = true\ndebug = false\npanic = "abort"\n\n'
-            '[profile.dev]\nopt-level = 1\noverflow-checks = true\n')
+    return (
+        f'{MARK}[workspace]\nresolver = "2"\nmembers = [\n{members}]\n\n'
+        '[profile.release]\nopt-level = 3\noverflow-checks = true\ndebug = false\npanic = "abort"\n\n'
+        '[profile.dev]\nopt-level = 1\noverflow-checks = true\n'
+    )
 
 
 def manifest(name: str, dependencies: dict[str, str], version: str) -> str:
     """The manifest of a crate."""
-    text = (f'{MARK}[package]\nname = "{name}"\nversion = "{version}"\nedition = "{EDITION}"\n'
-            f'rust-version = "{RUST}"\nlicense = "MIT"\npublish = false\n')
+    text = (
+        f'{MARK}[package]\nname = "{name}"\nversion = "{version}"\nedition = "{EDITION}"\n'
+        f'rust-version = "{RUST}"\nlicense = "MIT"\npublish = false\n'
+    )
     if name == PROGRAM:
-        text += ('description = "OpenStreetMap editing by script, without a network (plain build, not proved)"\n'
-                 f'\n[[bin]]\nname = "{NAME}"\npath = "src/main.rs"\n')
+        text += (
+            'description = "OpenStreetMap editing by script, without a network (plain build, not proved)"\n'
+            f'\n[[bin]]\nname = "{NAME}"\npath = "src/main.rs"\n'
+        )
     if dependencies:
-        text += '\n[dependencies]\n' + ''.join(f'{it} = {said}\n' for it, said in dependencies.items())
+        text += '\n[dependencies]\n' + ''.join(
+            f'{it} = {said}\n' for it, said in dependencies.items()
+        )
     return text
 
 
 def lock(names: list[str], listed: dict[str, tuple[str, ...]], version: str) -> str:
     """The lock of a workspace that needs nothing from elsewhere."""
-    text = ('# This file is automatically @generated by Cargo.\n# It is not intended for manual editing.\nversion = 3\n')
+    text = '# This file is automatically @generated by Cargo.\n# It is not intended for manual editing.\nversion = 3\n'
     for name in sorted([LIBRARY, *names]):
         text += f'\n[[package]]\nname = "{name}"\nversion = "{version}"\n'
         needs = sorted(below(listed[name], Choice())) if name != LIBRARY else []
@@ -287,4 +347,6 @@ def readme(choice: Choice) -> str:
     text = (HERE / 'library' / 'WORKSPACE.md').read_text(encoding='utf-8')
     real = ', '.join(sorted(choice.real)) or 'none'
     stand_in = ', '.join(sorted(VERSIONS.keys() - choice.real)) or 'none'
-    return text.format(rust=RUST, real=real, stand_in=stand_in, locked='' if choice.real else ' --locked')
+    return text.format(
+        rust=RUST, real=real, stand_in=stand_in, locked='' if choice.real else ' --locked'
+    )

@@ -62,7 +62,11 @@ class Pace(unittest.TestCase):
 class Needs(unittest.TestCase):
     def lacks(self, memory, disk, swap=0):
         made = some_build(small=100, large=4000)
-        answers = {'free_memory': lambda: memory, 'free_swap': lambda: swap, 'free_disk': lambda folder: disk}
+        answers = {
+            'free_memory': lambda: memory,
+            'free_swap': lambda: swap,
+            'free_disk': lambda folder: disk,
+        }
         with mock.patch.multiple('launcher.machine', **answers):
             return made.lacks()
 

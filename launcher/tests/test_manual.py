@@ -51,15 +51,24 @@ class Pages(unittest.TestCase):
     def test_blocks_come_in_their_order(self):
         kinds = [kind for kind, _ in manual.blocks(manual.section(PAGE, 'One'))]
         self.assertEqual(['heading', 'text', 'text', 'item', 'item', 'code'], kinds)
-        self.assertEqual([('table', [('line', 'what it does'), ('[`tag`](#tag)', 'sets `a|b`')])],
-                         [it for it in manual.blocks(manual.section(PAGE, '')) if it[0] == 'table'])
+        self.assertEqual(
+            [('table', [('line', 'what it does'), ('[`tag`](#tag)', 'sets `a|b`')])],
+            [it for it in manual.blocks(manual.section(PAGE, '')) if it[0] == 'table'],
+        )
 
 
 class Roff(unittest.TestCase):
     def test_texts(self):
-        self.assertEqual('\\fBa\\-b\\fR and \\fBc\\fR and \\fId\\fR and e', manual.roff('`a-b` and **c** and *d* and [e](F.md#g)'))
-        self.assertEqual('\\fBFhighway=*\\fR, \\fBoneway=*\\fR', manual.roff('`Fhighway=*`, `oneway=*`'))
-        self.assertEqual('it\\(aqs \\e, \\(ha, \\(ti, \\(ga, \\[u00E9]', manual.plain('it\'s \\, ^, ~, `, é'))
+        self.assertEqual(
+            '\\fBa\\-b\\fR and \\fBc\\fR and \\fId\\fR and e',
+            manual.roff('`a-b` and **c** and *d* and [e](F.md#g)'),
+        )
+        self.assertEqual(
+            '\\fBFhighway=*\\fR, \\fBoneway=*\\fR', manual.roff('`Fhighway=*`, `oneway=*`')
+        )
+        self.assertEqual(
+            'it\\(aqs \\e, \\(ha, \\(ti, \\(ga, \\[u00E9]', manual.plain('it\'s \\, ^, ~, `, é')
+        )
 
     def test_no_line_of_text_is_a_request(self):
         for text in ('.SH x', "'x"):
@@ -67,12 +76,22 @@ class Roff(unittest.TestCase):
 
     def test_a_section(self):
         made = manual.body(manual.blocks(['## One'] + manual.section(PAGE, 'One')))
-        for lines in ('.SH ONE\n', '.SS tag\n', '.TP\n\\fBForm\\fR\n\\fBtag KEYS T..\\fR\n', 'object; see 9.\n', '.IP \\(bu 4\nan item in two lines\n',
-                      '.IP 1. 4\na number\n', '.nf\n\\&.print\n# not a heading\n.fi\n'):
+        for lines in (
+            '.SH ONE\n',
+            '.SS tag\n',
+            '.TP\n\\fBForm\\fR\n\\fBtag KEYS T..\\fR\n',
+            'object; see 9.\n',
+            '.IP \\(bu 4\nan item in two lines\n',
+            '.IP 1. 4\na number\n',
+            '.nf\n\\&.print\n# not a heading\n.fi\n',
+        ):
             self.assertIn(lines, made)
 
     def test_a_row_names_its_later_columns(self):
-        self.assertEqual('.TP\n\\fBa\\fR\nb; N: 1 to 4\n', manual.row(('option', 'what', 'N', 'without'), ('`a`', 'b', '1 to 4', '')))
+        self.assertEqual(
+            '.TP\n\\fBa\\fR\nb; N: 1 to 4\n',
+            manual.row(('option', 'what', 'N', 'without'), ('`a`', 'b', '1 to 4', '')),
+        )
 
 
 if __name__ == '__main__':

@@ -41,11 +41,22 @@ class Texts(unittest.TestCase):
 
 class Words(unittest.TestCase):
     def test_the_launchers_own(self):
-        for given, action in (([], 'brief'), (['-h'], 'help'), (['--help'], 'help'), (['--version'], 'version'),
-                              (['--prove'], 'prove'), (['--look', 'a'], 'look'), (['a'], 'run'), (['--', '--help'], 'run'),
-                              (['a', '--help'], 'run'), (['--max-file', '7', 'a'], 'run')):
+        for given, action in (
+            ([], 'brief'),
+            (['-h'], 'help'),
+            (['--help'], 'help'),
+            (['--version'], 'version'),
+            (['--prove'], 'prove'),
+            (['--look', 'a'], 'look'),
+            (['a'], 'run'),
+            (['--', '--help'], 'run'),
+            (['a', '--help'], 'run'),
+            (['--max-file', '7', 'a'], 'run'),
+        ):
             self.assertEqual(action, words.read(given).action, given)
-        self.assertEqual({'keeps': True, 'measures': True}, words.read(['--prove', '--measure', '--keep']).flags)
+        self.assertEqual(
+            {'keeps': True, 'measures': True}, words.read(['--prove', '--measure', '--keep']).flags
+        )
         self.assertEqual({'anyway': True}, words.read(['--anyway', '--prove']).flags)
 
     def test_what_goes_with_prove_alone(self):
@@ -54,7 +65,13 @@ class Words(unittest.TestCase):
                 words.read(given)
 
     def test_the_script(self):
-        for given in (['a'], ['--max-objects', '3', 'a'], ['a', '--max-file=3'], ['--', 'a'], ['--max-file', '3', '--', 'a']):
+        for given in (
+            ['a'],
+            ['--max-objects', '3', 'a'],
+            ['a', '--max-file=3'],
+            ['--', 'a'],
+            ['--max-file', '3', '--', 'a'],
+        ):
             self.assertEqual('a', words.script_in(given), given)
         self.assertEqual('-x', words.script_in(['--', '-x']))
         self.assertEqual('-', words.script_in(['-']))
@@ -73,14 +90,27 @@ class Words(unittest.TestCase):
 
 class Looks(unittest.TestCase):
     def test_names_in_a_script(self):
-        script = ('download town.opl B1,2,3,4\n# download no.opl\nimport a%20%b.opl\ntag n1 Tx=y\nconfirm r\nresume s\nserve t\n'
-                  'download town.opl\n')
+        script = (
+            'download town.opl B1,2,3,4\n# download no.opl\nimport a%20%b.opl\ntag n1 Tx=y\nconfirm r\nresume s\nserve t\n'
+            'download town.opl\n'
+        )
         self.assertEqual(['town.opl', 'a b.opl', 'r', 's', 't'], look.names_in(script))
 
     def test_names_that_can_be_given(self):
         for name in ('a', 'a/b', 'a b', '..a', '-'):
             self.assertTrue(look.can_be_given(name), name)
-        for name in ('', '/a', '../a', '..', './a', 'a/../b', 'a=b', 'stdin', 'stdout/a', 'program'):
+        for name in (
+            '',
+            '/a',
+            '../a',
+            '..',
+            './a',
+            'a/../b',
+            'a=b',
+            'stdin',
+            'stdout/a',
+            'program',
+        ):
             self.assertFalse(look.can_be_given(name), name)
 
     def test_a_file_that_is_not_there_is_not_given(self):
@@ -121,14 +151,19 @@ class Toolkits(unittest.TestCase):
         path.chmod(0o755)
 
     def misfits(self, line='kit logic dac8208d650f15bf', folder=None):
-        return toolkit.misfits(toolkit.Toolkit(str(self.kit) if folder is None else folder, line, ''), str(self.home))
+        return toolkit.misfits(
+            toolkit.Toolkit(str(self.kit) if folder is None else folder, line, ''), str(self.home)
+        )
 
     def test_one_that_fits(self):
         self.assertEqual([], self.misfits())
 
     def test_others(self):
         self.assertIn('names no page', self.misfits(folder='')[0])
-        self.assertIn('its logic is 0123, and TOOLKIT names dac8208d650f15bf', self.misfits('kit logic 0123')[0])
+        self.assertIn(
+            'its logic is 0123, and TOOLKIT names dac8208d650f15bf',
+            self.misfits('kit logic 0123')[0],
+        )
         self.assertIn('not told', self.misfits('kit')[0])
         self.rattle('--extern')
         self.assertIn('its rattle build has no --statements', self.misfits())
@@ -145,9 +180,17 @@ class Releases(unittest.TestCase):
         self.home = pathlib.Path(holder.name)
 
     def test_read(self):
-        release = programs.Release('0.1.0', 'c' * 40, 'a' * 64, 'b' * 64, 'a kit', '4 passed, 0 failed', 'two')
+        release = programs.Release(
+            '0.1.0', 'c' * 40, 'a' * 64, 'b' * 64, 'a kit', '4 passed, 0 failed', 'two'
+        )
         self.assertEqual(release, programs.read_release(release.proved_text()))
-        for text in ('', 'commit: x\n', 'sha256: {}\n'.format('a' * 63), 'sha256: {}\n'.format('A' * 64), 'sha256: ' + 'a' * 65):
+        for text in (
+            '',
+            'commit: x\n',
+            'sha256: {}\n'.format('a' * 63),
+            'sha256: {}\n'.format('A' * 64),
+            'sha256: ' + 'a' * 65,
+        ):
             self.assertIsNone(programs.read_release(text), text)
         self.assertIsNone(programs.release_of(str(self.home)))
 
@@ -159,7 +202,10 @@ class Releases(unittest.TestCase):
         release = programs.Release(commit='c', sha256=programs.keys.of_file(str(program)))
         self.assertIn('may not be run', programs.beside(str(self.home), release)[1])
         program.chmod(0o755)
-        self.assertEqual((str(program), 'running the released program of commit c'), programs.beside(str(self.home), release))
+        self.assertEqual(
+            (str(program), 'running the released program of commit c'),
+            programs.beside(str(self.home), release),
+        )
         program.write_text('y')
         self.assertIsNone(programs.beside(str(self.home), release)[0])
 
@@ -169,7 +215,9 @@ class Releases(unittest.TestCase):
         program.chmod(0o755)
         found = programs.keys.of_file(str(program))
         for name in ('plain-sha256', 'plain-static-sha256'):
-            release = programs.read_release('{}: {}\nplain-commit: d\nplain-sources: b\n'.format(name, found))
+            release = programs.read_release(
+                '{}: {}\nplain-commit: d\nplain-sources: b\n'.format(name, found)
+            )
             self.assertTrue(release.is_plain(found))
             path, said = programs.beside(str(self.home), release)
             self.assertEqual(str(program), path)
@@ -189,7 +237,11 @@ class Releases(unittest.TestCase):
 class Machines(unittest.TestCase):
     def test_limits_of_a_control_group(self):
         with tempfile.TemporaryDirectory() as folder:
-            for name, text in (('cpu', '150000 100000\n'), ('max', '2000000000\n'), ('stat', 'anon 500000000\nfile 7\n')):
+            for name, text in (
+                ('cpu', '150000 100000\n'),
+                ('max', '2000000000\n'),
+                ('stat', 'anon 500000000\nfile 7\n'),
+            ):
                 pathlib.Path(folder, name).write_text(text)
             files = {'MEMORY_LIMIT': folder + '/max', 'MEMORY_HELD': folder + '/stat'}
             with mock.patch.multiple(machine, CPU_LIMIT=folder + '/cpu', **files):

@@ -9,20 +9,57 @@ from launcher.schedule import CLOSE, FAVOURED, MOST_JOBS, RATES, Running, Schedu
 TOP = os.path.dirname(os.path.dirname(os.path.dirname(os.path.abspath(__file__))))
 # Seconds of one job that the proofs took on processors of 2.5 GHz with other proofs beside them. Those of editor_laws, job_laws,
 # edit_session and editor are reckoned. A crate that isn't here has the seconds that the schedule reckons.
-KNOWN = {'osm_base': 207, 'osm_outside': 60, 'command_line': 51, 'ref_index': 80, 'renamed_content': 45, 'opl_text': 93,
-         'closure': 40, 'osm_table': 230, 'merge_cases': 75, 'dataset': 290, 'opl_line': 265, 'sample_city': 153,
-         'tool_api': 210, 'map_search': 230, 'opl_file': 150, 'upload_order': 236, 'relation_upkeep': 130, 'merge_tool': 270,
-         'placeholder': 186, 'server_world': 205, 'edit_history': 155, 'way_split': 140, 'download': 176, 'edit_script': 330,
-         'saved_session': 370, 'map_checks': 310, 'many_editors': 405, 'conflict': 255, 'chunking': 85, 'import_tool': 145,
-         'answer_file': 105, 'tools_basic': 167, 'way_combine': 230, 'tools_delete': 329, 'edit_steps': 520,
-         'edit_session': 380, 'editor': 75, 'editor_laws': 220, 'job_laws': 90}
+KNOWN = {
+    'osm_base': 207,
+    'osm_outside': 60,
+    'command_line': 51,
+    'ref_index': 80,
+    'renamed_content': 45,
+    'opl_text': 93,
+    'closure': 40,
+    'osm_table': 230,
+    'merge_cases': 75,
+    'dataset': 290,
+    'opl_line': 265,
+    'sample_city': 153,
+    'tool_api': 210,
+    'map_search': 230,
+    'opl_file': 150,
+    'upload_order': 236,
+    'relation_upkeep': 130,
+    'merge_tool': 270,
+    'placeholder': 186,
+    'server_world': 205,
+    'edit_history': 155,
+    'way_split': 140,
+    'download': 176,
+    'edit_script': 330,
+    'saved_session': 370,
+    'map_checks': 310,
+    'many_editors': 405,
+    'conflict': 255,
+    'chunking': 85,
+    'import_tool': 145,
+    'answer_file': 105,
+    'tools_basic': 167,
+    'way_combine': 230,
+    'tools_delete': 329,
+    'edit_steps': 520,
+    'edit_session': 380,
+    'editor': 75,
+    'editor_laws': 220,
+    'job_laws': 90,
+}
 
 PLENTY = 1e12
 
 
 def crates(**lines_and_below):
     """Crates by name: their lines and what they stand on. Each stands after those below it."""
-    return {name: Crate(name, '', tuple(below), tuple(below), False, lines) for name, (lines, *below) in lines_and_below.items()}
+    return {
+        name: Crate(name, '', tuple(below), tuple(below), False, lines)
+        for name, (lines, *below) in lines_and_below.items()
+    }
 
 
 def tower(height, lines=1000):
@@ -54,8 +91,14 @@ def timed(schedule, seconds):
     waiting, proved, running, clock = list(schedule.crates), set(), [], 0.0
     begun, ended = {}, {}
     while waiting or running:
-        start = schedule.next(waiting, proved, [Running(it.start, left_of(schedule, it.start, clock - begun[it.start.name]))
-                                                for it in running])
+        start = schedule.next(
+            waiting,
+            proved,
+            [
+                Running(it.start, left_of(schedule, it.start, clock - begun[it.start.name]))
+                for it in running
+            ],
+        )
         if start:
             waiting.remove(start.name)
             running.append(Running(start, seconds.get(start.name, schedule.seconds[start.name])))
@@ -89,7 +132,9 @@ class Known(unittest.TestCase):
 
     def test_what_the_top_stands_on_ends_in_time_on_four_processors(self):
         begun, ended = self.times(4)
-        last = max(ended[it] for it in build.needed(TOP)['edit_session'].below if it != 'edit_steps')
+        last = max(
+            ended[it] for it in build.needed(TOP)['edit_session'].below if it != 'edit_steps'
+        )
         self.assertLess(last, ended['edit_steps'] + 0.5)
         self.assertLess(begun['edit_session'], ended['edit_steps'] + 0.5)
         self.assertLess(ended['editor'], 39.0)
@@ -129,22 +174,33 @@ class Jobs(unittest.TestCase):
         self.assertEqual(MOST_JOBS, schedule.next(list(schedule.crates), set(), []).jobs)
 
     def test_the_longest_chain_is_favoured_where_the_end_hangs_on_it(self):
-        schedule = Schedule(crates(low=(100,), a=(100,), b=(100,), c=(100,), d=(100,), top=(9000, 'low')), 4, PLENTY)
+        schedule = Schedule(
+            crates(low=(100,), a=(100,), b=(100,), c=(100,), d=(100,), top=(9000, 'low')), 4, PLENTY
+        )
         waiting, running = list(schedule.crates), []
         for _ in range(3):
             start = schedule.next(waiting, set(), running)
             waiting.remove(start.name)
             running.append(Running(start, schedule.seconds[start.name]))
-        self.assertEqual([('low', FAVOURED)] + [(it, 1) for it in 'ab'], [(it.start.name, it.start.jobs) for it in running])
+        self.assertEqual(
+            [('low', FAVOURED)] + [(it, 1) for it in 'ab'],
+            [(it.start.name, it.start.jobs) for it in running],
+        )
         self.assertIsNone(schedule.next(waiting, set(), running))
 
     def test_jobs_that_run_count_as_processors(self):
-        schedule = Schedule(crates(**{'c{}'.format(at): (1000 + at,) for at in range(40)}), 4, PLENTY)
-        waiting, running = list(schedule.crates)[2:], [Running(Start(it, 2, 0, 1e9, 500.0), 90.0) for it in ('c0', 'c1')]
+        schedule = Schedule(
+            crates(**{'c{}'.format(at): (1000 + at,) for at in range(40)}), 4, PLENTY
+        )
+        waiting, running = list(schedule.crates)[2:], [
+            Running(Start(it, 2, 0, 1e9, 500.0), 90.0) for it in ('c0', 'c1')
+        ]
         self.assertIsNone(schedule.next(waiting, set(), running))
 
     def test_nobody_is_favoured_where_work_is_plenty(self):
-        schedule = Schedule(crates(**{'c{}'.format(at): (1000 + at,) for at in range(40)}), 4, PLENTY)
+        schedule = Schedule(
+            crates(**{'c{}'.format(at): (1000 + at,) for at in range(40)}), 4, PLENTY
+        )
         self.assertEqual(1, schedule.next(list(schedule.crates), set(), []).jobs)
 
     def test_one_processor_one_job(self):
@@ -240,7 +296,11 @@ class Time(unittest.TestCase):
 
     def test_one_processor_takes_the_sum(self):
         schedule = Schedule(tower(4), 1, PLENTY)
-        self.assertAlmostEqual(sum(schedule.seconds.values()), schedule.seconds_left(list(schedule.crates), set(), []), 3)
+        self.assertAlmostEqual(
+            sum(schedule.seconds.values()),
+            schedule.seconds_left(list(schedule.crates), set(), []),
+            3,
+        )
 
     def test_more_processors_take_no_longer_and_no_less_than_the_bounds(self):
         schedule = Schedule(tower(7), 1, PLENTY)
@@ -266,12 +326,17 @@ class Time(unittest.TestCase):
         waiting, proved = list(schedule.crates)[1:], set()
         running = [Running(Start('t0', 1, 0, 1e9, 0.0), 50.0)]
         schedule.seconds_left(waiting, proved, running)
-        self.assertEqual((list(schedule.crates)[1:], set(), 50.0), (waiting, proved, running[0].left))
+        self.assertEqual(
+            (list(schedule.crates)[1:], set(), 50.0), (waiting, proved, running[0].left)
+        )
 
 
 class Below(unittest.TestCase):
     def test_all_below(self):
-        self.assertEqual({'a': set(), 'b': {'a'}, 'c': {'a', 'b'}}, all_below(crates(a=(1,), b=(1, 'a'), c=(1, 'b'))))
+        self.assertEqual(
+            {'a': set(), 'b': {'a'}, 'c': {'a', 'b'}},
+            all_below(crates(a=(1,), b=(1, 'a'), c=(1, 'b'))),
+        )
 
 
 if __name__ == '__main__':

@@ -134,7 +134,12 @@ class Programs(Kept):
     def keep(self, key, sources='sources', toolkit='a kit'):
         part = pathlib.Path(self.store.path('part', 'program'))
         part.write_text(key)
-        record = {'key': key, 'sources': sources, 'toolkit': toolkit, 'sha256': store.keys.of_file(str(part))}
+        record = {
+            'key': key,
+            'sources': sources,
+            'toolkit': toolkit,
+            'sha256': store.keys.of_file(str(part)),
+        }
         return self.store.keep_program(str(part), record)
 
     def test_of_these_sources_by_this_toolkit(self):

@@ -22,9 +22,9 @@ from dataclasses import dataclass
 
 TOP = pathlib.Path(__file__).resolve().parents[2]
 COUNTS = pathlib.Path(__file__).with_suffix('.json')
-OBJECTS = 20_000                # of the town
-EDITS = 400                     # steps that edit an object each
-MORE = 1.05                     # a session may take so many times what was written down
+OBJECTS = 20_000  # of the town
+EDITS = 400  # steps that edit an object each
+MORE = 1.05  # a session may take so many times what was written down
 
 # The steps of each session, over map.opl, next.opl (a twentieth of it is newer) and saved.opl.
 SESSIONS = {
@@ -49,20 +49,29 @@ class Counts:
 
 def compiler() -> str:
     """The version of the compiler that cargo calls."""
-    return subprocess.run(['rustc', '--version'], check=True, capture_output=True,
-                          text=True).stdout.strip()
+    return subprocess.run(
+        ['rustc', '--version'], check=True, capture_output=True, text=True
+    ).stdout.strip()
 
 
 def make(folder: pathlib.Path, program: pathlib.Path) -> dict[str, str]:
     """Writes the files of the sessions, and gives the scripts of all."""
-    town = subprocess.run([sys.executable, str(TOP / 'bench/model/town'), str(OBJECTS)], check=True,
-                          capture_output=True, text=True).stdout
+    town = subprocess.run(
+        [sys.executable, str(TOP / 'bench/model/town'), str(OBJECTS)],
+        check=True,
+        capture_output=True,
+        text=True,
+    ).stdout
     lines = town.splitlines(keepends=True)
     (folder / 'map.opl').write_text(town, encoding='utf-8')
-    newer = [re.sub(r' v(\d+) ', lambda hit: f' v{int(hit[1]) + 1} ', line, count=1)
-             if number % 20 == 0 else line for number, line in enumerate(lines)]
+    newer = [
+        re.sub(r' v(\d+) ', lambda hit: f' v{int(hit[1]) + 1} ', line, count=1)
+        if number % 20 == 0
+        else line
+        for number, line in enumerate(lines)
+    ]
     (folder / 'next.opl').write_text(''.join(newer), encoding='utf-8')
-    keys = [line.split(' ', 1)[0] for line in lines[::len(lines) // EDITS]]
+    keys = [line.split(' ', 1)[0] for line in lines[:: len(lines) // EDITS]]
     edits = ''.join(f'tag {key} Tchecked={number}\n' for number, key in enumerate(keys))
     scripts = {**SESSIONS, 'edit and upload': f'download map.opl\n{edits}upload 10000\n'}
     (folder / 'script').write_text(SESSIONS['download and save'], encoding='utf-8')
@@ -74,10 +83,21 @@ def make(folder: pathlib.Path, program: pathlib.Path) -> dict[str, str]:
 def counted(folder: pathlib.Path, program: pathlib.Path, script: str) -> int:
     """How many instructions the session of a script takes."""
     (folder / 'script').write_text(script, encoding='utf-8')
-    command = ['valgrind', '--tool=callgrind', '--callgrind-out-file=/dev/null', str(program),
-               'script']
-    done = subprocess.run(command, cwd=folder, stdin=subprocess.DEVNULL, stdout=subprocess.DEVNULL,
-                          stderr=subprocess.PIPE, text=True)
+    command = [
+        'valgrind',
+        '--tool=callgrind',
+        '--callgrind-out-file=/dev/null',
+        str(program),
+        'script',
+    ]
+    done = subprocess.run(
+        command,
+        cwd=folder,
+        stdin=subprocess.DEVNULL,
+        stdout=subprocess.DEVNULL,
+        stderr=subprocess.PIPE,
+        text=True,
+    )
     hit = re.search(r'Collected : (\d+)', done.stderr)
     if done.returncode or hit is None:
         sys.exit(f'{script.splitlines()[0]} ..: status {done.returncode}\n{done.stderr}')
@@ -105,13 +125,16 @@ def write(found: Counts) -> None:
 
 def slower(wanted: Counts, found: Counts) -> list[str]:
     """A line for each session that takes more than it may, or that one of the two lacks."""
-    faults = [f'{name}: only in one of the two'
-              for name in sorted(wanted.instructions.keys() ^ found.instructions.keys())]
+    faults = [
+        f'{name}: only in one of the two'
+        for name in sorted(wanted.instructions.keys() ^ found.instructions.keys())
+    ]
     for name in sorted(wanted.instructions.keys() & found.instructions.keys()):
         before, now = wanted.instructions[name], found.instructions[name]
         if now > before * MORE:
-            faults.append(f'{name}: {now:,} instructions, {before:,} before: '
-                          f'{now / before:.2f} times')
+            faults.append(
+                f'{name}: {now:,} instructions, {before:,} before: ' f'{now / before:.2f} times'
+            )
     return faults
 
 
@@ -127,8 +150,9 @@ def table(wanted: Counts | None, found: Counts) -> str:
 
 def main(words: list[str] | None = None) -> int:
     """Counts, and compares or writes down."""
-    parser = argparse.ArgumentParser(description=__doc__,
-                                     formatter_class=argparse.RawDescriptionHelpFormatter)
+    parser = argparse.ArgumentParser(
+        description=__doc__, formatter_class=argparse.RawDescriptionHelpFormatter
+    )
     parser.add_argument('program', type=pathlib.Path)
     parser.add_argument('--write', action='store_true')
     asked = parser.parse_args(words)
@@ -140,8 +164,10 @@ def main(words: list[str] | None = None) -> int:
         return 0
     wanted = read()
     if (compiler(), platform.machine()) != (wanted.compiler, wanted.machine):
-        print(f'The counts are of {wanted.compiler} on {wanted.machine}; this is {compiler()} on '
-              f'{platform.machine()}: nothing compared.')
+        print(
+            f'The counts are of {wanted.compiler} on {wanted.machine}; this is {compiler()} on '
+            f'{platform.machine()}: nothing compared.'
+        )
         return 0
     found = counts_of(program)
     print(table(wanted, found))

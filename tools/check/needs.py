@@ -22,10 +22,14 @@ REGISTRY = '/usr/share/cargo/registry'
 @lru_cache(maxsize=None)
 def modules_of(python: str) -> frozenset[str]:
     """Which of `MODULES` an interpreter has. It has to be 3.11 or later to have any."""
-    code = ('import importlib.util, sys; sys.exit(0) if sys.version_info < (3, 11) else '
-            f'print(*[it for it in {MODULES!r} if importlib.util.find_spec(it)])')
+    code = (
+        'import importlib.util, sys; sys.exit(0) if sys.version_info < (3, 11) else '
+        f'print(*[it for it in {MODULES!r} if importlib.util.find_spec(it)])'
+    )
     try:
-        done = subprocess.run([python, '-c', code], stdin=subprocess.DEVNULL, capture_output=True, text=True)
+        done = subprocess.run(
+            [python, '-c', code], stdin=subprocess.DEVNULL, capture_output=True, text=True
+        )
     except OSError:
         return frozenset()
     return frozenset(done.stdout.split())
@@ -46,7 +50,9 @@ def lacks(need: str) -> str:
     if kind == 'module':
         if name in MODULES:
             return '' if name in modules_of(python()) else f'{python()} has no module {name}'
-        done = subprocess.run([python(), '-c', f'import {name}'], stdin=subprocess.DEVNULL, capture_output=True)
+        done = subprocess.run(
+            [python(), '-c', f'import {name}'], stdin=subprocess.DEVNULL, capture_output=True
+        )
         return '' if not done.returncode else f'{python()} has no module {name}'
     if kind == 'file':
         return '' if (TOP / name).exists() else f'there is no {name}'

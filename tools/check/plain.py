@@ -33,8 +33,17 @@ def cargo(*words: str) -> int:
     """Calls cargo in the workspace of the store."""
     store = Store(default_folder())
     plain_build.export(str(TOP), store, launcher.plain_version())
-    command = ['cargo', *words, '--locked', '--offline', '--target-dir', store.path('plain', 'target')]
-    return subprocess.run(command, cwd=store.path('plain', 'workspace'), stdin=subprocess.DEVNULL).returncode
+    command = [
+        'cargo',
+        *words,
+        '--locked',
+        '--offline',
+        '--target-dir',
+        store.path('plain', 'target'),
+    ]
+    return subprocess.run(
+        command, cwd=store.path('plain', 'workspace'), stdin=subprocess.DEVNULL
+    ).returncode
 
 
 def cases() -> int:
@@ -47,7 +56,9 @@ def cases() -> int:
 
 def held(program: str) -> int:
     """Holds what a runner of the session cases prints to the lines that the proved one prints: the status."""
-    done = subprocess.run([program], cwd=CASES / 'data', stdin=subprocess.DEVNULL, capture_output=True, text=True)
+    done = subprocess.run(
+        [program], cwd=CASES / 'data', stdin=subprocess.DEVNULL, capture_output=True, text=True
+    )
     expected = (CASES / 'stdout').read_text(encoding='utf-8')
     lines, wanted = done.stdout.splitlines(), expected.splitlines()
     for number, (line, other) in enumerate(zip(lines, wanted), 1):
@@ -73,10 +84,24 @@ def real() -> int:
     with tempfile.TemporaryDirectory() as holder:
         folder = pathlib.Path(holder, 'workspace')
         workspace.write(TOP, folder, choice, launcher.plain_version())
-        command = ['cargo', 'build', '--release', '--offline', '--quiet', '--package', 'editor', '--package', 'session_cases']
+        command = [
+            'cargo',
+            'build',
+            '--release',
+            '--offline',
+            '--quiet',
+            '--package',
+            'editor',
+            '--package',
+            'session_cases',
+        ]
         status = subprocess.run(command, cwd=folder, stdin=subprocess.DEVNULL).returncode
         made = folder / 'target' / 'release'
-        return status or held(str(made / 'session_cases')) or calls.main([str(made / 'yokeorange'), sys.argv[2]])
+        return (
+            status
+            or held(str(made / 'session_cases'))
+            or calls.main([str(made / 'yokeorange'), sys.argv[2]])
+        )
 
 
 if __name__ == '__main__':

@@ -102,9 +102,20 @@ class Runner:
         command = [places.get(it, it) for it in step.command]
         log = tempfile.TemporaryFile()
         environment = {**os.environ, 'PYTHONDONTWRITEBYTECODE': '1', **step.environment}
-        environment = {name: value for name, value in environment.items() if value or name not in step.environment}
-        process = subprocess.Popen(command, cwd=TOP / step.folder, stdin=subprocess.DEVNULL, stdout=log, stderr=subprocess.STDOUT,
-                                   env=environment, start_new_session=True)
+        environment = {
+            name: value
+            for name, value in environment.items()
+            if value or name not in step.environment
+        }
+        process = subprocess.Popen(
+            command,
+            cwd=TOP / step.folder,
+            stdin=subprocess.DEVNULL,
+            stdout=log,
+            stderr=subprocess.STDOUT,
+            env=environment,
+            start_new_session=True,
+        )
         self.running.append(Running(step, process, log, time.monotonic()))
 
     def has_ended(self, it: Running) -> bool:
@@ -127,7 +138,11 @@ class Runner:
             self.say(f'ok      {it.step.name} ({seconds:.1f} s)')
             return
         self.counts.failed += 1
-        why = f'stopped after {seconds:.0f} s' if it.process.returncode < 0 else f'status {it.process.returncode}'
+        why = (
+            f'stopped after {seconds:.0f} s'
+            if it.process.returncode < 0
+            else f'status {it.process.returncode}'
+        )
         self.say(f'FAILED  {it.step.name} ({why}, {seconds:.1f} s)')
         for line in text.splitlines()[-LINES:]:
             self.say('    ' + line[:WIDTH])

@@ -23,10 +23,24 @@ def main(words: list[str]) -> int:
     with tempfile.TemporaryDirectory() as holder:
         town = pathlib.Path(holder, 'town.opl')
         with open(town, 'wb') as out:
-            subprocess.run([sys.executable, str(TOP / 'bench/model/town'), str(OBJECTS)], stdout=out, check=True)
+            subprocess.run(
+                [sys.executable, str(TOP / 'bench/model/town'), str(OBJECTS)],
+                stdout=out,
+                check=True,
+            )
         for count, more in ((sessions, ()), (meetings, ('--meetings',))):
             seeds = [str(it) for it in range(1, count + 1)]
-            done = subprocess.run([sys.executable, str(TOP / 'bench/check/compare'), *more, '--program', program, str(town), *seeds])
+            done = subprocess.run(
+                [
+                    sys.executable,
+                    str(TOP / 'bench/check/compare'),
+                    *more,
+                    '--program',
+                    program,
+                    str(town),
+                    *seeds,
+                ]
+            )
             if seeds and done.returncode:
                 return 1
     return 0

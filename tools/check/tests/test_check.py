@@ -25,8 +25,11 @@ class Runs(unittest.TestCase):
         return runner.Runner(every, at_once, out).run(), out.getvalue()
 
     def test_counts(self) -> None:
-        counts, said = self.run_all(Step('good', python('print(1)')), Step('bad', python('print("why"); raise SystemExit(3)')),
-                                    Step('missing', python(''), ('command no-such-command',)))
+        counts, said = self.run_all(
+            Step('good', python('print(1)')),
+            Step('bad', python('print("why"); raise SystemExit(3)')),
+            Step('missing', python(''), ('command no-such-command',)),
+        )
         self.assertEqual('1 passed, 1 failed, 1 skipped', counts.line())
         self.assertIn('ok      good', said)
         self.assertRegex(said, r'FAILED  bad \(status 3, .*\n    why\n')
@@ -34,13 +37,23 @@ class Runs(unittest.TestCase):
 
     def test_the_program_is_handed_on(self) -> None:
         made = Step(BUILD, python('print("said"); print("/the/program")'))
-        counts, said = self.run_all(Step('uses', (*python('import sys; sys.exit(sys.argv[1] != "/the/program")'), PROGRAM), ('program',)), made)
+        counts, said = self.run_all(
+            Step(
+                'uses',
+                (*python('import sys; sys.exit(sys.argv[1] != "/the/program")'), PROGRAM),
+                ('program',),
+            ),
+            made,
+        )
         self.assertEqual('2 passed, 0 failed, 0 skipped', counts.line(), said)
         self.assertLess(said.index(BUILD), said.index('uses'))
 
     def test_without_the_program(self) -> None:
         uses = Step('uses', (*python(''), PROGRAM), ('program',))
-        for made in (Step(BUILD, python('raise SystemExit(1)')), Step(BUILD, python(''), ('command no-such-command',))):
+        for made in (
+            Step(BUILD, python('raise SystemExit(1)')),
+            Step(BUILD, python(''), ('command no-such-command',)),
+        ):
             said = self.run_all(made, uses)[1]
             self.assertIn('skipped uses: it needs the program', said)
 
@@ -64,7 +77,11 @@ class Runs(unittest.TestCase):
             self.assertFalse(mark.exists())
 
     def test_a_variable_that_is_taken_away(self) -> None:
-        step = Step('env', python('import os, sys; sys.exit("YOKE_EDITOR" in os.environ)'), environment={'YOKE_EDITOR': ''})
+        step = Step(
+            'env',
+            python('import os, sys; sys.exit("YOKE_EDITOR" in os.environ)'),
+            environment={'YOKE_EDITOR': ''},
+        )
         with mock.patch.dict('os.environ', {'YOKE_EDITOR': 'x'}):
             self.assertEqual('1 passed, 0 failed, 0 skipped', self.run_all(step)[0].line())
 
@@ -78,8 +95,13 @@ class Command(unittest.TestCase):
 
     def test_the_last_line_and_the_status(self) -> None:
         good, bad = Step('good', python('')), Step('bad', python('raise SystemExit(1)'))
-        self.assertEqual((0, '1 passed, 0 failed, 0 skipped'), (lambda it: (it[0], it[1][-1]))(self.status(good)))
-        self.assertEqual((1, '1 passed, 1 failed, 0 skipped'), (lambda it: (it[0], it[1][-1]))(self.status(good, bad)))
+        self.assertEqual(
+            (0, '1 passed, 0 failed, 0 skipped'), (lambda it: (it[0], it[1][-1]))(self.status(good))
+        )
+        self.assertEqual(
+            (1, '1 passed, 1 failed, 0 skipped'),
+            (lambda it: (it[0], it[1][-1]))(self.status(good, bad)),
+        )
 
     def test_quick_says_what_it_left_out(self) -> None:
         lines = self.status(Step('good', python('')), quick=True)[1]
@@ -87,12 +109,16 @@ class Command(unittest.TestCase):
 
     def test_the_proof_counts(self) -> None:
         for code, wanted in ((0, (1, 0, 0)), (1, (0, 1, 0))):
-            with mock.patch.object(needs, 'lacks', return_value=''), mock.patch('subprocess.run') as run, mock.patch('builtins.print'):
+            with mock.patch.object(needs, 'lacks', return_value=''), mock.patch(
+                'subprocess.run'
+            ) as run, mock.patch('builtins.print'):
                 run.return_value.returncode = code
                 counts = command.prove()
             self.assertEqual((['rt', 'ci'],), run.call_args.args)
             self.assertEqual(wanted, (counts.passed, counts.failed, counts.skipped))
-        with mock.patch.object(needs, 'lacks', return_value='there is no command rt'), mock.patch('builtins.print'):
+        with mock.patch.object(needs, 'lacks', return_value='there is no command rt'), mock.patch(
+            'builtins.print'
+        ):
             self.assertEqual(1, command.prove().skipped)
 
 
@@ -124,11 +150,18 @@ class Table(unittest.TestCase):
         path = 'launcher/tests/test_store.py'
         with mock.patch.object(needs, 'lacks', lambda need: ''):
             self.assertIn('pytest', steps.test_step(path).command)
-        with mock.patch.object(needs, 'lacks', lambda need: 'not there' if need == 'module pytest' else ''):
+        with mock.patch.object(
+            needs, 'lacks', lambda need: 'not there' if need == 'module pytest' else ''
+        ):
             step = steps.test_step(path)
             self.assertEqual(('-m', 'unittest', path), step.command[1:])
             self.assertEqual((), step.needs)
-            for other, wanted in (('test_ledger_batches', True), ('test_table_reader', True), ('test_get', True), ('test_tiles', False)):
+            for other, wanted in (
+                ('test_ledger_batches', True),
+                ('test_table_reader', True),
+                ('test_get', True),
+                ('test_tiles', False),
+            ):
                 step = steps.test_step(f'yoke/tests/{other}.py')
                 self.assertEqual(wanted, 'module hypothesis' in step.needs, other)
 
@@ -140,8 +173,13 @@ class Table(unittest.TestCase):
 
 class Calls(unittest.TestCase):
     def test_each_status_is_met_but_for_what_no_call_can_have(self) -> None:
-        text = (TOP / 'docs' / 'REFUSALS.md').read_text(encoding='utf-8').partition('## Statuses')[2]
-        told = {int(number): words.partition(' N')[0] for number, words in re.findall(r'^\| (\d) \|(?: `editor: ([^`]*)`)? \|', text, re.M)}
+        text = (
+            (TOP / 'docs' / 'REFUSALS.md').read_text(encoding='utf-8').partition('## Statuses')[2]
+        )
+        told = {
+            int(number): words.partition(' N')[0]
+            for number, words in re.findall(r'^\| (\d) \|(?: `editor: ([^`]*)`)? \|', text, re.M)
+        }
         self.assertEqual(set(told) - {6}, set(calls.ERRORS))
         for number, words in calls.ERRORS.items():
             self.assertTrue(words.startswith(told[number].strip()), (number, words, told[number]))
