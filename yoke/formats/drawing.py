@@ -14,6 +14,7 @@ digits is rounded to the nearest.
 A MultiPoint, MultiPolygon or MultiLineString of one part is what the part is. Rings are closed where they aren't, and keep
 their direction and their first corner. A place that stands twice side by side is taken once.
 """
+import contextlib
 import math
 from collections import Counter, defaultdict
 from dataclasses import dataclass, field
@@ -38,6 +39,8 @@ SINGLE = {'MultiPoint': 'Point', 'MultiLineString': 'LineString', 'MultiPolygon'
 Place = Tuple[int, int]
 Shape = Tuple[str, str, Tuple]      # the kind of a geometry, its places, and the tags: what is alike in all of them is the same
 Box = Tuple[int, int, int, int]     # west, south, east, north
+Frame = Tuple[int, ...]             # a box, or a box and a place in it: longitudes and latitudes by turns
+Tags = Tuple[Tuple[str, str], ...]  # sorted
 
 
 @dataclass
@@ -46,7 +49,8 @@ class Drawing:
 
     `within` is the box in which all places lie; `latitude_first` tells that the file has latitudes before longitudes.
     `nodes_there` are the keys of nodes that the session has, by their places; corners there are these nodes. `there` are the
-    keys of objects that the session has, by their `Shape`: what is the same is left out; so is what `near` finds. `known`
+    keys of objects that the session has, by their `Shape`: what is the same is left out; so is what `near` finds, and what
+    `earlier` finds among the features of the file before it. `known`
     says of a feature why it was taken before, or nothing, and `taken_places` why nothing may be drawn at a place. `left` has
     what was left out: where it stands, and why. `notes` counts what else a reader ought to know.
     """
@@ -57,6 +61,7 @@ class Drawing:
     nodes_there: MappingOf[Place, str] = field(default_factory=dict)
     there: MappingOf[Shape, str] = field(default_factory=dict)
     near: Optional['Near'] = None
+    earlier: Optional['Earlier'] = None
     known: Callable[[Feature], str] = lambda feature: ''
     taken_places: MappingOf[Place, str] = field(default_factory=dict)
     read: int = 0
@@ -80,6 +85,7 @@ class Drawing:
                 raise Left(feature.problem)
             before = self.known(feature)
             if before:
+                self._keep_earlier(feature)
                 raise Left(before)
             tags = self.mapping.tags(feature.properties, notes)
             if not tags:
@@ -92,6 +98,13 @@ class Drawing:
             self.notes += notes
             self.tags.append(tags)
 
+    def _keep_earlier(self, feature: Feature) -> None:
+        """Keeps where a feature lies that was taken before: what is the same as it isn't made either."""
+        with contextlib.suppress(Left):
+            tags = self.mapping.tags(feature.properties, Counter())
+            if self.earlier:
+                self.earlier.add(*self._shape(feature), tags, feature.where)
+
     def _add_once(self, feature: Feature, kind: str, shape: Any, tags: Dict[str, str]) -> None:
         same = shape_of(kind, shape, tags)
         if same in self._known:
@@ -102,6 +115,11 @@ class Drawing:
         found = self.near.find(kind, shape, tags) if self.near else None
         if found:
             raise Left('the session has it already, {:.1f} m away, as {}'.format(*found))
+        if self.earlier:
+            double = self.earlier.find(kind, shape, tags)
+            if double:
+                raise Left('it is the same as {1}, {0:.2f} m away'.format(*double))
+            self.earlier.add(kind, shape, tags, feature.where)
         for place in places_in(shape):
             if place in self.taken_places:
                 raise Left(self.taken_places[place])
@@ -320,13 +338,43 @@ class Near:
         if kind not in ('Point', 'Polygon'):
             return None
         box = box_round(list(places_in(shape)))
-        x, y = _cell(box)
-        for cell in ((x + across, y + up) for across in (-1, 0, 1) for up in (-1, 0, 1)):
+        for cell in _cells(box):
             for other, key, theirs in self.cells.get(cell, ()):
-                away = max(map(abs, _metres(box, other)))
+                away = _away(box, other)
                 if away <= NEAR and (key[0] == 'n') == (kind == 'Point') and all(theirs.get(name) == value for name, value in tags.items()):
                     return away, key
         return None
+
+
+class Earlier:
+    """Points and areas of a file by where they lie, with their tags: what has the same tags a metre away is the same.
+
+    Two areas in one box may lie side by side in it, as two triangles, so the middle of their corners has to agree too.
+    """
+
+    def __init__(self) -> None:
+        self.cells: Dict[Tuple[str, Tags, Place], List[Tuple[Frame, str]]] = defaultdict(list)
+
+    def add(self, kind: str, shape: Any, tags: MappingOf[str, str], where: str) -> None:
+        """Adds a feature; `where` says where it stands in the file."""
+        if kind in ('Point', 'Polygon'):
+            frame = _frame(shape)
+            self.cells[kind, tuple(sorted(tags.items())), _cell(frame)].append((frame, where))
+
+    def find(self, kind: str, shape: Any, tags: MappingOf[str, str]) -> Optional[Tuple[float, str]]:
+        """How many metres away a feature with these tags is, a metre at most, and where it stands."""
+        if kind not in ('Point', 'Polygon'):
+            return None
+        frame, same = _frame(shape), tuple(sorted(tags.items()))
+        found = ((_away(frame, other), where) for cell in _cells(frame) for other, where in self.cells.get((kind, same, cell), ()))
+        return min((one for one in found if one[0] <= NEAR), default=None)
+
+
+def _frame(shape: Any) -> Frame:
+    """The sides of the box round a shape, and the middle of its corners."""
+    corners = list(set(places_in(shape)))
+    lons, lats = zip(*corners)
+    return (*box_round(corners), sum(lons) // len(lons), sum(lats) // len(lats))
 
 
 def box_round(places: List[Place]) -> Box:
@@ -335,17 +383,22 @@ def box_round(places: List[Place]) -> Box:
     return min(lons), min(lats), max(lons), max(lats)
 
 
-def _cell(box: Box) -> Place:
+def _cell(box: Frame) -> Place:
     """The cell in which the middle of a box lies: its sides are longer than NEAR up to 85 degrees of latitude."""
     high = int(NEAR / METRES * UNITS) + 1
     return (box[0] + box[2]) // 2 // (12 * high), (box[1] + box[3]) // 2 // high
 
 
-def _metres(box: Box, other: Box) -> Tuple[float, float, float, float]:
-    """How far the sides of two boxes are from each other, west, south, east and north, in metres."""
-    scale = math.cos(math.radians(box[1] / UNITS))
-    west, south, east, north = ((one - two) / UNITS * METRES for one, two in zip(box, other))
-    return west * scale, south, east * scale, north
+def _cells(box: Frame) -> Iterator[Place]:
+    """The cell of a box, and those about it."""
+    x, y = _cell(box)
+    return ((x + across, y + up) for across in (-1, 0, 1) for up in (-1, 0, 1))
+
+
+def _away(box: Frame, other: Frame) -> float:
+    """How far two boxes or frames are from each other, in metres: the most of what their sides are, longitudes and latitudes by turns."""
+    scales = (math.cos(math.radians(box[1] / UNITS)), 1.0)
+    return max(abs(one - two) / UNITS * METRES * scales[at % 2] for at, (one, two) in enumerate(zip(box, other)))
 
 
 def shape_of(kind: str, places, tags: MappingOf[str, str]) -> Shape:

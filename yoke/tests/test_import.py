@@ -137,6 +137,19 @@ class GeoJson(unittest.TestCase):
         self.assertEqual(list(drawn(two).lines()), ['n-1 Tx=1 x1 y1', 'n-2 Tx=2 x1 y1'])
         self.assertEqual(dict(drawn(two).notes), {'points that lie where another node lies, and stay apart': 1})
 
+    def test_what_is_a_metre_away_with_the_same_tags_comes_once(self):
+        rows = 'name,amenity,lon,lat\nNeu,cafe,13.008,52.001009\nNeu,cafe,13.008,52.0010091\nZwei,cafe,13.0085,52.001\nZwei,cafe,13.0085,52.001005\n' \
+               'Zwei,bar,13.0085,52.001005\nZwei,cafe,13.0085,52.00101\nZwei,cafe,13.00852,52.001\n'
+        found = features.read_csv(rows.encode())
+        picture = drawn(found, earlier=drawing.Earlier())
+        self.assertEqual(picture.left, [('line 3', 'it is the same as line 2, 0.01 m away'), ('line 5', 'it is the same as line 4, 0.56 m away')])
+        self.assertEqual(drawn(found).taken, 7)
+        ring = [[13, 52], [13.001, 52], [13.001, 52.001], [13, 52]]
+        moved = [[lon, lat + 0.000001] for lon, lat in ring[1:] + ring[1:2]]
+        beside = [[13, 52], [13.001, 52.001], [13, 52.001], [13, 52]]
+        picture = drawn(features.read_geojson(geojson(*(shape('Polygon', [one]) for one in (ring, moved, beside)))), earlier=drawing.Earlier())
+        self.assertEqual(picture.left, [('feature 2', 'it is the same as feature 1, 0.11 m away')])
+
     def test_corners_that_the_session_has(self):
         picture = drawn(features.read_geojson(geojson(shape('LineString', [[1, 1], [2, 2]]), shape('LineString', [[1, 1], [3, 3]]))), nodes_there={(10 ** 7, 10 ** 7): 'n5'})
         self.assertEqual(list(picture.lines()), ['n-1 T x2 y2', 'n-3 T x3 y3', 'w-2 Ta=b Nn5,n-1', 'w-4 Ta=b Nn5,n-3'])

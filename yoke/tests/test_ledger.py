@@ -95,6 +95,16 @@ class KnownAgain(LedgerTest):
         self.assertIn('features: 6 read, 5 taken, 1 left out', said)
         self.assertRegex(said, 'left out: line 2: the session has it already, 0.3 m away, as n[0-9]+\n')
 
+    def test_a_near_double_in_the_file_comes_neither_at_once_nor_later(self) -> None:
+        self.write('addresses.csv', ADDRESSES + 'Weg,1,13.001001,52.001\n')
+        self.start('one')
+        said = self.of('one', 'import', 'addresses.csv', *COLUMNS, '--anywhere')
+        self.assertIn('left out: line 8: it is the same as line 2, 0.07 m away\n', said)
+        self.do_in('one', 'place n-1 x13.5 y52.5')
+        said = self.of('one', 'import', 'addresses.csv', *COLUMNS, '--anywhere', code=Refused.code)
+        self.assertIn('left out: line 8: it is the same as line 2, 0.07 m away\n', said)
+        self.assertIn('features: 7 read, 7 taken', self.of('one', 'import', 'addresses.csv', *COLUMNS, '--anywhere', '--again'))
+
     def test_by_an_id_in_another_version_of_the_file(self) -> None:
         self.write('a.csv', 'ID,addr:street,lon,lat\nA1,Weg,13.1,52\nA2,Gasse,13.2,52\n')
         self.write('b.csv', 'ID,addr:street,lon,lat\nA0,Allee,13.3,52\nA1,Weg,13.1,52\nA2,Hohe Gasse,13.2,52.0001\n')

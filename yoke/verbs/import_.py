@@ -24,7 +24,8 @@ from yoke.verbs import do
 SUMMARY = 'make new objects of the features of a GeoJSON or CSV file'
 DETAILS = """A feature comes whole or not at all; corners at one place are one node. Each feature that is left out is named with the cause.
 What was imported before is left out, whatever others did to it since: the day's ledger knows it, and so does one that a team
-shares (--ledger). So is what the session has already, with the same tags and within a metre.
+shares (--ledger). So is what the session has already, with the same tags and within a metre, and what is so near an
+earlier feature of the file; --again takes both.
 Without --within the bounds are those of the session's nodes, and on each side a tenth more, 0.01 degree at least; where it
 has no node there are none. docs/TABLES.md has the form of the file of --tags, and of a ledger. Before you import into
 OpenStreetMap: https://wiki.openstreetmap.org/wiki/Import/Guidelines"""
@@ -44,7 +45,7 @@ def add_arguments(parser: argparse.ArgumentParser) -> None:
     parser.add_argument('--lon', metavar='COLUMN', help='the column of the longitude of a CSV')
     parser.add_argument('--lat', metavar='COLUMN', help='the column of the latitude of a CSV')
     parser.add_argument('--features', metavar='N-M', help='only the features N to M of the file, of which the first is 1')
-    parser.add_argument('--again', action='store_true', help='also features that the session or a ledger has already')
+    parser.add_argument('--again', action='store_true', help='also features that the session, a ledger or the file before them has already')
     parser.add_argument('--join', action='store_true', help='corners where the session has a node are that node')
     parser.add_argument('--all', action='store_true', help='do nothing where a feature is left out')
     parser.add_argument('--report', metavar='FILE', help='write what was left out into a file, and not to standard output')
@@ -190,7 +191,7 @@ def draw(arguments: argparse.Namespace, found: table.Table, wanted: List[Feature
     nodes = {**(there if arguments.join else {}), **plan.corners}
     picture = drawing.Drawing(chosen, bounds(arguments, there), arguments.latitude_first, nodes,
                               {} if arguments.again else drawing.shapes_of(found), None if arguments.again else drawing.Near(found),
-                              plan.before, plan.blocked)
+                              None if arguments.again else drawing.Earlier(), plan.before, plan.blocked)
     for feature in wanted:
         picture.add(feature)
     return picture
