@@ -10,6 +10,7 @@ from typing import Dict, List, Mapping, Optional, Sequence, Tuple
 from yoke.conflate.names import Names, plain
 from yoke.conflate.rules import Rules
 from yoke.conflate.shapes import Grid, Thing, metres, overlap
+from yoke.formats.drawing import NEAR
 
 FAR = 10            # times `within` for an id
 SOME = 0.1          # share of an outline below which another outline has nothing to do with it
@@ -48,12 +49,8 @@ def match(rules: Rules, features: Sequence[Thing], things: Sequence[Thing],
     grid = Grid(things, rules.within, lat)
     names = Names(one.tags[key] for one in [*things, *features] for key in rules.like
                   if key in one.tags)
-    by_id: Dict[Tuple[str, str], List[Thing]] = defaultdict(list)
+    by_id = ids_of(rules, things)
     by_key = {thing.name: thing for thing in things}
-    for thing in things:
-        for key in rules.id:
-            if key in thing.tags:
-                by_id[key, plain(thing.tags[key])].append(thing)
     found: List[Found] = []
     wanted: Dict[str, List[Found]] = defaultdict(list)
     for feature in features:
@@ -68,6 +65,17 @@ def match(rules: Rules, features: Sequence[Thing], things: Sequence[Thing],
         found.append(one)
     for one in found:
         decide(rules, one, wanted)
+    find_doubles(rules, found, names, lat)
+    return found
+
+
+def ids_of(rules: Rules, things: Sequence[Thing]) -> Dict[Tuple[str, str], List[Thing]]:
+    """Things by the keys that the rules call ids, and their values."""
+    found: Dict[Tuple[str, str], List[Thing]] = defaultdict(list)
+    for thing in things:
+        for key in rules.id:
+            if key in thing.tags:
+                found[key, plain(thing.tags[key])].append(thing)
     return found
 
 
@@ -137,8 +145,7 @@ def judged_by(rules: Rules, feature: Thing, thing: Thing, far: float, names: Nam
               ) -> Optional[Tuple[float, str]]:
     """The score of a feature and an object that may be the same."""
     tags, other = feature.tags, thing.tags
-    likes = [names.alike(tags[one], other[another]) for one in rules.like if one in tags
-             for another in rules.like if another in other and (one == another or one not in other)]
+    likes = likenesses(rules, tags, other, names)
     alike = max(likes, default=0.0)
     parts = [(0.35, place)]
     if likes:
@@ -167,6 +174,57 @@ def judged_by(rules: Rules, feature: Thing, thing: Thing, far: float, names: Nam
     elif shared is not None and feature.is_area and not likes:
         total = max(total, rules.least)     # outlines without names agree by as much as the rule wants
     return total, ' '.join(reasons)
+
+
+def likenesses(rules: Rules, tags: Mapping[str, str], other: Mapping[str, str], names: Names
+               ) -> List[float]:
+    """How alike the names of two are; empty where one has none."""
+    return [names.alike(tags[one], other[another]) for one in rules.like if one in tags
+            for another in rules.like if another in other and (one == another or one not in other)]
+
+
+def find_doubles(rules: Rules, found: Sequence[Found], names: Names, lat: float) -> None:
+    """New features that another feature of the file may be are ambiguous: both would be made."""
+    features = [one.feature for one in found if one.kind in ('new', 'ambiguous')]
+    grid, by_id = Grid(features, rules.within, lat), ids_of(rules, features)
+    for one in found:
+        if one.kind == 'new':
+            near = [other for other in candidates(rules, one.feature, grid, by_id, names)
+                    if is_double(rules, one.feature, other, names)]
+            named = {other.thing.name for other in near} | {one.feature.name}
+            near += [Candidate(1.0, metres(one.feature.middle, other), other, 'the same tags')
+                     for other in grid.near(one.feature.middle)
+                     if other.name not in named and has_same_tags(one.feature, other)]
+            if near:
+                one.kind, one.candidates = 'ambiguous', near
+                one.why = f'{near[0].thing.name} of the file is as like'
+
+
+def is_double(rules: Rules, feature: Thing, other: Candidate, names: Names) -> bool:
+    """Whether a feature and another one of the file are the same. A kind and a place aren't enough
+    for that, nor an address, as they are for an object: trees stand side by side, and shops in one
+    house. Lines of one name are often parts of one road."""
+    tags, theirs = feature.tags, other.thing.tags
+    if other.thing is feature or other.score < rules.least:
+        return False
+    if any(key in tags and key in theirs for key in rules.id):
+        return True
+    if is_line(feature) or is_line(other.thing):
+        return False
+    likes = likenesses(rules, tags, theirs, names)
+    return max(likes, default=0.0) >= rules.unlike if likes else \
+        feature.is_area and other.thing.is_area and tags == theirs
+
+
+def is_line(thing: Thing) -> bool:
+    """Whether it is neither a point nor an outline."""
+    return len(thing.path) > 1 and not thing.is_area
+
+
+def has_same_tags(feature: Thing, other: Thing) -> bool:
+    """Whether two points with the same tags are so near that they are one."""
+    return len(feature.path) == len(other.path) == 1 and feature.tags == other.tags and \
+        metres(feature.middle, other) <= NEAR
 
 
 def decide(rules: Rules, one: Found, wanted: Mapping[str, List[Found]]) -> None:

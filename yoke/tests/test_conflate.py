@@ -117,6 +117,28 @@ class Verb(ConflateTest):
         self.assertEqual({'ambiguous': 2}, self.kinds())
         self.assertEqual([], self.script())
 
+    def test_two_features_that_are_the_same_and_not_there(self):
+        self.conflate('13.008,52.001009,cafe,Café Neu,,\n13.008,52.0010091,cafe,Café Neu,,\n'
+                      '13.0085,52.001,cafe,Café Zwei,,\n13.0085,52.001005,cafe,CAFE ZWEI,6,\n'
+                      '13.0085,52.001,cafe,Dritte Stube,,\n')
+        self.assertEqual({'ambiguous': 4, 'new': 1}, self.kinds())
+        self.assertEqual([('line 2', 'line 3'), ('line 3', 'line 2'), ('line 4', 'line 5'), ('line 5', 'line 4')],
+                         [(row['feature'], row['candidate']) for row in self.rows()])
+        self.assertEqual('line 3 of the file is as like', self.rows()[0]['why'])
+        self.write('d.csv', 'feature,decision\nline 2,new\nline 3,skip\nline 4,new\nline 5,new\n')
+        self.assertEqual(0, self.yoke('conflate', 'in.csv', '--rules', 'c.rules', '--to', 'c', *WORDS, '--decided', 'd.csv'), self.err)
+        self.assertEqual({'new': 4, 'skip': 1}, self.kinds())
+
+    def test_a_kind_and_a_place_make_no_doubles_in_a_file(self):
+        self.write('c.rules', RULES + 'equal addr:street\n')
+        trees = [f'{13.012 + at / 20000:.7f},52.001,bench,,,\n' for at in range(9)]
+        self.conflate(''.join(trees))
+        self.assertEqual({'new': 9}, self.kinds())
+        self.conflate(trees[0] + trees[0].replace('52.001', '52.001005') + trees[8])
+        self.assertEqual({'ambiguous': 2, 'new': 1}, self.kinds())
+        self.conflate('13.012,52.001,bakery,Alt,,R1\n13.0121,52.0011,bakery,Anders,,R1\n')
+        self.assertEqual({'ambiguous': 2}, self.kinds(), 'one id')
+
     def test_decisions(self):
         text = '13.00101,52.00101,bakery,Bäckerei Zimmermann,5,\n'
         for how, kinds in (('n1', {'update': 1}), ('new', {'new': 1}), ('skip', {'skip': 1})):
