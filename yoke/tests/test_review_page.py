@@ -10,6 +10,7 @@ import time
 import unittest
 import zlib
 from typing import Any
+from unittest import mock
 
 from yoke import opl
 from yoke.review.reviewing import Questions, Review
@@ -174,6 +175,27 @@ class Keyboard(PageTest):
         self.page.press('2', 'm', 'r')
         self.counted('2 accepted, 1 rejected, 0 left of 3')
         self.assertEqual({'feature 0': 'w6', 'feature 1': 'new', 'feature 2': 'skip'}, self.kept())
+
+    def test_the_count_waits_for_the_disk(self) -> None:
+        self.open('tag n8 Ta=b', 'tag w5 Ta=b')
+        none = '0 accepted, 0 rejected, 2 left of 2'
+        self.counted(none)
+        asked, held, decide = threading.Event(), threading.Event(), self.one.decisions.decide
+
+        def slow(pairs: Any) -> None:
+            asked.set()
+            held.wait(10)
+            decide(pairs)
+
+        self.addCleanup(held.set)
+        with mock.patch.object(self.one.decisions, 'decide', slow):
+            self.page.press('a')
+            self.assertTrue(asked.wait(5), 'the page decides nothing')
+            self.assertEqual(none, self.page.js('return document.getElementById("count").textContent'))
+            self.assertEqual({}, self.kept())
+            held.set()
+            self.counted('1 accepted, 0 rejected, 1 left of 2')
+        self.assertEqual({'n8': 'accepted'}, self.kept())
 
     def test_the_map(self) -> None:
         self.open('tag n8 Ta=b', 'tag w5 Ta=b')

@@ -9,6 +9,7 @@ import { detail, setUp as setUpDetail } from './detail.js';
 
 const past = [];                        // decisions to take back: lists of [key, how]
 let queue = Promise.resolve();          // calls one after the other: the last decision on an item is the one that counts
+let waiting = 0;                        // calls of the queue that the server hasn't answered
 let hasKeys = true;                     // whether single keys decide
 
 // ---- start ----
@@ -104,6 +105,7 @@ function next() {       // the next one that isn't decided, else the one that co
 function decide(pairs, isBack) {
   if (!pairs.length) return queue;
   const before = pairs.map(([key]) => [key, state.how.get(key) || 'undecided']);
+  waiting++;
   take(pairs); seen(); detail();
   queue = queue.then(async () => {
     try {
@@ -116,6 +118,7 @@ function decide(pairs, isBack) {
       take(before);
       say('This decision is not kept', fault.message);
     }
+    waiting--;
     seen(); detail();
   });
   return queue;
@@ -158,7 +161,9 @@ function answerAll(how) {
 
 function back() { const before = past.pop(); if (before) decide(before, true); }
 
+// Counts what is decided, when all of it is on the disk: while the server is asked, the count stays as it was.
 function progress() {
+  if (waiting) return;
   const counts = { accepted: 0, rejected: 0, undecided: 0 };
   for (const item of state.all) counts[stateOf(item)]++;
   const part = name => 100 * counts[name] / Math.max(1, state.all.length) + '%', bar = $('bar'), text = counts.accepted + ' accepted, ' + counts.rejected + ' rejected, ' + counts.undecided + ' left of ' + state.all.length;
