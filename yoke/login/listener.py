@@ -56,10 +56,14 @@ class Listener:
         self._http.server_close()
         self._thread.join()
 
-    def wait(self, request: oauth.Request, seconds: float) -> str:
-        """The code of the answer to a request. Refused if the answer is a refusal, NoAnswer if none
-        comes in time."""
+    def expect(self, request: oauth.Request) -> None:
+        """From now on the answer to this request counts. It is said before a browser opens the
+        request's address: an answer that came earlier would be refused as that of another login."""
         self._request = request
+
+    def wait(self, seconds: float) -> str:
+        """The code of the answer to the request that is expected. Refused if the answer is a
+        refusal, NoAnswer if none comes in time."""
         if not self._came.wait(seconds):
             raise NoAnswer(f'nobody logged in within {seconds:.0f} s: begin again, or use '
                            '--no-browser if the browser is on another machine')

@@ -201,6 +201,16 @@ class Flow(LoginTest):
         states = {urllib.parse.parse_qs(address)['state'][0] for address in self.browser.opened}
         self.assertEqual((2, 2), (len(seen), len(states)))
 
+    def test_a_browser_that_has_answered_before_the_login_waits(self):
+        class Quick(Browser):
+            def open(self, address):
+                super().open(address)
+                self.answered()
+                return True
+        with short_wait(1):
+            self.assertEqual(0, self.login(browser=Quick()), self.err)
+        self.assertEqual([200], [answer[0] for answer in self.browser.answers])
+
     def test_a_second_login_is_refused(self):
         self.login()
         self.assertEqual(1, self.login())
@@ -309,10 +319,10 @@ class Refusals(LoginTest):
     def test_the_first_answer_counts(self):
         with listener.Listener() as loopback:
             request = oauth.Request(oauth.Endpoints('i', 'a', 't'), 'c', loopback.redirect, 's')
-            loopback._request = request
+            loopback.expect(request)
             for code in ('first', 'second'):
                 call('GET', f'{loopback.redirect}?code={code}&state={request.state}')
-            self.assertEqual('first', loopback.wait(request, 1))
+            self.assertEqual('first', loopback.wait(1))
 
     def test_a_code_that_was_changed_on_the_way(self):
         self.assertEqual(6, self.login(browser=Browser(
@@ -469,7 +479,7 @@ ORIGINAL_POST = oauth.web.post_form
 def short_wait(seconds):
     """A login that waits so long for the browser."""
     return mock.patch('yoke.login.listener.Listener.wait', autospec=True,
-                      side_effect=lambda one, request, _: ORIGINAL_WAIT(one, request, seconds))
+                      side_effect=lambda one, _: ORIGINAL_WAIT(one, seconds))
 
 
 def quick(address, fields, headers=types.MappingProxyType({})):
@@ -657,8 +667,9 @@ class Parts(FolderTest):
     def test_the_listener_stops(self):
         with listener.Listener() as loopback:
             request = oauth.Request(oauth.Endpoints('i', 'a', 't'), 'c', loopback.redirect, 's')
+            loopback.expect(request)
             with self.assertRaises(NoAnswer):
-                loopback.wait(request, 0.05)
+                loopback.wait(0.05)
             port = loopback.port
         with self.assertRaises(OSError):
             call('GET', f'http://127.0.0.1:{port}/')
@@ -666,10 +677,11 @@ class Parts(FolderTest):
     def test_a_connection_that_says_nothing_holds_nobody_up(self):
         with listener.Listener() as loopback:
             request = oauth.Request(oauth.Endpoints('i', 'a', 't'), 'c', loopback.redirect, 's')
+            loopback.expect(request)
             with socket.create_connection(('127.0.0.1', loopback.port)):
                 threading.Timer(0.05, lambda: call(
                     'GET', f'{loopback.redirect}?code=abc&state={request.state}')).start()
-                self.assertEqual('abc', loopback.wait(request, 5))
+                self.assertEqual('abc', loopback.wait(5))
 
     def test_ends(self):
         for seconds in (None, 'x', True, 0, -5, 1.5):

@@ -84,9 +84,10 @@ def ask(arguments: argparse.Namespace, endpoints: oauth.Endpoints, client: str, 
         raise Usage('--minutes wants a number from 1 to 60')
     with listener.Listener(redirect) as loopback:
         request = oauth.Request(endpoints, client, loopback.redirect, scope)
+        loopback.expect(request)
         note(f'log in with the right account in the browser; if none opens, open {request.address()}')
         open_browser(request.address())
-        code = loopback.wait(request, arguments.minutes * 60)
+        code = loopback.wait(arguments.minutes * 60)
         if loopback.ignored:
             note(f'{loopback.ignored} calls that were no answer to this login were ignored')
     return request, code
