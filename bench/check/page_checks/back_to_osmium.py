@@ -64,10 +64,20 @@ def derive_changes(program):
         expect((0, ''), room.run(['osmium', 'cat', 'changes.osc', '-f', 'opl']))
 
 
-@case('what a page has written by osmium it writes a second time: such sections run twice in one folder')
+def writes_again(room, line):
+    """A line of osmium whose file is there already writes it once more."""
+    expect((0, ''), room.sh(line))
+
+
+@case('what a page has written by osmium it writes a second time, after its section; without -O it does not, and the check sees it')
 def osmium_again(program):
     for page, _, blocks in all_sections():
-        if any(re.search(r'^osmium .* -o ', block.text, re.M) for block in blocks if block.kind == 'sh' and block.words != ['elsewhere']):
-            with room_of(program, page) as room:
-                for _ in range(2):
-                    run_section(room, blocks, 'sh -eu')
+        lines = [line for block in blocks if block.kind == 'sh' and block.words != ['elsewhere']
+                 for line in re.findall(r'^osmium .* -o .*$', block.text, re.M)]
+        if not lines:
+            continue
+        with room_of(program, page) as room:
+            run_section(room, blocks, 'sh -eu')
+            for line in lines:
+                writes_again(room, line)
+                finds_fault(lambda line=line: writes_again(room, line.replace(' -O ', ' ')))
