@@ -191,7 +191,8 @@ class Ledger:
         """Failed where the session has lost an edit that isn't on the server."""
         for (key, part), wish in self.wishes.items():
             known = session.get(key) or session.get(self.names.get(key, ''))
-            if known and known.conflict == 'withdrawn':
+            # A deletion that was withdrawn since the server used the object is asked of the mapper again if the server deletes it.
+            if known and (known.conflict == 'withdrawn' or (known.conflict == 'held' and wish.value is None)):
                 continue
             mine = parts(known and known.mine).get(part)
             if self.renamed(mine) != self.renamed(wish.value):

@@ -214,6 +214,9 @@ class Refreshed(LedgerTest):
     def test_a_withdrawn_deletion_waits_for_its_resolve(self):
         self.edited(gone('n3'))
         self.ledger.kept(session('known n3 live same withdrawn\nbase {0}\ntheirs {0}\n'.format(BASE['n3'])))
+        held = 'known n3 live same held\nbase {0}\ntheirs n3 v2 dD\n'.format(BASE['n3'])
+        self.ledger.kept(session(held))
+        self.assert_fails('lost an edit: n3', self.ledger.kept, session())
 
 
 class Compared(LedgerTest):
