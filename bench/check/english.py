@@ -22,7 +22,7 @@ from dataclasses import dataclass
 
 TOP = pathlib.Path(__file__).resolve().parents[2]
 MEAN, LONGEST = 16, 35          # words of a sentence
-MOST_WORDS = 37_985             # of all pages together
+MOST_WORDS = 38_000             # of all pages together
 
 # Pages that are plain, and stay so. A page that is rewritten joins them, and each how-to belongs to them.
 PLAIN = [
