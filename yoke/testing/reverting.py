@@ -74,8 +74,8 @@ def check(database: Database, changesets: List[int], session: Session, left_out:
     for key, known in session.items():
         if key in objects or known.conflict != 'none' or parts(known.mine) == parts(known.base):
             continue
-        now = database.current(key)
-        if now is None or now.visible or parts(known.mine) != parts(_version(database, key, now.version - 1)):
+        since = [version for version in database.versions.get(key, ()) if version.version >= seen.get(key, 1)]
+        if not any(not one.visible and parts(known.mine) == parts(_version(database, key, one.version - 1)) for one in since):
             raise Failed('revert {}: {} isn\'t of the changesets, and is edited'.format(changesets, key))
 
 

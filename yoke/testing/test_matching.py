@@ -1,9 +1,10 @@
 """The truths of conflations and reverts that random days are held against fail where something is wrong."""
 import random
 import unittest
-from typing import Dict, Optional
+from typing import Any, Dict, Optional
 
 from yoke.testing import matching, reverting
+from yoke.testing.database import Database
 from yoke.testing.elements import Element, of_opl
 from yoke.testing.ledger import Failed, Known, Session
 
@@ -69,6 +70,34 @@ class Reverts(unittest.TestCase):
         self.assertTrue(reverting.clashes(self.undone('dD', 'Ta=2 x1 y1', 'Ta=3 x1 y1')))
         self.assertFalse(reverting.clashes(self.undone('dD', 'Ta=2 x1 y1', 'dD')))
         self.assertFalse(reverting.clashes(self.undone('Ta=1 x1 y1', 'Ta=2 x1 y1', 'Ta=1 x1 y1')))
+
+
+class EditedBesides(unittest.TestCase):
+    """An object that isn't of the changesets, and that the session has come back as it was before it was deleted."""
+
+    was = 'n1 v1 dV c1 Ta=1 x1 y1'
+    gone = 'n1 v2 dD c2 T x y'
+    back = 'n1 v3 dV c3 Tb=2 x2 y2'                     # by somebody else, while the revert asks or before
+
+    def check(self, *lines: str, seen: int, base: str = gone, mine: str = was) -> None:
+        known = Known(of_opl(base), of_opl(mine), None, 'none')
+        reverting.check(Database(map(of_opl, lines)), [9], {'n1': known}, set(), {'n1': seen})
+
+    def assert_fails(self, *lines: str, **what: Any) -> None:
+        with self.assertRaisesRegex(Failed, "n1 isn't of the changesets, and is edited"):
+            self.check(*lines, **what)
+
+    def test_it_was_deleted_when_the_revert_saw_it(self) -> None:
+        self.check(self.was, self.gone, seen=2)
+        self.check(self.was, self.gone, self.back, seen=2)
+        self.check(self.was, self.gone, self.back, seen=1)
+
+    def test_it_was_there_when_the_revert_began(self) -> None:
+        self.assert_fails(self.was, self.gone, self.back, seen=3)
+        self.assert_fails(self.was, seen=1, base=self.was, mine=self.was.replace('a=1', 'a=2'))
+
+    def test_another_content_than_before_the_deletion(self) -> None:
+        self.assert_fails(self.was, self.gone, self.back, seen=2, mine=self.back)
 
 
 if __name__ == '__main__':
