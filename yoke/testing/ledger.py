@@ -192,7 +192,7 @@ class Ledger:
         for (key, part), wish in self.wishes.items():
             known = session.get(key) or session.get(self.names.get(key, ''))
             # A deletion that was withdrawn since the server used the object is asked of the mapper again if the server deletes it.
-            if known and (known.conflict == 'withdrawn' or (known.conflict == 'held' and wish.value is None)):
+            if known and (known.conflict == 'withdrawn' or known.conflict == 'held' and (part, wish.value) == ('there', None)):
                 continue
             mine = parts(known and known.mine).get(part)
             if self.renamed(mine) != self.renamed(wish.value):

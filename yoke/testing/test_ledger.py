@@ -218,6 +218,13 @@ class Refreshed(LedgerTest):
         self.ledger.kept(session(held))
         self.assert_fails('lost an edit: n3', self.ledger.kept, session())
 
+    def test_a_tag_that_was_taken_from_a_held_object_stays_away(self):
+        bare = 'v1 dV T x1.0000000 y2.0000000'
+        self.edited(own('n1', bare))
+        self.ledger.kept(session(own('n1', bare, conflict='held', theirs='n1 v2 dD')))
+        self.assert_fails('lost an edit: n1 tag name', self.ledger.kept,
+                          session('known n1 live same held\nbase {}\ntheirs n1 v2 dD\n'.format(BASE['n1'])))
+
 
 class Compared(LedgerTest):
 
