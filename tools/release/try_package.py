@@ -153,7 +153,7 @@ class Debian:
         )
 
     def files(self) -> set[str]:
-        """All files and folders, but those that apt and the trial change."""
+        """All files and folders, except those that apt and the trial change."""
         found = set()
         for holder, folders, names in os.walk(self.root):
             here = '/' + os.path.relpath(holder, self.root).lstrip('.').lstrip('/')

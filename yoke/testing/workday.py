@@ -7,7 +7,7 @@
         work.send('-m', 'no created_by')
         work.end()
 
-`by_hand` reckons what sending the same takes by hand: the commands of somebody who has `editor`, `curl`, `osmium` and scripts that
+`by_hand` counts the commands that sending the same takes without yoke, by a person who has `editor`, `curl`, `osmium` and scripts that
 make documents and answer files.
 """
 import pathlib
