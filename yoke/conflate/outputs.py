@@ -5,6 +5,7 @@ import json
 import os
 import pathlib
 from collections import Counter
+from types import MappingProxyType
 from typing import Any, Dict, Iterator, List, Mapping, Sequence, Tuple
 
 from yoke import day, opl
@@ -26,12 +27,18 @@ FORMULA = ('=', '+', '-', '@', '\t', '\r')
 
 
 class Outcome:
-    """What comes of the features: tags that are set, values that differ and stay, new objects."""
+    """What comes of the features: tags that are set, values that differ and stay, new objects.
 
-    def __init__(self, rules: Rules, found: Sequence[Found], left: List[Tuple[str, str]]):
-        self.rules, self.found, self.left = rules, found, left
+    `still` has, by the names of features, the values that the file's author saw on the map: where
+    the map still has such a value, the feature's own is set; where it hasn't, somebody changed it.
+    """
+
+    def __init__(self, rules: Rules, found: Sequence[Found], left: List[Tuple[str, str]],
+                 still: Mapping[str, Mapping[str, str]] = MappingProxyType({})):
+        self.rules, self.found, self.left, self.still = rules, found, left, still
         self.tags: Dict[str, Dict[str, str]] = {}
         self.differs: List[Tuple[Found, str]] = []
+        self.changed: List[Tuple[Found, str]] = []
         self.drawing = Drawing()
         for one in found:
             if one.kind == 'update':
@@ -39,10 +46,16 @@ class Outcome:
 
     def _compare(self, one: Found) -> None:
         there, wanted = one.best.tags, {}
+        seen = self.still.get(one.feature.name, {})
         for key, value in one.feature.tags.items():
             if there.get(key) == value:
                 continue
-            if key in self.rules.over or key not in there and self.rules.takes(key):
+            if key in seen:
+                if there.get(key, '') == seen[key]:
+                    wanted[key] = value
+                else:
+                    self.changed.append((one, key))
+            elif key in self.rules.over or key not in there and self.rules.takes(key):
                 wanted[key] = value
             elif key in there and plain(there[key]) != plain(value):
                 self.differs.append((one, key))
@@ -75,9 +88,11 @@ class Outcome:
             ', '.join(f'{count} {kind}' for kind, count in self.counts().items()))
         for title, keys in (('tags to set', Counter(key for tags in self.tags.values()
                                                     for key in tags)),
-                            ('values that differ and stay', Counter(key for _, key in self.differs))):
+                            ('values that differ and stay', Counter(key for _, key in self.differs)),
+                            ('values that somebody changed', Counter(key for _, key in self.changed))):
             shown = ', '.join(f'{key} {count}' for key, count in keys.most_common(12))
-            yield f'{title}: {shown or "none"}'
+            if keys or title != 'values that somebody changed':
+                yield f'{title}: {shown or "none"}'
 
 
 def check(name: str, force: bool) -> None:
@@ -126,9 +141,10 @@ def table(one: Outcome, gone: Sequence[Tuple[str, str, str]]) -> str:
             row(each.feature.name, 'ambiguous', '', each.why, found.thing.name, f'{found.score:.2f}',
                 f'{found.metres:.0f}', each.feature.tags.get('name', ''),
                 found.thing.tags.get('name', ''), f'{lon:.7f}', f'{lat:.7f}')
-    for each, key in one.differs:
-        row(each.feature.name, 'differs', '', key, each.best.name, '', '', each.feature.tags[key],
-            each.best.tags[key])
+    for what, pairs in (('differs', one.differs), ('changed', one.changed)):
+        for each, key in pairs:
+            row(each.feature.name, what, '', key, each.best.name, '', '', each.feature.tags[key],
+                each.best.tags.get(key, ''))
     for key, why, value in gone:
         row('', 'gone', '', why, key, '', '', '', value)
     for where, why in one.left:

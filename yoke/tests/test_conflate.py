@@ -102,6 +102,42 @@ class Verb(ConflateTest):
         self.conflate(text)
         self.assertEqual(['tag n2 Tphone=222'], self.script())
 
+    def test_the_value_that_the_file_saw_lets_its_own_in(self):
+        """`old:phone` is what was on the map: where it is so still, the file's value is set."""
+        head = 'lon,lat,shop,name,phone,old:phone\n'
+        rows = ('13.0010,52.0010,bakery,Bäckerei Koch,5,\n'     # it has none, as the file says
+                '13.0020,52.0010,bakery,Bäckerei Lang,2,1\n')   # it is 1 still
+        self.write('in.csv', head + rows)
+        words = ('in.csv', '--rules', 'c.rules', '--columns', 'shop,name,phone', '--to', 'c')
+        self.assertEqual(0, self.yoke('conflate', *words), self.err)
+        self.assertEqual(['tag n1 Tphone=5', 'tag n2 Tphone=2'], self.script())
+
+    def test_a_value_that_somebody_changed_since_stays_and_is_listed(self):
+        head = 'lon,lat,shop,name,phone,old:phone\n'
+        rows = ('13.0010,52.0010,bakery,Bäckerei Koch,5,4\n'    # it has none any more
+                '13.0020,52.0010,bakery,Bäckerei Lang,2,3\n')   # it is 1 now
+        self.write('in.csv', head + rows)
+        self.write('c.rules', RULES + 'over phone\n')
+        words = ('in.csv', '--rules', 'c.rules', '--columns', 'shop,name,phone', '--to', 'c')
+        self.assertEqual(0, self.yoke('conflate', *words), self.err)
+        self.assertEqual([], self.script())
+        self.assertIn('values that somebody changed: phone 2', self.out)
+        self.assertEqual([('line 2', 'n1', ''), ('line 3', 'n2', '1')],
+                         [(row['feature'], row['candidate'], row['its name'])
+                          for row in self.rows() if row['what'] == 'changed'])
+
+    def test_do_runs_the_script_at_once(self):
+        rows = '13.0010,52.0010,bakery,Bäckerei Koch,5,\n13.0060,52.0010,bakery,Bäckerei Neu,6,\n'
+        self.write('in.csv', HEAD + rows)
+        words = ('in.csv', '--rules', 'c.rules', *WORDS, '--to', 'c', '--do')
+        self.assertEqual(0, self.yoke('conflate', *words), self.err)
+        self.assertNotIn('next: yoke do', self.out)
+        self.assertEqual(0, self.yoke('diff', '--short'))
+        self.assertIn('n1', self.out)
+        self.assertIn('n-1', self.out)
+        self.assertEqual(0, self.yoke('conflate', *words), self.err)
+        self.assertIn('nothing to do', self.out)
+
     def test_a_tag_that_no_rule_takes_isnt_set(self):
         self.write('c.rules', RULES.replace('take phone\n', ''))
         self.conflate('13.00101,52.00101,bakery,Bäckerei Koch,5,\n')

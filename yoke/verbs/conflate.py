@@ -12,6 +12,7 @@ from yoke.formats import drawing
 from yoke.formats.features import Feature, text_of
 from yoke.formats.mapping import Left, Mapping as Tags
 from yoke.formats.suspicions import Accepted
+from yoke.formats.tag_table import OLD
 from yoke.program import BadLine
 from yoke.progress import note
 from yoke.scripts import bound
@@ -26,7 +27,7 @@ DETAILS = """\
   yoke conflate shops.csv --rules shops.rules --tags tags.rules --to shops
   yoke do shops.script
 
-Nothing is changed. NAME.script sets tags of the objects that are matched, and imports what is new
+Nothing is changed without --do, which runs the script at once. NAME.script sets tags of the objects that are matched, and imports what is new
 from NAME.opl. NAME.csv lists what is ambiguous, which values differ, and what is gone. Write a key,
 new or skip into its column decision, and give it back by --decided; or decide on a map by
 yoke review --questions NAME. docs/HOWTO/conflate.md shows it all."""
@@ -41,6 +42,7 @@ def add_arguments(parser: argparse.ArgumentParser) -> None:
                         help='the properties that become tags under their own names')
     do.add_accept(parser)
     parser.add_argument('--to', metavar='NAME', default='conflate', help='the name of what is written (%(default)s)')
+    parser.add_argument('--do', action='store_true', help='run the script at once, as yoke do would')
     parser.add_argument('--decided', metavar='FILE.csv', help='a list with decisions')
     parser.add_argument('--ids', metavar='FILE.csv', help='which id of the source is which object: read, and written')
     parser.add_argument('--encoding', metavar='NAME', help='the encoding of FILE, such as cp1252; else UTF-8')
@@ -77,7 +79,7 @@ def run(arguments: argparse.Namespace) -> int:
     decide(found, decisions(arguments.decided, features), there)
     if shapes.shapely() is None and any(feature.is_area for feature in features):
         note('outlines are compared by a raster: python3-shapely compares them exactly')
-    one = outputs.Outcome(rules, found, left)
+    one = outputs.Outcome(rules, found, left, still(once))
     picture = drawing.Drawing(chosen, bounds, latitude_first=arguments.latitude_first,
                               there=drawing.shapes_of(there))
     one.draw(picture, {feature.where: feature for feature in source.features})
@@ -87,21 +89,33 @@ def run(arguments: argparse.Namespace) -> int:
     outputs.write(arguments.to, one, bound.head(state, text), gone)
     if arguments.ids:
         day.write_whole(arguments.ids, outputs.ids_text(before, found, ids))
-    tell(arguments.to, one, gone)
-    return 0
+    tell(arguments.to, one, gone, arguments.do)
+    return perform(session, arguments, one) if arguments.do else 0
 
 
-def tell(name: str, one: outputs.Outcome, gone: Sequence[Tuple[str, str, str]]) -> None:
-    """Says what comes of it."""
-    results.put(counts={**one.counts(), 'gone': len(gone)}, files=[name + ending for ending in outputs.ENDINGS
-                                                                  if pathlib.Path(name + ending).exists()])
+def perform(session: Session, arguments: argparse.Namespace, one: outputs.Outcome) -> int:
+    """Runs the script that was written; the exit code. Nothing to do is well too."""
+    if not one.tags and not one.counts()['new']:
+        print('nothing to do')
+        return 0
+    script = arguments.to + '.script'
+    done = do.over(session, script, do.read(script), accept=arguments.accept, note=note, tell=print)
+    do.show(done.name, done.answer, done.kept)
+    return do.end(session, done.answer, keep=False)
+
+
+def tell(name: str, one: outputs.Outcome, gone: Sequence[Tuple[str, str, str]], is_done: bool) -> None:
+    """Says what comes of it, and what is next."""
+    results.put(counts={**one.counts(), 'gone': len(gone)}, steps=[], session=None,
+                files=[name + ending for ending in outputs.ENDINGS if pathlib.Path(name + ending).exists()])
     for line in one.report():
         print(line)
     if gone:
         print(f'gone from the file: {len(gone)}')
     if one.counts()['ambiguous']:
         print(f'next: decide in {name}.csv, or by yoke review --questions {name}')
-    print(f'next: yoke do {name}.script')
+    if not is_done:
+        print(f'next: yoke do {name}.script')
 
 
 def rules_of(name: str) -> rule_file.Rules:
@@ -122,6 +136,13 @@ def tags_of(arguments: argparse.Namespace, source: import_.Source, rules: rule_f
     chosen = import_.tags_of(arguments, source, named, accepted)
     accepted.stop(import_.of_source(source, source.features, chosen))
     return chosen
+
+
+def still(read: Sequence[Feature]) -> Dict[str, Dict[str, str]]:
+    """What tags had when the file was made, by the names of features: its properties `old:KEY`."""
+    return {one.where: {name[len(OLD):]: str(value or '').strip()
+                        for name, value in one.properties.items() if name.startswith(OLD)}
+            for one in read}
 
 
 def places_of(there: table.Table) -> Iterator[drawing.Place]:

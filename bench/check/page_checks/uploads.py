@@ -149,7 +149,7 @@ def statuses_of(cell):
 @case('the page on the protocol takes a document as not taken after the statuses after which yoke does, and no other')
 def not_taken(_):
     refused = set()
-    for status, document, _ in table('status', 'the document').rows:
+    for status, document, _ in table('status of the upload', 'the document').rows:
         if document.startswith('not taken') or '409' in status:
             refused |= statuses_of(status)
     expect(sorted({*api.NOT_DONE, 429}), sorted(refused))
