@@ -119,6 +119,20 @@ class Refresh(ServerTest):
         for key in ('x1', 'n-1', 'n', '1', 'n1x'):
             self.assertEqual(Usage.code, self.ask('refresh', key))
 
+    def test_a_reference_to_what_is_deleted_there_and_unknown_here(self):
+        """The extract has no w5; the edited relation refers to it, and somebody deleted both."""
+        relation = 'r9 v1 Ttype=route Mw5@\n'
+        self.begin('tag r9 Tref=7', town=relation)
+        self.server.edit('delete', 'r9')
+        self.server.edit('delete', 'w5')
+        self.assertEqual(Clash.code, self.ask('refresh'))
+        self.done('resolve', 'r9', 'mine')
+        self.assertNotEqual(0, self.send())
+        self.assertIn('yoke refresh w5', self.err)
+        self.assertEqual(Clash.code, self.ask('refresh', 'w5'), self.out + self.err)
+        self.assertIn('w5 is deleted at {}, and r9 still refers to it: leave the reference out'.format(self.server.api), self.out)
+        self.assertEqual(0, self.ask('refresh'), self.out)
+
     def test_ids_that_never_existed_are_found_by_halves(self):
         self.begin('tag w5 Tref=7', town=TOWN + 'n77 v1 x1 y1\nw78 v1 Nn77,n1\n')
         self.do('tag n77 Tref=7', 'tag w78 Tref=7')

@@ -1,7 +1,7 @@
 """`yoke refresh`: what the server has by now of all that the edits rest on."""
 import argparse
 from dataclasses import dataclass
-from typing import Callable, Iterable, List, Optional, Sequence, Tuple
+from typing import Callable, Dict, Iterable, List, Mapping, Optional, Sequence, Set, Tuple
 
 from yoke import api, opl, results, sides
 from yoke.api import Server
@@ -21,6 +21,7 @@ NEEDED = '( changed or conflict or child ( changed or conflict ) ) and not new a
 GONE = 'changed and deleted'
 BROUGHT = 'refresh.new'     # a file of the day with what came, while it is merged; the next yoke removes it where this one was stopped
 NEVER = 20      # objects that the server never had, before it is taken for another server than that of the extract
+MOST_USERS = 5  # objects that are named in a line
 MOST_GONE = 50  # objects deleted here of which it is asked who uses them: a call or two for each
 
 
@@ -37,7 +38,7 @@ def run(arguments: argparse.Namespace) -> int:
     with session.day.locked():
         news = bring(session, server, arguments.keys, note)
     show(news, server)
-    return Clash.code if news.left or news.never else 0
+    return Clash.code if news.left or news.never or news.missed else 0
 
 
 def check_keys(keys: Iterable[str]) -> None:
@@ -50,17 +51,21 @@ def check_keys(keys: Iterable[str]) -> None:
 @dataclass
 class News:
     """What a refresh brought: how many objects it asked for, the keys that the server never had, how many newer ones were
-    merged, and of the objects `saved.Known` those that both sides changed, joined, and those that are in conflict."""
+    merged, and of the objects `saved.Known` those that both sides changed, joined, and those that are in conflict. `missed` are
+    the keys asked for by name that are deleted there, and of which this session has no more than references, each with what
+    refers to it here."""
 
     asked: int
     never: List[str]
     merged: int
     joined: List[Known]
     left: List[Known]
+    missed: Dict[str, List[str]]
 
 
 def bring(session: Session, server: Server, keys: Iterable[str] = (), tell: Callable[[str], object] = silent) -> News:
     """Asks the server for what the edits rest on, and for the objects with these keys, and merges it; the folder has to be locked."""
+    keys = list(keys)
     session.check_settled()
     check_server(session.day, server)
     found, gone = (reply.text[1:] for reply in session.ask(['find ' + NEEDED, 'find ' + GONE]).replies)
@@ -69,12 +74,24 @@ def bring(session: Session, server: Server, keys: Iterable[str] = (), tell: Call
     newer = merge(session, server, things)
     known = session.known()
     joined = [known[key] for key in newer if key in known and known[key].edit == 'changed' and known[key].conflict == 'none']
-    return News(len(things) + len(never), never, len(newer), joined, [one for one in known.values() if one.conflict != 'none'])
+    left = [one for one in known.values() if one.conflict != 'none']
+    named = {thing.key for thing in things if thing.deleted and thing.key not in known}.intersection(keys)
+    return News(len(things) + len(never), never, len(newer), joined, left, missed(known, named))
+
+
+def missed(known: Mapping[str, Known], keys: Set[str]) -> Dict[str, List[str]]:
+    """Of these keys those to which something refers here, each with what does."""
+    found: Dict[str, List[str]] = {}
+    for user, one in known.items() if keys else ():
+        for key in sorted(keys.intersection(one.mine.references), key=opl.rank) if one.mine else ():
+            found.setdefault(key, []).append(user)
+    return found
 
 
 def show(news: News, server: Server) -> None:
     """Says what a refresh brought."""
-    results.put(asked=news.asked, merged=news.merged, never=news.never, joined=[one.key for one in news.joined], conflicts=[])
+    results.put(asked=news.asked, merged=news.merged, never=news.never, joined=[one.key for one in news.joined], conflicts=[],
+                missed=[{'key': key, 'users': users} for key, users in news.missed.items()])
     print('{} objects asked for, {} newer ones merged'.format(news.asked, news.merged))
     for one in news.joined:
         assert one.base is not None and one.mine is not None
@@ -82,6 +99,9 @@ def show(news: News, server: Server) -> None:
         print('joined {}: both sides changed it, in unlike parts; version {}{}'.format(sides.title(one.mine), one.base.version, by))
     for key in news.never:
         print('{} never existed at {}'.format(key, server.address))
+    for key, users in news.missed.items():
+        some = ', '.join(users[:MOST_USERS]) + (f' and {len(users) - MOST_USERS} more' if len(users) > MOST_USERS else '')
+        print(f'{key} is deleted at {server.address}, and {some} still refers to it: leave the reference out')
     for one in news.left:
         conflicts.show(one)
     if news.left:
