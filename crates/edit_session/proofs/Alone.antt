@@ -17,11 +17,12 @@ use Rattle.edit_history.specs.Machine.{State, first_state}
 use Rattle.edit_steps.specs.declared.limits.Limits.{Limits}
 use Rattle.edit_steps.specs.declared.stop.Stop.{Stop}
 use Rattle.edit_steps.specs.Given.{Given}
-use Rattle.edit_steps.specs.LineEnds.{AreLines}
+use Rattle.osm_outside.specs.Lines.{AreLines}
+use Rattle.osm_outside.proofs.Lines.{all_lines}
 use Rattle.edit_steps.specs.Turn.{step_text}
 use Rattle.edit_steps.specs.States.{reads, states_before, texts, AreSound, StepsRan, StepsReached}
 use Rattle.edit_steps.proofs.Gives.{none_yet, rest_given}
-use Rattle.edit_steps.proofs.LineEnds.{all_lines, response_lines}
+use Rattle.edit_steps.proofs.LineEnds.{response_lines}
 use Rattle.edit_session.specs.Meet.{Seat, meet_step_text, meet_texts}
 use Rattle.edit_session.specs.Met.{AreBegun, AreMet, IsBegun, IsMet}
 use Rattle.edit_session.specs.Parts.{StepLeavesParts}

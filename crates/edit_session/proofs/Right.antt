@@ -1,5 +1,6 @@
 -- A session is right, whether it came to its end or stopped.
 use Rattle.std.proofs.Common.{◌≡◌, ◌⊎◌, ◌<◌, ◌∙◌, inl, inr, ℕ, Bool, List, None, Result, Ok, Err, refl, sym, ap, subst, arith}
+use Rattle.osm_outside.specs.Lines.{CutsNoLine}
 use Rattle.osm_outside.specs.Outside.{Rose}
 use Rattle.command_line.specs.Words.{command_of}
 use Rattle.tool_api.specs.declared.verb.Verb.{Verb}
@@ -80,11 +81,12 @@ not_done stops.Memory is = cc
 module _ {S K : Type 0} (verbs : List Verb) (words : List (List ℕ)) (before after : Outside S K) where
   pub right_ended : (answer : Status) → IsEnd answer → ComesTo before.files verbs words before.text after.text before.noted after.noted (Ok answer)
       → StopCause {T = Status} before.read_faults after.read_faults before.write_faults after.write_faults (Ok answer)
+      → CutsNoLine {T = Status} stops.WriteFault before.text after.text (Ok answer)
       → after.files ≡ before.files → (IsEarly answer → after.sink ≡ before.sink) → IsAsked after.begun answer
       → ((verb : Verb) → answer ≡ status.NoTool verb → count_verb verbs verb < 4) → (answer ≡ status.BadWords → command_of words ≡ None)
       → (command_of words ≡ None → IsBad (Ok answer)) → (command_of words ≡ None → (after.shelf ≡ before.shelf) × (after.sink ≡ before.sink))
       → IsRight verbs words before after answer
-  right_ended answer end comes cause told unwritten asked no_tool bad bad_is unread =
+  right_ended answer end comes cause cuts told unwritten asked no_tool bad bad_is unread =
       let given = comes.given in
       record {
         given = given;
@@ -92,6 +94,7 @@ module _ {S K : Type 0} (verbs : List Verb) (words : List (List ℕ)) (before af
         outcome = agrees_by before.text after.text answer (outcome_by verbs words given) end comes.ok;
         stopped = no_stop answer (λ stop. LineStopped (command_of words) before.text after.text stop given) end;
         noted = noted_by before.text before.noted after.noted answer (reads_by verbs words given) end comes.noted;
+        lines = λ other. cuts.lines (λ is. cc);
         complete = λ done no_read no_write. inl (comes.ok.0 ∙ done);
         read = λ is. absurd (subst IsEnd is end);
         write = λ is. absurd (subst IsEnd is end);
@@ -115,9 +118,10 @@ module _ {S K : Type 0} (verbs : List Verb) (words : List (List ℕ)) (before af
 
   pub right_stopped : (stop : Stop) → ComesTo before.files verbs words before.text after.text before.noted after.noted (Err stop)
       → StopCause {T = Status} before.read_faults after.read_faults before.write_faults after.write_faults (Err stop)
+      → CutsNoLine {T = Status} stops.WriteFault before.text after.text (Err stop)
       → after.files ≡ before.files → (command_of words ≡ None → IsBad (Err stop)) → (command_of words ≡ None → (after.shelf ≡ before.shelf) × (after.sink ≡ before.sink))
       → IsRight verbs words before after (status_of stop)
-  right_stopped stop comes cause told bad_is unread =
+  right_stopped stop comes cause cuts told bad_is unread =
       let given = comes.given in
       record {
         given = given;
@@ -125,6 +129,7 @@ module _ {S K : Type 0} (verbs : List Verb) (words : List (List ℕ)) (before af
         outcome = cut_short before.text after.text stop (outcome_by verbs words given) comes.err;
         stopped = that_stop stop (λ s. LineStopped (command_of words) before.text after.text s given) (stopped_by (command_of words) before.text after.text stop given comes.stopped);
         noted = first_noted before.text before.noted after.noted stop (reads_by verbs words given) comes.noted_first;
+        lines = λ other. cuts.lines (λ is. other (ap status_of (same_stop stop stops.WriteFault is)));
         complete = λ done no_read no_write. inr (by_memory stop (Rose before.read_faults after.read_faults) (Rose before.write_faults after.write_faults)
             (λ is. cause.read (ap Err is)) (λ is. cause.write (ap Err is)) no_read no_write);
         read = λ is. cause.read (ap Err (read_told stop is));
@@ -157,4 +162,4 @@ memory_at_once verbs words before =
     right_stopped verbs words before before stops.Memory
     (comes_stop before.files (line_given (command_of words)) before.text before.noted before.noted stops.Memory (outcome_by verbs words) (reads_by verbs words) (λ given. LinePromised (command_of words) given) (LineReached (command_of words) before.text before.text) (λ given. nothing_noted before.text before.noted (reads_by verbs words given)) (line_none (command_of words) before.text stops.Memory))
     (record { read_later = omega arith; write_later = omega arith; read = λ is. absurd cc; write = λ is. absurd cc; read_quiet = λ other. refl; write_quiet = λ other. refl })
-    refl (λ none. inr refl) (λ none. (refl, refl))
+    (record { lines = λ other told. told }) refl (λ none. inr refl) (λ none. (refl, refl))

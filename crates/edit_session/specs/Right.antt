@@ -3,6 +3,7 @@
 -- For example with the words `editor s`, where no file is called s, the status is `NoScript`: the shelf answered that s isn't
 -- there, no call failed, and nothing was written.
 use Rattle.std.specs.Prelude.{◌≡◌, ◌≢◌, ◌≤◌, ◌⊎◌, ℕ, List, None, IfSome}
+use Rattle.osm_outside.specs.Lines.{TookLines}
 use Rattle.osm_outside.specs.Outside.{Rose}
 use Rattle.command_line.specs.Words.{command_of}
 use Rattle.tool_api.specs.declared.verb.Verb.{Verb}
@@ -36,6 +37,9 @@ pub record IsRight {S K : Type 0} (verbs : List Verb) (asked_for : List (List �
   -- sink had taken the whole text of all steps before it, and no more. So each step's text is handed on before the next one reads.
   -- After a fault or want of memory these are the first reads.
   pub noted : AreNoted before.text before.noted after.noted answer (reads_by verbs asked_for given)
+  -- Unless a write failed, no line is cut: a sink that had taken whole lines before has taken whole lines after it. So after a read
+  -- fault, and after want of memory.
+  pub lines : answer ≢ status.WriteFault → TookLines before.text → TookLines after.text
   -- It doesn't give up by itself, but for memory.
   pub complete : (outcome_by verbs asked_for given).0 ≡ status.Done
       → (Rose before.read_faults after.read_faults → ⊥) → (Rose before.write_faults after.write_faults → ⊥)

@@ -1,6 +1,7 @@
 -- What every session does, whatever its reads give.
 use Rattle.std.specs.Prelude.{◌≡◌, ℕ, List, drop, take, Option, None, Some, IfSome, Result, OnOk, OnErr, IfErr}
 use Rattle.std.specs.Io.KnownBytes.{Appends}
+use Rattle.osm_outside.specs.Lines.{AreLines}
 use Rattle.osm_outside.specs.Noted.{Noted, NotedFirst}
 use Rattle.osm_outside.specs.Outside.{Note, Shelved, AppendsFront}
 use Rattle.command_line.specs.Words.{CommandLineValue}
@@ -10,7 +11,6 @@ use Rattle.edit_steps.specs.declared.stop.Stop.{Stop}
 use Rattle.edit_steps.specs.declared.stop.Stop.TheVariants as stops
 use Rattle.edit_steps.specs.Fetch.{reading}
 use Rattle.edit_steps.specs.Given.{Given, first_given, all_given}
-use Rattle.edit_steps.specs.LineEnds.{AreLines}
 use Rattle.edit_steps.specs.Limits.{limits_of}
 use Rattle.edit_steps.specs.States.{AreSound}
 use Rattle.edit_session.specs.Heard.{AreHeard, AreHeardMet}

@@ -1,63 +1,52 @@
 -- Each text of a step ends at a line's end.
-use Rattle.std.proofs.Common.{◌∙◌, inl, inr, ℕ, ◌+◌, List, [], ◌∷◌, ◌++◌, Option, None, Some, refl, sym, ap, subst, append_assoc, append-nil, codes, decimal, flat_map, length}
+use Rattle.std.proofs.Common.{◌≡◌, ◌∙◌, inl, inr, ℕ, ◌+◌, List, [], ◌∷◌, ◌++◌, Option, None, Some, refl, sym, ap, subst, append_assoc, append-nil, codes, decimal, flat_map, length}
 use Rattle.osm_base.specs.Number.{key_written}
-use Rattle.osm_base.specs.Meta.{empty_meta}
 use Rattle.osm_base.specs.declared.key.Key.{Key}
 use Rattle.osm_table.specs.Table.{TableValue, entry_of, held_by, keys_by_rank}
 use Rattle.osm_table.specs.declared.entry.Entry.{Entry}
 use Rattle.osm_table.specs.declared.entry.Entry.TheVariants as entry
-use Rattle.opl_line.specs.Written.{written}
+use Rattle.osm_outside.specs.Lines.{AreLines, EndsLine}
+use Rattle.osm_outside.proofs.Lines.{all_lines, at_end, behind, both_lines}
 use Rattle.chunking.specs.Chunks as chunked
-use Rattle.chunking.specs.Chunks.{change_text, changes_text, chunks, head_text, item_text, upload_line}
+use Rattle.chunking.specs.Chunks.{changes_text, chunks, upload_line}
+use Rattle.chunking.proofs.Ends.{changes_lines, upload_ends}
 use Rattle.conflict.specs.Listed.{conflict_keys}
 use Rattle.conflict.specs.Shown as conflict
 use Rattle.conflict.specs.Shown.{conflict_text, known_text, side_line, side_lines, why_line}
 use Rattle.saved_session.specs.Saved.{saved, saved_end, saved_entry, saved_head}
-use Rattle.saved_session.specs.Words.{end_written}
+use Rattle.saved_session.specs.Saved as saves
+use Rattle.saved_session.specs.Words.{end_written, header_written}
+use Rattle.upload_order.specs.declared.world.WorldRefusal.{WorldRefusal}
 use Rattle.map_checks.specs.declared.finding.Finding.{Finding}
 use Rattle.map_checks.specs.declared.finding.Finding.TheVariants.{Doubled, Repeated, OpenRing}
-use Rattle.upload_order.specs.declared.change.Change.{Change}
-use Rattle.upload_order.specs.declared.change.Change.TheVariants.{Create, Modify, Delete}
 use Rattle.edit_script.specs.declared.reply.StepReply.{StepReply}
 use Rattle.edit_script.specs.Reply.{reply_line, reply_text}
 use Rattle.edit_steps.specs.declared.looks.Behind.{Behind}
 use Rattle.edit_steps.specs.declared.looks.Behind.TheVariants as behinds
 use Rattle.edit_steps.specs.declared.response.Response.{Response}
 use Rattle.edit_steps.specs.Counted.{count_line, count_text, counts_among, kinds_text, part}
-use Rattle.edit_steps.specs.LineEnds.{AreLines, EndsLine}
 use Rattle.edit_steps.specs.Looks.{behind_text}
-use Rattle.edit_steps.specs.Printed.{entry_text, shown}
+use Rattle.edit_steps.specs.Printed.{entry_text, lines_of, shown}
+use Rattle.edit_steps.specs.declared.sending.Lines.{Lines}
+use Rattle.edit_steps.specs.declared.sending.Lines.TheVariants as lines
 use Rattle.edit_steps.specs.Searched.{finding_line, findings_lines, key_line}
-use Rattle.edit_steps.specs.Sent.{refused_text}
+use Rattle.edit_steps.specs.Sent.{refused_text, sent_text}
 use Rattle.edit_steps.specs.Turn.{response_text}
 
--- a text, and LF
-at_end : (text : List ℕ) → EndsLine (text ++ 10 ∷ [])
-at_end text = (text, refl)
+-- A text that stands alone in what was empty.
+pub alone_lines : (before now text : List ℕ) → before ≡ [] → now ≡ before ++ text → AreLines text → AreLines now
+alone_lines before now text none more lines = subst AreLines (sym (more ∙ ap (λ l. l ++ text) none)) lines
 
--- what a line ends behind
-behind : (before text : List ℕ) → EndsLine text → EndsLine (before ++ text)
-behind before text ends = (before ++ ends.0, ap (λ l. before ++ l) ends.1 ∙ sym (append_assoc before ends.0 (10 ∷ [])))
-
--- one after the other
-pub both_lines : (first second : List ℕ) → AreLines first → AreLines second → AreLines (first ++ second)
-both_lines first second lines (inr ends) = inr (behind first second ends)
-both_lines first second lines (inl none) = subst AreLines (sym (ap (λ l. first ++ l) none ∙ append-nil first)) lines
-
-pub all_lines : {X : Type 0} (text : X → List ℕ) (xs : List X) → ((x : X) → AreLines (text x)) → AreLines (flat_map text xs)
-all_lines text [] each = inl refl
-all_lines text (x ∷ xs) each = both_lines (text x) (flat_map text xs) (each x) (all_lines text xs each)
-
-reply_ends : (line : ℕ) (reply : StepReply) → EndsLine (reply_line line reply)
+pub reply_ends : (line : ℕ) (reply : StepReply) → EndsLine (reply_line line reply)
 reply_ends line reply = behind (decimal line) (reply_text reply ++ codes "\n") (at_end (reply_text reply))
 
 -- The texts of `print` and `conflicts`,
-shown_lines : (key : Key) (e : Option Entry) → AreLines (shown key e)
+pub shown_lines : (key : Key) (e : Option Entry) → AreLines (shown key e)
 shown_lines key None = inl refl
 shown_lines key (Some entry.Incomplete) = inl refl
 shown_lines key (Some (entry.Known base mine c)) = inr (at_end _)
 
-conflict_lines : (key : Key) (e : Option Entry) → AreLines (conflict.shown key e)
+pub conflict_lines : (key : Key) (e : Option Entry) → AreLines (conflict.shown key e)
 conflict_lines key None = inl refl
 conflict_lines key (Some entry.Incomplete) = inl refl
 conflict_lines key (Some (entry.Known base mine None)) = inl refl
@@ -68,35 +57,51 @@ conflict_lines key (Some (entry.Known base mine (Some c))) =
     (behind (codes "theirs ") (known_text key c.theirs (held_by c.theirs)) (at_end _)))))
 
 -- of `count`, `find` and `check`,
-count_ends : (t : TableValue) → EndsLine (count_text t)
+pub count_ends : (t : TableValue) → EndsLine (count_text t)
 count_ends t =
     let c = counts_among t (keys_by_rank t) in
     behind (kinds_text c) _
     (behind (part (codes " incomplete ") c.incomplete) _ (behind (part (codes " deleted ") c.deleted) _ (behind (part (codes " changed ") c.changed) _ (at_end (part (codes " conflicts ") c.conflicts)))))
 
-finding_ends : (finding : Finding) → EndsLine (finding_line finding)
+pub finding_ends : (finding : Finding) → EndsLine (finding_line finding)
 finding_ends (Doubled key of) = behind (codes "doubled ") (key_written key ++ (32 ∷ key_line of)) (behind (key_written key) (32 ∷ key_line of) (at_end (32 ∷ key_written of)))
 finding_ends (Repeated key) = behind (codes "repeated ") (key_line key) (at_end (key_written key))
 finding_ends (OpenRing key) = behind (codes "openring ") (key_line key) (at_end (key_written key))
 
--- of `save`,
+-- and of `save`.
+pub head_ends : (next : ℕ) → EndsLine (saved_head next)
+unfolding saved_head
+head_ends next = at_end (header_written next)
+
+pub entry_lines : (t : TableValue) (key : Key) → AreLines (saved_entry t key)
+unfolding saved_entry
+entry_lines t key = entry_by (entry_of t key)
+  where
+    entry_by : (e : Option Entry) → AreLines (saves.shown key e)
+    entry_by None = inl refl
+    entry_by (Some e) = all_lines (λ line. line ++ 10 ∷ []) (saves.entry_lines key e) (λ line. inr (at_end line))
+
+pub end_ends : EndsLine saved_end
+unfolding saved_end
+end_ends = at_end end_written
+
 save_ends : (t : TableValue) → EndsLine (saved t)
 unfolding saved saved_end
 save_ends t = behind (saved_head t.next) (flat_map (saved_entry t) (keys_by_rank t) ++ saved_end) (behind (flat_map (saved_entry t) (keys_by_rank t)) saved_end (at_end end_written))
 
--- and of `upload`.
-change_ends : (c : Change) → EndsLine (change_text c)
-change_ends (Create k content) = behind (codes "create ") _ (at_end (written k 0 (Some content) empty_meta))
-change_ends (Modify k version content) = behind (codes "modify ") _ (at_end (written k version (Some content) empty_meta))
-change_ends (Delete k version) = behind (codes "delete ") _ (behind (key_written k) _ (behind (codes " v") _ (at_end (decimal version))))
+-- What is written of one object,
+pub object_lines : (lines : Lines) (t : TableValue) (key : Key) → AreLines (lines_of lines t key)
+object_lines lines.Object t key = shown_lines key (entry_of t key)
+object_lines lines.Conflict t key = conflict_lines key (entry_of t key)
+object_lines lines.Saved t key = entry_lines t key
+object_lines lines.Key t key = inr (at_end (key_written key))
 
-changes_lines : (size count at : ℕ) (cs : List Change) → AreLines (changes_text size count at cs)
-changes_lines size count at [] = inl refl
-changes_lines size count at (c ∷ cs) =
-    both_lines (item_text size count at c) (changes_text size count (at + 1) cs) (inr (behind (head_text size count at) (change_text c) (change_ends c))) (changes_lines size count (at + 1) cs)
+-- what is broken, and what a server answered.
+pub findings_are_lines : (findings : List Finding) → AreLines (findings_lines findings)
+findings_are_lines findings = all_lines finding_line findings (λ finding. inr (finding_ends finding))
 
-upload_ends : (changes count : ℕ) → EndsLine (upload_line changes count)
-upload_ends changes count = behind (chunked.part (codes "upload changes ") changes) _ (at_end (chunked.part (codes " chunks ") count))
+pub sent_ends : (count : ℕ) (refused : Option WorldRefusal) → EndsLine (sent_text count refused)
+sent_ends count refused = behind (part (codes "sent ") count) _ (at_end (refused_text (count + 1) refused))
 
 behind_lines : (b : Behind) (t : TableValue) → AreLines (behind_text b t)
 behind_lines behinds.Nothing t = inl refl
@@ -110,8 +115,8 @@ behind_lines (behinds.Changes changes size) t =
 behind_lines (behinds.Rehearsed count) t = inr (at_end _)
 behind_lines (behinds.Found keys) t = both_lines (count_line (codes "found ") (length keys)) (flat_map key_line keys) (inr (at_end _)) (all_lines key_line keys (λ key. inr (at_end (key_written key))))
 behind_lines (behinds.Findings findings) t =
-    both_lines (count_line (codes "check ") (length findings)) (findings_lines findings) (inr (at_end _)) (all_lines finding_line findings (λ finding. inr (finding_ends finding)))
-behind_lines (behinds.Sent count refused) t = inr (behind (part (codes "sent ") count) _ (at_end (refused_text (count + 1) refused)))
+    both_lines (count_line (codes "check ") (length findings)) (findings_lines findings) (inr (at_end _)) (findings_are_lines findings)
+behind_lines (behinds.Sent count refused) t = inr (sent_ends count refused)
 
 -- The reply line, and the text behind it.
 pub response_lines : (line : ℕ) (response : Response) (t : TableValue) → AreLines (response_text line response t)

@@ -6,7 +6,6 @@ pub mod Fetch
 pub mod Given
 pub mod Groups
 pub mod Limits
-pub mod LineEnds
 pub mod Load
 pub mod Looks
 pub mod Needs

@@ -4,6 +4,7 @@
 //! `send_behind`; its lines in `specs/Looks.antt` say the same. A text of a line or two is written here.
 ghost use Rattle.std.specs.Prelude.{◌≡◌, IfOk, OnOk, OnErr};
 ghost use Rattle.std.specs.Io.KnownBytes.{Appends};
+ghost use Rattle.osm_outside.specs.Lines.{CutsNoLine};
 ghost use Rattle.osm_outside.specs.Outside.{AppendsFront};
 ghost use Rattle.edit_script.specs.Order.{IsMeant};
 ghost use Rattle.edit_script.specs.declared.step.Act.TheVariants as acts;
@@ -86,6 +87,7 @@ pub fn send_behind<K: Sink>(
     requires { IsSized behind.now }
     ensures ok { OnOk result (Appends (K.taken out.old) (K.taken out.new) (behind_text behind.now ds.now)) }
     ensures err { OnErr result (AppendsFront (K.taken out.old) (K.taken out.new) (behind_text behind.now ds.now)) }
+    ensures lines { CutsNoLine Stop.WriteFault (K.taken out.old) (K.taken out.new) result }
     ensures cause { WriteCause (K.faults out.old) (K.faults out.new) result }
 {
     match behind {

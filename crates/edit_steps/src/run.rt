@@ -2,6 +2,7 @@
 ghost use Rattle.std.specs.Prelude.{◌≡◌, ◌++◌, false, OnOk, OnErr, IsErrOf};
 ghost use Rattle.std.specs.Io.KnownBytes.{Appends};
 ghost use Rattle.osm_outside.specs.Noted.{note_of};
+ghost use Rattle.osm_outside.specs.Lines.{CutsNoLine};
 ghost use Rattle.osm_outside.specs.Outside.{AppendsFront};
 ghost use Rattle.edit_script.specs.Order.{IsOrderly};
 ghost use Rattle.edit_steps.specs.Asked.{MayTake, MayRunAll};
@@ -46,6 +47,7 @@ pub fn run_steps<S: Shelf, K: Sink>(
     requires orderly { IsOrderly false steps.now }
     ensures told { S.told shelf.new ≡ S.told shelf.old }
     ensures ran { StepsRan limits (S.told shelf.old) (K.taken out.old) (K.taken out.new) (S.noted shelf.old) (S.noted shelf.new) result steps.now }
+    ensures lines { CutsNoLine Stop.WriteFault (K.taken out.old) (K.taken out.new) result }
     ensures cause { StopCause (S.faults shelf.old) (S.faults shelf.new) (K.faults out.old) (K.faults out.new) result }
 {
     for step in steps {
@@ -70,6 +72,7 @@ fn run_next<S: Shelf, K: Sink>(
     ensures noted { S.noted shelf.new ≡ S.noted shelf.old ++ note_of (begins_in (shown (λ b. done (b.vtable, b.value)) (λ b. undone (b.vtable, b.value)) history.old).group step.now.act) (K.taken out.old) }
     // and a read that fails leaves the sink as it was.
     ensures unwritten { IsErrOf result Stop.ReadFault → out.new ≡ out.old }
+    ensures lines { CutsNoLine Stop.WriteFault (K.taken out.old) (K.taken out.new) result }
     ensures cause { StopCause (S.faults shelf.old) (S.faults shelf.new) (K.faults out.old) (K.faults out.new) result }
 {
     history.ds().sound();
@@ -91,6 +94,7 @@ fn run_step<K: Sink>(
     requires fits { Fits (λ b. done (b.vtable, b.value)) (λ b. undone (b.vtable, b.value)) (λ b. kind (b.vtable, b.value)) history.old (MayTake step.now.act) }
     requires found { MayFind step.now.act found.now }
     ensures plays { Plays (λ b. done (b.vtable, b.value)) (λ b. undone (b.vtable, b.value)) (λ b. kind (b.vtable, b.value)) history.old history.new (K.taken out.old) (K.taken out.new) result step.now.line (turn limits found.now step.now.act) }
+    ensures lines { CutsNoLine Stop.WriteFault (K.taken out.old) (K.taken out.new) result }
     ensures cause { WriteCause (K.faults out.old) (K.faults out.new) result }
 {
     let response = take_turn(alloc, limits, history, &step.act, found)?;
@@ -114,6 +118,7 @@ pub fn send_response<K: Sink>(
     requires { IsSized response.now.behind }
     ensures ok { OnOk result (Appends (K.taken out.old) (K.taken out.new) (response_text line response.now ds.now)) }
     ensures err { OnErr result (AppendsFront (K.taken out.old) (K.taken out.new) (response_text line response.now ds.now)) }
+    ensures lines { CutsNoLine Stop.WriteFault (K.taken out.old) (K.taken out.new) result }
     ensures cause { WriteCause (K.faults out.old) (K.faults out.new) result }
 {
     send_reply(alloc, out, line, &response.reply)?;

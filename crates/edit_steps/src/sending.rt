@@ -1,6 +1,7 @@
 //! Text that goes to the sink.
 ghost use Rattle.std.specs.Prelude.{◌≡◌, ◌++◌, ◌≤◌, OnOk, OnErr, flat_map};
 ghost use Rattle.std.specs.Io.KnownBytes.{Appends};
+ghost use Rattle.osm_outside.specs.Lines.{AreLines, CutsNoLine};
 ghost use Rattle.osm_outside.specs.Outside.{AppendsFront};
 ghost use Rattle.osm_base.specs.Extends.{Extends};
 ghost use Rattle.osm_base.specs.Meta.{empty_meta};
@@ -35,6 +36,7 @@ use upload_order::{Changes, WorldRefusal};
 fn put<K: Sink>(out: &mut K, text: &[u8]) -> Result<(), Stop>
     ensures ok { OnOk result (Appends (K.taken out.old) (K.taken out.new) text.now) }
     ensures err { OnErr result (AppendsFront (K.taken out.old) (K.taken out.new) text.now) }
+    ensures lines { AreLines text.now → CutsNoLine Stop.WriteFault (K.taken out.old) (K.taken out.new) result }
     ensures cause { WriteCause (K.faults out.old) (K.faults out.new) result }
 {
     match out.put(text) {
@@ -55,6 +57,7 @@ pub fn send_reply<K: Sink>(
 ) -> Result<(), Stop>
     ensures ok { OnOk result (Appends (K.taken out.old) (K.taken out.new) (reply_line line reply.now)) }
     ensures err { OnErr result (AppendsFront (K.taken out.old) (K.taken out.new) (reply_line line reply.now)) }
+    ensures lines { CutsNoLine Stop.WriteFault (K.taken out.old) (K.taken out.new) result }
     ensures cause { WriteCause (K.faults out.old) (K.faults out.new) result }
 {
     let mut text = Vec::new(alloc);
@@ -69,6 +72,7 @@ pub fn send_reply<K: Sink>(
 pub fn send_count<K: Sink>(alloc: Global, out: &mut K, ds: &DataSet) -> Result<(), Stop>
     ensures ok { OnOk result (Appends (K.taken out.old) (K.taken out.new) (count_text ds.now)) }
     ensures err { OnErr result (AppendsFront (K.taken out.old) (K.taken out.new) (count_text ds.now)) }
+    ensures lines { CutsNoLine Stop.WriteFault (K.taken out.old) (K.taken out.new) result }
     ensures cause { WriteCause (K.faults out.old) (K.faults out.new) result }
 {
     let mut text = Vec::new(alloc);
@@ -83,6 +87,7 @@ pub fn send_count<K: Sink>(alloc: Global, out: &mut K, ds: &DataSet) -> Result<(
 pub fn send_table<K: Sink>(alloc: Global, out: &mut K, ds: &DataSet) -> Result<(), Stop>
     ensures ok { OnOk result (Appends (K.taken out.old) (K.taken out.new) (table_text ds.now)) }
     ensures err { OnErr result (AppendsFront (K.taken out.old) (K.taken out.new) (table_text ds.now)) }
+    ensures lines { CutsNoLine Stop.WriteFault (K.taken out.old) (K.taken out.new) result }
     ensures cause { WriteCause (K.faults out.old) (K.faults out.new) result }
 {
     let keys = ds.ordered()?;
@@ -96,6 +101,7 @@ pub fn send_table<K: Sink>(alloc: Global, out: &mut K, ds: &DataSet) -> Result<(
 pub fn send_conflicts<K: Sink>(alloc: Global, out: &mut K, ds: &DataSet) -> Result<(), Stop>
     ensures ok { OnOk result (Appends (K.taken out.old) (K.taken out.new) (conflicts_text ds.now)) }
     ensures err { OnErr result (AppendsFront (K.taken out.old) (K.taken out.new) (conflicts_text ds.now)) }
+    ensures lines { CutsNoLine Stop.WriteFault (K.taken out.old) (K.taken out.new) result }
     ensures cause { WriteCause (K.faults out.old) (K.faults out.new) result }
 {
     let keys = conflicts(ds)?;
@@ -110,6 +116,7 @@ pub fn send_conflicts<K: Sink>(alloc: Global, out: &mut K, ds: &DataSet) -> Resu
 pub fn send_saved<K: Sink>(alloc: Global, out: &mut K, ds: &DataSet) -> Result<(), Stop>
     ensures ok { OnOk result (Appends (K.taken out.old) (K.taken out.new) (saved ds.now)) }
     ensures err { OnErr result (AppendsFront (K.taken out.old) (K.taken out.new) (saved ds.now)) }
+    ensures lines { CutsNoLine Stop.WriteFault (K.taken out.old) (K.taken out.new) result }
     ensures cause { WriteCause (K.faults out.old) (K.faults out.new) result }
 {
     send_saved_head(alloc, out, ds)?;
@@ -119,6 +126,7 @@ pub fn send_saved<K: Sink>(alloc: Global, out: &mut K, ds: &DataSet) -> Result<(
 fn send_saved_head<K: Sink>(alloc: Global, out: &mut K, ds: &DataSet) -> Result<(), Stop>
     ensures ok { OnOk result (Appends (K.taken out.old) (K.taken out.new) (saved_head ds.now.next)) }
     ensures err { OnErr result (AppendsFront (K.taken out.old) (K.taken out.new) (saved_head ds.now.next)) }
+    ensures lines { CutsNoLine Stop.WriteFault (K.taken out.old) (K.taken out.new) result }
     ensures cause { WriteCause (K.faults out.old) (K.faults out.new) result }
 {
     let mut text = Vec::new(alloc);
@@ -130,6 +138,7 @@ fn send_saved_head<K: Sink>(alloc: Global, out: &mut K, ds: &DataSet) -> Result<
 fn send_saved_rest<K: Sink>(alloc: Global, out: &mut K, ds: &DataSet) -> Result<(), Stop>
     ensures ok { OnOk result (Appends (K.taken out.old) (K.taken out.new) (saved_rest ds.now)) }
     ensures err { OnErr result (AppendsFront (K.taken out.old) (K.taken out.new) (saved_rest ds.now)) }
+    ensures lines { CutsNoLine Stop.WriteFault (K.taken out.old) (K.taken out.new) result }
     ensures cause { WriteCause (K.faults out.old) (K.faults out.new) result }
 {
     let keys = ds.ordered()?;
@@ -140,6 +149,7 @@ fn send_saved_rest<K: Sink>(alloc: Global, out: &mut K, ds: &DataSet) -> Result<
 fn send_saved_end<K: Sink>(alloc: Global, out: &mut K) -> Result<(), Stop>
     ensures ok { OnOk result (Appends (K.taken out.old) (K.taken out.new) saved_end) }
     ensures err { OnErr result (AppendsFront (K.taken out.old) (K.taken out.new) saved_end) }
+    ensures lines { CutsNoLine Stop.WriteFault (K.taken out.old) (K.taken out.new) result }
     ensures cause { WriteCause (K.faults out.old) (K.faults out.new) result }
 {
     let mut text = Vec::new(alloc);
@@ -192,6 +202,7 @@ fn send_lines<K: Sink>(
 ) -> Result<(), Stop>
     ensures ok { OnOk result (Appends (K.taken out.old) (K.taken out.new) (flat_map (lines_of lines ds.now) keys.now)) }
     ensures err { OnErr result (AppendsFront (K.taken out.old) (K.taken out.new) (flat_map (lines_of lines ds.now) keys.now)) }
+    ensures lines { CutsNoLine Stop.WriteFault (K.taken out.old) (K.taken out.new) result }
     ensures cause { WriteCause (K.faults out.old) (K.faults out.new) result }
 {
     let unknown = Meta::empty(alloc)?;
@@ -216,6 +227,7 @@ pub fn send_changes<K: Sink>(out: &mut K, changes: &Changes, size: u32) -> Resul
     requires { (1 ≤ size) × (size ≤ 10000) }
     ensures ok { OnOk result (Appends (K.taken out.old) (K.taken out.new) (chunks changes.now size)) }
     ensures err { OnErr result (AppendsFront (K.taken out.old) (K.taken out.new) (chunks changes.now size)) }
+    ensures lines { CutsNoLine Stop.WriteFault (K.taken out.old) (K.taken out.new) result }
     ensures cause { WriteCause (K.faults out.old) (K.faults out.new) result }
 {
     match write_chunks(changes, size, out) {
@@ -232,6 +244,7 @@ pub fn send_changes<K: Sink>(out: &mut K, changes: &Changes, size: u32) -> Resul
 pub fn send_rehearsed<K: Sink>(alloc: Global, out: &mut K, count: u64) -> Result<(), Stop>
     ensures ok { OnOk result (Appends (K.taken out.old) (K.taken out.new) (rehearsed_text count)) }
     ensures err { OnErr result (AppendsFront (K.taken out.old) (K.taken out.new) (rehearsed_text count)) }
+    ensures lines { CutsNoLine Stop.WriteFault (K.taken out.old) (K.taken out.new) result }
     ensures cause { WriteCause (K.faults out.old) (K.faults out.new) result }
 {
     send_count_line(alloc, out, b"rehearse accepted ", count)
@@ -249,6 +262,7 @@ pub fn send_sent<K: Sink>(
 ) -> Result<(), Stop>
     ensures ok { OnOk result (Appends (K.taken out.old) (K.taken out.new) (sent_text count refused)) }
     ensures err { OnErr result (AppendsFront (K.taken out.old) (K.taken out.new) (sent_text count refused)) }
+    ensures lines { CutsNoLine Stop.WriteFault (K.taken out.old) (K.taken out.new) result }
     ensures cause { WriteCause (K.faults out.old) (K.faults out.new) result }
 {
     let mut text = Vec::new(alloc);
@@ -268,6 +282,7 @@ pub fn send_count_line<K: Sink>(
 ) -> Result<(), Stop>
     ensures ok { OnOk result (Appends (K.taken out.old) (K.taken out.new) (count_line name.now count)) }
     ensures err { OnErr result (AppendsFront (K.taken out.old) (K.taken out.new) (count_line name.now count)) }
+    ensures lines { CutsNoLine Stop.WriteFault (K.taken out.old) (K.taken out.new) result }
     ensures cause { WriteCause (K.faults out.old) (K.faults out.new) result }
 {
     let mut text = Vec::new(alloc);
@@ -288,6 +303,7 @@ pub fn send_found<K: Sink>(
 ) -> Result<(), Stop>
     ensures ok { OnOk result (Appends (K.taken out.old) (K.taken out.new) (found_text keys.now)) }
     ensures err { OnErr result (AppendsFront (K.taken out.old) (K.taken out.new) (found_text keys.now)) }
+    ensures lines { CutsNoLine Stop.WriteFault (K.taken out.old) (K.taken out.new) result }
     ensures cause { WriteCause (K.faults out.old) (K.faults out.new) result }
 {
     send_count_line(alloc, out, b"found ", keys.len() as u64)?;
@@ -302,6 +318,7 @@ pub fn send_found<K: Sink>(
 pub fn send_findings<K: Sink>(alloc: Global, out: &mut K, findings: &Findings) -> Result<(), Stop>
     ensures ok { OnOk result (Appends (K.taken out.old) (K.taken out.new) (findings_text findings.now)) }
     ensures err { OnErr result (AppendsFront (K.taken out.old) (K.taken out.new) (findings_text findings.now)) }
+    ensures lines { CutsNoLine Stop.WriteFault (K.taken out.old) (K.taken out.new) result }
     ensures cause { WriteCause (K.faults out.old) (K.faults out.new) result }
 {
     send_count_line(alloc, out, b"check ", findings.len() as u64)?;
@@ -311,6 +328,7 @@ pub fn send_findings<K: Sink>(alloc: Global, out: &mut K, findings: &Findings) -
 fn send_finding_lines<K: Sink>(alloc: Global, out: &mut K, findings: &Findings) -> Result<(), Stop>
     ensures ok { OnOk result (Appends (K.taken out.old) (K.taken out.new) (findings_lines findings.now)) }
     ensures err { OnErr result (AppendsFront (K.taken out.old) (K.taken out.new) (findings_lines findings.now)) }
+    ensures lines { CutsNoLine Stop.WriteFault (K.taken out.old) (K.taken out.new) result }
     ensures cause { WriteCause (K.faults out.old) (K.faults out.new) result }
 {
     let mut text = Vec::new(alloc);

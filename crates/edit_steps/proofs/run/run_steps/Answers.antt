@@ -12,6 +12,7 @@ loop-step-init g c = record {
   valid = c.requires.fits.valid;
   orderly = orderly_first c.args.steps.now _ c.requires.fits.asked.first c.requires.orderly;
   there = record { editor = 1; some = omega arith; none = c.requires.fits.asked.there };
+  lines = λ told. told;
   goes = steps_start c.args.limits _ _ _ c.args.steps.now _ c.requires.fits.asked.first;
 }
 
@@ -39,6 +40,7 @@ loop-step-preserved g c =
       told = next.told ∙ before.told;
       read_quiet = next.cause.read_quiet (λ e. cc) ∙ before.read_quiet;
       write_quiet = next.cause.write_quiet (λ e. cc) ∙ before.write_quiet;
+      lines = λ told. next.lines.lines (λ e. cc) (before.lines told);
       valid = runs.plays.valid;
       orderly = orderly_on c.args.limits runs.found c.step-item.result.act _ _ (drop (c.loop-step.step-index + 1) c.args.steps.now) here.1 runs.plays.state here.2;
       there = subst (λ verbs. NoneMissing verbs (drop (c.loop-step.step-index + 1) c.args.steps.now)) (sym runs.plays.verbs) tools.1;
@@ -54,3 +56,11 @@ returns-in_err-run_next-clause-ran g c =
 
 pub returns-clause-ran : goal.returns-clause-ran
 returns-clause-ran g c = steps_end c.args.limits _ _ _ _ _ c.loop-step.step-index c.args.steps.now _ c.loop-step.invariant.goes _ (omega arith)
+
+pub returns-in_err-run_next-clause-lines : goal.returns-in_err-run_next-clause-lines
+returns-in_err-run_next-clause-lines g c =
+    let p = err_from_is_err_and c.from_residual.result c.from_residual.ensures.1 in
+    rw p.1 (record { lines = λ quiet told. c.in_err-run_next.ensures.lines.lines (λ is. quiet (search rules)) (c.loop-step.invariant.lines told) })
+
+pub returns-clause-lines : goal.returns-clause-lines
+returns-clause-lines g c = record { lines = λ quiet. c.loop-step.invariant.lines }
