@@ -14,6 +14,9 @@ as hold them, and names each object that may be the same thing:
 | are outlines of the same kind, and the middle of one lies in the other | |
 | are lines of the same kind, with the same ends | 3 m |
 
+Names, streets and places are the same where `conflate` reads them as the same: in any case, with or
+without accents and dots, and with `str.` for `straße`.
+
 What this session edits or deletes is no candidate, since its user knows of it; nor is what the new
 object uses.
 
@@ -34,7 +37,7 @@ from typing import Set, Tuple
 
 from yoke import opl, osc
 from yoke.api import Server
-from yoke.conflate.names import Names
+from yoke.conflate.names import Names, plain
 from yoke.conflate.rules import Rules
 from yoke.day import Day
 from yoke.extracts import boxes, header
@@ -147,17 +150,12 @@ def main_kind(tags: Mapping[str, str]) -> Optional[Tuple[str, str]]:
 
 
 def address(tags: Mapping[str, str]) -> Optional[Tuple[str, str]]:
-    """The house number, and the street or place, in small letters; None where one isn't there."""
+    """The house number, and the street or place, in one spelling; None where one isn't there."""
     number = tags.get('addr:housenumber')
     where = tags.get('addr:street') or tags.get('addr:place')
     if not number or not where:
         return None
-    return plain(number), plain(where)
-
-
-def plain(text: str) -> str:
-    """A text without what people write in several ways."""
-    return ' '.join(text.casefold().split())
+    return ' '.join(number.casefold().split()), plain(where) or where
 
 
 def own_tags(tags: Mapping[str, str]) -> Dict[str, str]:
@@ -177,7 +175,7 @@ def why_same(new: Thing, there: Thing, names: Names) -> str:
         return 'the same address'
     name, other = mine.get('name'), theirs.get('name')
     if far <= NEAR and is_same_kind and name and other:
-        if plain(name) == plain(other):
+        if (plain(name) or name) == (plain(other) or other):
             return 'the same kind and name'
         if far <= ALIKE.within and names.alike(name, other) >= ALIKE.unlike:
             return 'the same kind and a like name'

@@ -56,11 +56,35 @@ class Same(unittest.TestCase):
             '', why_same(new, thing({'shop': 'butcher', 'name': 'Koch'}, (13.0, 52.0)))
         )
 
+    def test_spellings_of_one_address_are_one(self) -> None:
+        new = thing({'addr:housenumber': '7', 'addr:street': 'Hauptstr.'}, (13.0, 52.0))
+        for street, number, is_same in (
+            ('Hauptstraße', '7', True),
+            ('HAUPTSTRASSE', '7', True),
+            ('Hauptstraße', '7/1', False),
+            ('Hauptplatz', '7', False),
+        ):
+            there = {'addr:housenumber': number, 'addr:street': street}
+            why = why_same(new, thing(there, (13.0005, 52.0)))
+            self.assertEqual('the same address' if is_same else '', why, street)
+        one, other = ({'addr:housenumber': '7-1', 'addr:place': sign} for sign in '★☆')
+        self.assertEqual('', why_same(thing(one, (13.0, 52.0)), thing(other, (13.0, 52.0))))
+
+    def test_spellings_of_one_name_are_one(self) -> None:
+        for one, other, is_same in (
+            ('Hauptstr.', 'Hauptstraße', True),
+            ('BACKEREI KOCH', 'Bäckerei Koch', True),
+            ('★', '☆', False),
+        ):
+            new = thing({'highway': 'bus_stop', 'name': one}, (13.0, 52.0))
+            there = thing({'highway': 'bus_stop', 'name': other}, (13.0, 52.0004))
+            self.assertEqual('the same kind and name' if is_same else '', why_same(new, there), one)
+
     def test_like_names(self) -> None:
         new = thing({'shop': 'bakery', 'name': 'BACKEREI KOCH'}, (13.0, 52.0))
         for name, lat, is_same in (
-            ('Bäckerei Koch', 52.0002, True),
-            ('Bäckerei Koch', 52.0004, False),
+            ('Bäckerei Kocher', 52.0002, True),
+            ('Bäckerei Kocher', 52.0004, False),
             ('Bäckerei Lang', 52.0, False),
             ('Bäckerei Kocher', 52.0, True),
         ):
@@ -166,7 +190,7 @@ class Send(ServerTest):
         key = self.server.edit('create', 'n-1', place=('13.5', '52.5'), tags=tags)
         self.assertEqual(Refused.code, self.send())
         self.assertIn(
-            f'n-1 may be {key} Bäckerei Koch: the same kind and a like name, 1 m away', self.out
+            f'n-1 may be {key} Bäckerei Koch: the same kind and name, 1 m away', self.out
         )
 
     def test_unseen_passes(self) -> None:
