@@ -36,6 +36,7 @@ OWN = re.compile('[0-9]+-[a-z-]+\\.(saved|undone)|[0-9]+\\.(osc|answers?|refused
 LAST = 3        # sessions that are kept of those that nothing goes back to any more
 FORGOTTEN = 'forgotten'
 HELD = 'held'
+UNREVERTED = 'unreverted'       # the verb in the name of the session that a revert begins with: by itself it is a revert that was stopped
 PART, WHOLE = 'part', 'whole'   # verbs in the names of sessions: some edits are held back, and they are taken up again
 SENT = ('send', WHOLE)          # verbs whose sessions come after something that the server took
 BACK = 20       # sessions to which `undo` can go back, counted from the last

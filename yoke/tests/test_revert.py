@@ -1,11 +1,15 @@
 """`yoke revert`: what changesets did goes back by the program's merge, and what others did since stays."""
 from __future__ import annotations
 
+import itertools
+import os
+import shutil
 import unittest
 
 from yoke.revert import plan
 from yoke.testing.elements import degrees
 from yoke.testing.server import MAPPER
+from yoke.tests.stops import Stopped, stop_at
 from yoke.tests.support import ServerTest
 from yoke.trouble import Clash, Refused, Usage
 
@@ -258,6 +262,56 @@ class Refusals(RevertTest):
         self.assertEqual(0, self.revert(number))
         self.done('undo')
         self.assertEqual([], [known.key for known in self.session.known().values() if known.edit])
+
+
+class Stops(RevertTest):
+    def left(self) -> tuple[str, ...]:
+        """The verbs of the sessions of the day, the text of the last one, and the script of the rest."""
+        return (*(state.verb for state in self.day.states()), self.day.last().text(), self.day.read('revert-rest.script') or '')
+
+    def test_the_same_command_goes_on_after_a_stop_at_each_step(self) -> None:
+        number = self.changeset(modify('<relation id="1" version="1" changeset="@"/>'), delete('r2v1', 'r1v2'))
+        self.assertEqual(0, self.revert(number), self.out + self.err)
+        whole = self.left()
+        for last in itertools.count(1):
+            shutil.rmtree('day')
+            with stop_at(last) as steps:
+                try:
+                    self.revert(number)
+                    break
+                except Stopped:
+                    pass
+            with self.subTest(at=steps.names[-1]):
+                was_done = [state.verb for state in self.day.states()][1:] == ['revert']
+                self.assertEqual(Refused.code if was_done else 0, self.revert(number), self.out + self.err)
+                self.assertEqual(whole, self.left())
+        self.assertIn('after write 000002-revert.saved.new 000002-revert.saved', steps.names)
+
+    def test_a_stop_while_what_was_left_is_removed(self) -> None:
+        number = self.changeset(modify('<relation id="1" version="1" changeset="@"/>'), delete('r2v1', 'r1v2'))
+        self.assertEqual(0, self.revert(number), self.out + self.err)
+        whole = self.left()
+        os.remove('day/000002-revert.saved')
+        shutil.copytree('day', 'begun')
+        for last in range(1, 7):        # of files that are there: three, with a step before and after each
+            shutil.rmtree('day')
+            shutil.copytree('begun', 'day')
+            with self.subTest(last=last):
+                with stop_at(last) as steps, self.assertRaises(Stopped):
+                    self.revert(number)
+                self.assertIn(' remove ', steps.names[-1] + ' ')
+                self.assertEqual(0, self.revert(number), self.out + self.err)
+                self.assertEqual(whole, self.left())
+
+    def test_what_was_done_there_since_stays(self) -> None:
+        number = self.changeset(modify(node(1, 1, a='2')))
+        self.assertEqual(0, self.revert(number), self.out + self.err)
+        os.remove('day/000002-revert.saved')
+        self.write('steps.script', 'tag n1 Ta=9\n')
+        self.done('do', 'steps.script')
+        self.assertEqual(Refused.code, self.revert(number))
+        self.assertIn('a day has begun', self.err)
+        self.assertEqual('do', self.day.last().verb)
 
 
 class Rings(unittest.TestCase):

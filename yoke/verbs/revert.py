@@ -5,7 +5,7 @@ import argparse
 from collections.abc import Iterable
 
 from yoke import api, results, sides
-from yoke.day import Day
+from yoke.day import UNREVERTED, Day
 from yoke.program import Program
 from yoke.progress import note
 from yoke.revert import history, perform, plan
@@ -20,6 +20,7 @@ own id. Several changesets are taken back together, as one.
 
 Then look: yoke diff, yoke review, yoke conflicts. And send: yoke send. Ends with 4 where something is in conflict, or
 can't go back."""
+REST = 'revert-rest.script'     # a file of the day: the lines of a second upload
 SHOWN = 20      # lines of each list, before the rest is counted
 
 
@@ -41,25 +42,35 @@ def run(arguments: argparse.Namespace) -> int:
     if not day.states():
         start.check_folder(day)
     with day.locked(make=True):
+        _clear(day)
         start.check_folder(day)
         done = history.read(server, numbers, note)
         if not done.objects and not done.left_out:
             raise Refused(f'changeset {", ".join(numbers)}: it has no changes, so there is nothing to take back')
         planned = plan.make(server, done, arguments.users)
         reverted = perform.perform(program, planned)
-        day.keep('start', reverted.before)
+        day.keep(UNREVERTED, reverted.before)
         note_server(day, server)
-        day.keep('revert', reverted.after)
         rest = _write_rest(day, planned)
+        day.keep('revert', reverted.after)      # the last write: without it nothing was taken back
     return show(numbers, done, planned, perform.outcome(done, planned, reverted.after), rest)
+
+
+def _clear(day: Day) -> None:
+    """Removes what a revert left that was stopped before its last write, unless something was done there since."""
+    begun = [state.path.name for state in day.states() if state.verb == UNREVERTED]
+    left = ('server', REST, REST + '.new', *begun)      # the session last: until it is gone the next one knows what this is
+    if begun and {path.name for path in day.folder.iterdir()} <= {'lock', *left}:
+        for name in left:
+            day.remove(name)
 
 
 def _write_rest(day: Day, planned: plan.Plan) -> str:
     """Writes the lines of a second upload, if there are any: the path of the script, else an empty text."""
     if not planned.rest:
         return ''
-    day.write('revert-rest.script', ''.join(line + '\n' for line in planned.rest))
-    return str(day.path('revert-rest.script'))
+    day.write(REST, ''.join(line + '\n' for line in planned.rest))
+    return str(day.path(REST))
 
 
 def show(numbers: list[str], done: history.History, planned: plan.Plan, found: perform.Outcome, rest: str) -> int:

@@ -10,7 +10,7 @@ from typing import Callable, Dict, Optional, Sequence
 
 from yoke import files, fresh, ledger, opl, results, words
 from yoke.program import Program
-from yoke.day import Day, State
+from yoke.day import UNREVERTED, Day, State
 from yoke.progress import note, silent
 from yoke.trouble import Refused, Trouble
 
@@ -18,7 +18,7 @@ SUMMARY = 'begin a day from extracts: OPL, or what osmium reads (PBF, XML, compr
 DETAILS = """Several extracts are downloaded one after the other: the older first, where they are of two days. The day has a folder of its
 own, --day, which is made where it isn't there. With --after what an earlier day imported isn't made again, and conflicts that
 were resolved there stay so."""
-LEFT = ('lock', '000001-start.saved.new', ledger.NAME, ledger.SHARED)       # what a start that came to nothing leaves
+LEFT = ('lock', '000001-start.saved.new', f'000001-{UNREVERTED}.saved.new', ledger.NAME, ledger.SHARED)     # what a start or a revert that came to nothing leaves
 
 
 def add_arguments(parser: argparse.ArgumentParser) -> None:
