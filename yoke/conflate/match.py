@@ -9,7 +9,7 @@ from typing import Dict, List, Mapping, Optional, Sequence, Tuple
 
 from yoke.conflate.names import Names, plain
 from yoke.conflate.rules import Rules
-from yoke.conflate.shapes import Grid, Thing, metres, overlap
+from yoke.conflate.shapes import Grid, Thing, apart, metres, overlap
 from yoke.formats.drawing import NEAR
 
 FAR = 10            # times `within` for an id
@@ -222,9 +222,12 @@ def is_line(thing: Thing) -> bool:
 
 
 def has_same_tags(feature: Thing, other: Thing) -> bool:
-    """Whether two points with the same tags are so near that they are one."""
-    return len(feature.path) == len(other.path) == 1 and feature.tags == other.tags and \
-        metres(feature.middle, other) <= NEAR
+    """Whether two points or lines with the same tags are so near that they are one."""
+    if feature.tags != other.tags:
+        return False
+    if is_line(feature) and is_line(other):
+        return apart(feature.path, other.path) <= NEAR
+    return len(feature.path) == len(other.path) == 1 and metres(feature.middle, other) <= NEAR
 
 
 def decide(rules: Rules, one: Found, wanted: Mapping[str, List[Found]]) -> None:

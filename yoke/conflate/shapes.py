@@ -98,6 +98,26 @@ def overlap(one: Thing, other: Thing, within: float, both: bool = False) -> floa
     return min(shares) if both else max(shares)
 
 
+def apart(one: Sequence[Point], other: Sequence[Point]) -> float:
+    """How many metres two lines are apart at most, in either direction: at their ends, unless both
+    are closed, and at each corner and each middle between two corners of either. Infinite where
+    that is more than a quarter of one of them: such short lines may follow each other.
+    """
+    first, second = local(one, one[0]), local(other, one[0])
+    ends = 0.0 if one[0] == one[-1] and other[0] == other[-1] else min(
+        max(math.dist(first[0], begin), math.dist(first[-1], end))
+        for begin, end in ((second[0], second[-1]), (second[-1], second[0])))
+    found = max(ends, _farthest(first, second), _farthest(second, first))
+    shorter = min(sum(map(math.dist, line, line[1:])) for line in (first, second))
+    return found if found <= shorter / 4 else math.inf
+
+
+def _farthest(line: Sequence[Point], other: Sequence[Point]) -> float:
+    """How far the corners of a line, and the middles between them, are from another line at most."""
+    middles = [((ax + bx) / 2, (ay + by) / 2) for (ax, ay), (bx, by) in zip(line, line[1:])]
+    return max(from_origin([(x - px, y - py) for x, y in other], False) for px, py in [*line, *middles])
+
+
 def of_outlines(first: Sequence[Point], second: Sequence[Point]) -> float:
     """The intersection of two outlines by their union."""
     library = shapely()

@@ -22,6 +22,7 @@ from decimal import Decimal
 from typing import Any, Callable, Dict, Iterator, List, Mapping as MappingOf, Optional, Tuple
 
 from yoke import opl
+from yoke.conflate.shapes import apart
 from yoke.formats.features import Feature
 from yoke.formats.mapping import Left, Mapping
 from yoke.table import Table
@@ -347,27 +348,54 @@ class Near:
 
 
 class Earlier:
-    """Points and areas of a file by where they lie, with their tags: what has the same tags a metre away is the same.
+    """Features of a file by where they lie, with their tags: what has the same tags a metre away is the same.
 
-    Two areas in one box may lie side by side in it, as two triangles, so the middle of their corners has to agree too.
+    Two areas in one box may lie side by side in it, as two triangles, so the middle of their corners has to agree too. Of lines
+    each place of one has to lie by the other.
     """
 
     def __init__(self) -> None:
         self.cells: Dict[Tuple[str, Tags, Place], List[Tuple[Frame, str]]] = defaultdict(list)
+        self.lines: Dict[Tuple[Tags, Place], List[Tuple[Box, List[Place], str]]] = defaultdict(list)
 
     def add(self, kind: str, shape: Any, tags: MappingOf[str, str], where: str) -> None:
         """Adds a feature; `where` says where it stands in the file."""
+        same = tuple(sorted(tags.items()))
+        for line in _lines_of(kind, shape):
+            box = box_round(line)
+            self.lines[same, _cell(box)].append((box, line, where))
         if kind in ('Point', 'Polygon'):
             frame = _frame(shape)
-            self.cells[kind, tuple(sorted(tags.items())), _cell(frame)].append((frame, where))
+            self.cells[kind, same, _cell(frame)].append((frame, where))
 
     def find(self, kind: str, shape: Any, tags: MappingOf[str, str]) -> Optional[Tuple[float, str]]:
-        """How many metres away a feature with these tags is, a metre at most, and where it stands."""
+        """How many metres away a feature with these tags is, a metre at most, and where it stands; of several lines the
+        farthest, if each of them has one.
+        """
+        same = tuple(sorted(tags.items()))
         if kind not in ('Point', 'Polygon'):
-            return None
-        frame, same = _frame(shape), tuple(sorted(tags.items()))
+            doubles = [self._line(line, same) for line in _lines_of(kind, shape)]
+            return max((one for one in doubles if one), default=None) if all(doubles) else None
+        frame = _frame(shape)
         found = ((_away(frame, other), where) for cell in _cells(frame) for other, where in self.cells.get((kind, same, cell), ()))
         return min((one for one in found if one[0] <= NEAR), default=None)
+
+
+    def _line(self, line: List[Place], same: Tags) -> Optional[Tuple[float, str]]:
+        """How many metres away a line with these tags is, a metre at most, and where it stands."""
+        box, path = box_round(line), _in_degrees(line)
+        near = (one for cell in _cells(box) for one in self.lines.get((same, cell), ()) if _away(box, one[0]) <= NEAR)
+        found = ((apart(path, _in_degrees(other)), where) for _, other, where in near)
+        return min((one for one in found if one[0] <= NEAR), default=None)
+
+
+def _lines_of(kind: str, shape: Any) -> List[List[Place]]:
+    """The lines of a geometry; none where it is a point or an area."""
+    return {'LineString': [shape], 'MultiLineString': shape}.get(kind, [])
+
+
+def _in_degrees(line: List[Place]) -> List[Tuple[float, float]]:
+    return [(lon / UNITS, lat / UNITS) for lon, lat in line]
 
 
 def _frame(shape: Any) -> Frame:

@@ -274,6 +274,17 @@ class Verb(ConflateTest):
         self.assertEqual(0, self.yoke('conflate', 'l.geojson', '--rules', 'c.rules', '--to', 'c', '--columns', 'highway,name'), self.err)
         self.assertEqual({'same': 1}, self.kinds())
 
+    def test_two_lines_of_a_file_a_metre_apart_are_ambiguous(self):
+        line = [[13.012, 52.001], [13.0125, 52.0014], [13.013, 52.001]]
+        back = [[lon, lat + 0.000002] for lon, lat in reversed(line)]
+        onward = [line[-1], [13.0135, 52.0014], [13.014, 52.001]]
+        for tags in ({'highway': 'path'}, {'highway': 'path', 'name': 'Waldweg'}):
+            found = [{'type': 'Feature', 'properties': tags, 'geometry': {'type': 'LineString', 'coordinates': one}} for one in (line, back, onward)]
+            text = json.dumps({'type': 'FeatureCollection', 'features': found})
+            self.assertEqual(0, self.conflate(text, '--columns', ','.join(tags), name='in.geojson'), self.err)
+            self.assertEqual({'ambiguous': 2, 'new': 1}, self.kinds())
+            self.assertEqual([('feature 1', 'feature 2'), ('feature 2', 'feature 1')], [(row['feature'], row['candidate']) for row in self.rows()])
+
     def test_no_file_of_another_program_is_written_over(self):
         for ending in outputs.ENDINGS:
             self.write('c' + ending, 'mine')

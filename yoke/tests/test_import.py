@@ -150,6 +150,27 @@ class GeoJson(unittest.TestCase):
         picture = drawn(features.read_geojson(geojson(*(shape('Polygon', [one]) for one in (ring, moved, beside)))), earlier=drawing.Earlier())
         self.assertEqual(picture.left, [('feature 2', 'it is the same as feature 1, 0.11 m away')])
 
+    def test_a_line_a_metre_away_with_the_same_tags_comes_once(self):
+        line = [[13, 52], [13.001, 52.001], [13.002, 52]]
+        back = [[lon, lat + 0.000002] for lon, lat in reversed(line)]
+        finer = [[13, 52], [13.0005, 52.0005], [13.001, 52.001], [13.0015, 52.000501], [13.002, 52]]
+        others = ([[13, 52], [13.002, 52]], line[:2], line[1:] + [[13, 52]], [[lon, lat + 0.00002] for lon, lat in line])
+        picture = drawn(features.read_geojson(geojson(*(shape('LineString', one) for one in (line, back, finer, *others)))), earlier=drawing.Earlier())
+        self.assertEqual([('feature 2', 'it is the same as feature 1, 0.22 m away'), ('feature 3', 'it is the same as feature 1, 0.06 m away')], picture.left)
+        other = features.read_geojson(geojson(shape('LineString', line), x='1')) + features.read_geojson(geojson(shape('LineString', back), x='2'))
+        self.assertEqual([], drawn(other, earlier=drawing.Earlier()).left)
+
+    def test_lines_of_several_parts_a_metre_away_come_once(self):
+        one, two = [[13, 52], [13.001, 52.001]], [[13.002, 52], [13.003, 52]]
+        moved, far = ([[lon, lat + by] for lon, lat in two] for by in (0.000002, 0.0001))
+        found = features.read_geojson(geojson(*(shape('MultiLineString', lines) for lines in ([one, two], [one, moved], [one, far]))))
+        self.assertEqual([('feature 2', 'it is the same as feature 1, 0.22 m away')], drawn(found, earlier=drawing.Earlier()).left)
+
+    def test_short_pieces_of_a_line_are_no_doubles(self):
+        places = [[13 + at * 0.00001, 52] for at in range(4)]        # 0.7 m apart
+        pieces = [shape('LineString', places[at:at + 2]) for at in range(3)]
+        self.assertEqual([], drawn(features.read_geojson(geojson(*pieces)), earlier=drawing.Earlier()).left)
+
     def test_corners_that_the_session_has(self):
         picture = drawn(features.read_geojson(geojson(shape('LineString', [[1, 1], [2, 2]]), shape('LineString', [[1, 1], [3, 3]]))), nodes_there={(10 ** 7, 10 ** 7): 'n5'})
         self.assertEqual(list(picture.lines()), ['n-1 T x2 y2', 'n-3 T x3 y3', 'w-2 Ta=b Nn5,n-1', 'w-4 Ta=b Nn5,n-3'])
