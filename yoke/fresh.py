@@ -155,7 +155,7 @@ def address(tags: Mapping[str, str]) -> Optional[Tuple[str, str]]:
     where = tags.get('addr:street') or tags.get('addr:place')
     if not number or not where:
         return None
-    return ' '.join(number.casefold().split()), plain(where) or where
+    return ' '.join(number.casefold().split()), plain(where)
 
 
 def own_tags(tags: Mapping[str, str]) -> Dict[str, str]:
@@ -175,7 +175,7 @@ def why_same(new: Thing, there: Thing, names: Names) -> str:
         return 'the same address'
     name, other = mine.get('name'), theirs.get('name')
     if far <= NEAR and is_same_kind and name and other:
-        if (plain(name) or name) == (plain(other) or other):
+        if plain(name) == plain(other):
             return 'the same kind and name'
         if far <= ALIKE.within and names.alike(name, other) >= ALIKE.unlike:
             return 'the same kind and a like name'

@@ -13,10 +13,12 @@ LEAST_ALIKE = 0.4       # words less alike than this have nothing in common
 
 @lru_cache(maxsize=200_000)
 def plain(text: str) -> str:
-    """A text without case, accents and punctuation, and with one form of the German word street."""
+    """A text without case, accents and punctuation, and with one form of the German word street. A
+    text of nothing but signs has these.
+    """
     letters = unicodedata.normalize('NFKD', text.casefold())
     text = ''.join(sign for sign in letters if not unicodedata.combining(sign))
-    return PUNCTUATION.sub(' ', STREET.sub('str', text)).strip()
+    return PUNCTUATION.sub(' ', STREET.sub('str', text)).strip() or text.strip()
 
 
 @lru_cache(maxsize=200_000)

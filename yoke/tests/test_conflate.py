@@ -383,6 +383,10 @@ class Parts(unittest.TestCase):
         self.assertGreater(found.alike('Bäckerei Koch', 'Koch'), found.alike('Bäckerei Koch', 'Bäckerei'))
         self.assertEqual(1, found.alike('Hauptstr.', 'HAUPTSTRASSE'))
 
+    def test_names_of_signs_alone_are_told_apart(self):
+        found = names.Names(['★', '☆'])
+        self.assertEqual([0, 1], [found.alike('★', '☆'), found.alike('★', ' ★ ')])
+
     @given(strategies.floats(-1.5, 1.5), strategies.floats(-1.5, 1.5))
     @settings(max_examples=100, deadline=None)
     def test_the_raster_is_near_the_truth(self, x, y):
