@@ -1,4 +1,6 @@
-"""What pyproject.toml can't say: tests stay out, and a wheel that carries the program is for one platform."""
+"""What pyproject.toml can't say: tests stay out, and a wheel that carries the program is for one
+platform.
+"""
 from __future__ import annotations
 
 import pathlib

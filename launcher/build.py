@@ -1,4 +1,6 @@
-"""Proves the crates that the program needs, by rattle's own words, and builds the program from what was proved."""
+"""Proves the crates that the program needs, by rattle's own words, and builds the program from what
+was proved.
+"""
 import os
 import shutil
 import subprocess
@@ -16,14 +18,17 @@ PROGRAM = 'editor'
 DISK_OF_LINE, DISK_OF_WORK = 80e3, 0.5e9
 # With fewer bytes of free disk than these a proof that ended badly most likely had no room.
 FULL = 0.1e9
-# Of the free memory, what proofs side by side may take, and the most bytes that they are planned for. They take a fifth less,
-# since they don't all need most at once. With less, proofs that the top waits for begin late: by the seconds of a whole build played
-# through, 7 GB end three minutes later on four processors, and more than 8.5 end no sooner.
+# Of the free memory, what proofs side by side may take, and the most bytes that they are planned
+# for. They take a fifth less, since they don't all need most at once. With less, proofs that the
+# top waits for begin late: by the seconds of a whole build played through, 7 GB end three minutes
+# later on four processors, and more than 8.5 end no sooner.
 PART_OF_MEMORY, MOST_MEMORY = 0.85, 8.5e9
-# Reckoned seconds that count as if they had been held against the clock, so that one small proof doesn't turn the time that
-# is told; and seconds after which something is said though nothing ended.
+# Reckoned seconds that count as if they had been held against the clock, so that one small proof
+# doesn't turn the time that is told; and seconds after which something is said though nothing
+# ended.
 PRIOR, SILENCE = 300.0, 120.0
-# The part of what a proof has taken that it is taken to need still, where it takes longer than reckoned.
+# The part of what a proof has taken that it is taken to need still, where it takes longer than
+# reckoned.
 MORE = 0.15
 EACH_LOOK = 0.5
 
@@ -135,7 +140,9 @@ class Build:
             self.store.clear('part', 'tmp')
 
     def take_kept(self):
-        """Takes what an earlier run proved of the same text by the same toolkit, and removes all else that it left."""
+        """Takes what an earlier run proved of the same text by the same toolkit, and removes all
+        else that it left.
+        """
         if self.store.names():
             say('looking at what an earlier build proved')
         for name in self.store.names():
@@ -190,7 +197,7 @@ class Build:
         say(
             'proving {}{} and building the program, with {}: {}'.format(
                 count(left, 'crate'),
-                ' ({} proved already)'.format(kept) if kept else '',
+                f' ({kept} proved already)' if kept else '',
                 count(self.jobs, 'processor'),
                 minutes(self.seconds_left()),
             )
@@ -233,7 +240,7 @@ class Build:
             start.nice,
         )
         self.running.append(Proof(start, process, text, time.monotonic(), free))
-        self.note('begun: {}, jobs {}, nice {}\n'.format(start.name, start.jobs, start.nice))
+        self.note(f'begun: {start.name}, jobs {start.jobs}, nice {start.nice}\n')
         return True
 
     def folder_of(self, name):
@@ -241,8 +248,9 @@ class Build:
         return os.path.join(self.home, 'crates', name)
 
     def left_of_running(self):
-        """The proofs that run, with what is left of each as far as its reckoned time tells. One that takes longer than that is
-        taken to need some more."""
+        """The proofs that run, with what is left of each as far as its reckoned time tells. One
+        that takes longer than that is taken to need some more.
+        """
         pace = self.pace()
         found = []
         for it in self.running:
@@ -255,7 +263,9 @@ class Build:
         return found
 
     def pace(self):
-        """How many seconds a reckoned second takes here, as far as the proofs tell that ended or take longer than reckoned."""
+        """How many seconds a reckoned second takes here, as far as the proofs tell that ended or
+        take longer than reckoned.
+        """
         taken, reckoned = self.taken, self.reckoned
         for it in self.running:
             so_far, whole = RATES[it.start.jobs] * it.seconds, self.schedule.seconds[it.start.name]
@@ -288,15 +298,13 @@ class Build:
         self.proved.add(name)
         self.reckoned += self.schedule.seconds[name]
         self.taken += proof.seconds * RATES[proof.start.jobs]
-        left = (
-            ', {} left'.format(minutes(self.seconds_left()))
-            if self.waiting() or self.running
-            else ''
-        )
-        self.tell('{} of {} proved{}: {}'.format(len(self.proved), len(self.crates), left, name))
+        left = f', {minutes(self.seconds_left())} left' if self.waiting() or self.running else ''
+        self.tell(f'{len(self.proved)} of {len(self.crates)} proved{left}: {name}')
 
     def hold_to_verdict(self, proof):
-        """Keeps a crate's result where all of it is proved and its text is what it was; else ends the build."""
+        """Keeps a crate's result where all of it is proved and its text is what it was; else ends
+        the build.
+        """
         name, log = proof.start.name, self.store.log(proof.start.name)
         crate = self.crates[name]
         with open(log, encoding='utf-8', errors='replace') as file:
@@ -374,7 +382,9 @@ class Build:
             )
 
     def keep(self, part):
-        """Keeps the program with its record, and removes the libraries, unless they are wanted: its path."""
+        """Keeps the program with its record, and removes the libraries, unless they are wanted: its
+        path.
+        """
         if keys.of_texts(self.home, self.crates) != self.texts:
             raise Stop('the sources changed while the program was built: run ./editor again')
         path = keep_program(
@@ -383,7 +393,7 @@ class Build:
         if not self.wishes.keeps:
             for name in self.store.names():
                 self.store.forget(name)
-        say('proved and built after {}: {}'.format(minutes(time.monotonic() - self.begun), path))
+        say(f'proved and built after {minutes(time.monotonic() - self.begun)}: {path}')
         return path
 
     # ---- what is told ----
@@ -408,7 +418,7 @@ class Build:
         """Writes to the build's log."""
         seconds = int(time.monotonic() - self.begun)
         with open(self.store.log('build.log'), 'a', encoding='utf-8') as log:
-            log.write('{:3}:{:02} {}'.format(seconds // 60, seconds % 60, text))
+            log.write(f'{seconds // 60:3}:{seconds % 60:02} {text}')
 
     def table(self):
         """What each proof took, and what all of them took together."""
@@ -426,11 +436,11 @@ class Build:
                     it.start.name,
                     crate.lines if crate else '',
                     it.start.jobs,
-                    '{:.1f}'.format(it.seconds / 60),
-                    '{:.0f} s'.format(it.worked),
+                    f'{it.seconds / 60:.1f}',
+                    f'{it.worked:.0f} s',
                     gigabytes(1024 * it.used.ru_maxrss),
                     gigabytes(it.peak) if it.peak else '-',
-                    ' stopped by signal {}'.format(it.signal) if it.signal else '',
+                    f' stopped by signal {it.signal}' if it.signal else '',
                 )
             )
         lines.append(
@@ -438,8 +448,8 @@ class Build:
                 'all',
                 sum(it.lines for it in self.crates.values()),
                 '',
-                '{:.1f}'.format((time.monotonic() - self.begun) / 60),
-                '{:.0f} s'.format(sum(it.worked for it in self.rows if it.used)),
+                f'{(time.monotonic() - self.begun) / 60:.1f}',
+                f'{sum(it.worked for it in self.rows if it.used):.0f} s',
                 '',
                 '',
                 '',
@@ -451,7 +461,9 @@ class Build:
 
 
 def keep_program(home, store, toolkit, texts, part, key, how):
-    """Keeps a built program in the store, and a copy of it in the checkout for who wants to install it: the kept one's path."""
+    """Keeps a built program in the store, and a copy of it in the checkout for who wants to install
+    it: the kept one's path.
+    """
     record = {
         'key': key,
         'sources': keys.of_sources(texts),
@@ -467,7 +479,9 @@ def keep_program(home, store, toolkit, texts, part, key, how):
 
 
 def copy_to_checkout(home, path, tells=True):
-    """Copies the program into the checkout (crates/editor/out), from where it is installed and measured, if it isn't there."""
+    """Copies the program into the checkout (crates/editor/out), from where it is installed and
+    measured, if it isn't there.
+    """
     to = os.path.join(home, 'crates', PROGRAM, 'out', PROGRAM)
     try:
         if os.path.isfile(to) and keys.of_file(to) == keys.of_file(path):
@@ -486,7 +500,9 @@ def copy_to_checkout(home, path, tells=True):
 
 
 def commit(home):
-    """The commit of the checkout, with "and changes" where files differ from it; '' where there is none."""
+    """The commit of the checkout, with "and changes" where files differ from it; '' where there is
+    none.
+    """
     try:
         words = [
             'git',

@@ -1,4 +1,6 @@
-"""Builds the program by `rt all check` and `rt run`, where the toolkit is another than the one the launcher was made for."""
+"""Builds the program by `rt all check` and `rt run`, where the toolkit is another than the one the
+launcher was made for.
+"""
 import os
 import re
 import time

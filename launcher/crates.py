@@ -9,7 +9,9 @@ PARTS = ('src', 'specs', 'proofs')
 
 @dataclass(frozen=True)
 class Crate:
-    """A crate: its line of crates.txt, the libraries that it names, and those of them that are the repository's."""
+    """A crate: its line of crates.txt, the libraries that it names, and those of them that are the
+    repository's.
+    """
 
     name: str
     line: str
@@ -45,15 +47,17 @@ def listed(text):
                 )
             )
         if words[0] in found:
-            raise Stop('crates.txt lists {} twice'.format(words[0]))
+            raise Stop(f'crates.txt lists {words[0]} twice')
         found[words[0]] = tuple(libraries.split())
     return found
 
 
 def read(home, names):
-    """The crates named and all of the repository that they stand on, by name, each after those below it.
+    """The crates named and all of the repository that they stand on, by name, each after those
+    below it.
 
-    Raises `Stop` where one isn't listed, has no source, or stands on itself."""
+    Raises `Stop` where one isn't listed, has no source, or stands on itself.
+    """
     with open(os.path.join(home, 'crates.txt'), encoding='utf-8') as file:
         every = listed(file.read())
     found, opened = {}, []
@@ -68,7 +72,7 @@ def read(home, names):
                 )
             )
         if name not in every:
-            raise Stop('crates.txt doesn\'t list {}'.format(name))
+            raise Stop(f'crates.txt doesn\'t list {name}')
         opened.append(name)
         below = tuple(it for it in every[name] if it in every)
         for it in below:
@@ -96,7 +100,9 @@ def crate(home, name, libraries, below):
 
 
 def all_below(crates):
-    """The names of all crates on which each one stands, directly or not. `crates` has each after those below it."""
+    """The names of all crates on which each one stands, directly or not. `crates` has each after
+    those below it.
+    """
     found = {}
     for name, it in crates.items():
         found[name] = set(it.below).union(*(found[below] for below in it.below))

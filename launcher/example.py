@@ -10,7 +10,9 @@ EXAMPLE = ('examples', 'edit.script', 'edit.expected')
 
 
 def hold(home: str, program: str) -> None:
-    """Ends a build where the program doesn't answer the example as its page has it, if there is one."""
+    """Ends a build where the program doesn't answer the example as its page has it, if there is
+    one.
+    """
     part, script, wanted = EXAMPLE
     folder = os.path.join(home, part)
     if not os.path.isfile(os.path.join(folder, wanted)):

@@ -1,4 +1,6 @@
-"""A group of processes that ends when the launcher ends, however that ends: a proof never runs on alone."""
+"""A group of processes that ends when the launcher ends, however that ends: a proof never runs on
+alone.
+"""
 import contextlib
 import os
 import signal
@@ -8,13 +10,15 @@ import subprocess
 class Guard:
     """Starts processes into a group of their own.
 
-    A shell in that group reads from a pipe whose other end the launcher alone holds. When the launcher ends, by SIGKILL too,
-    the shell reads the end of the pipe and kills the group. Ctrl-C and Ctrl-Z reach the launcher alone, which is in another
-    group: it ends the group as it ends, and stops and continues it (`pause`) as it is stopped and continued.
+    A shell in that group reads from a pipe whose other end the launcher alone holds. When the
+    launcher ends, by SIGKILL too, the shell reads the end of the pipe and kills the group. Ctrl-C
+    and Ctrl-Z reach the launcher alone, which is in another group: it ends the group as it ends,
+    and stops and continues it (`pause`) as it is stopped and continued.
     """
 
     def __init__(self, temporary):
-        # rattle leaves temporary folders behind where it is killed, so it gets one that the launcher empties.
+        # rattle leaves temporary folders behind where it is killed, so it gets one that the
+        # launcher empties.
         self.environment = dict(os.environ, TMPDIR=temporary)
         read, self.held = os.pipe()
         how = {'stdin': read, 'stdout': subprocess.DEVNULL, 'stderr': subprocess.DEVNULL}

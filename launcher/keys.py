@@ -1,8 +1,8 @@
 """What results are kept under: hashes of the text and the toolkit that they were made from.
 
-A key covers all that a proof read: the toolkit (its own line and the bytes of its programs), the words of the call but for
-folders and jobs, the crate's line of crates.txt, each file of its src/, specs/ and proofs/ by name and bytes, and the keys of
-the crates below it, so theirs too.
+A key covers all that a proof read: the toolkit (its own line and the bytes of its programs), the
+words of the call but for folders and jobs, the crate's line of crates.txt, each file of its src/,
+specs/ and proofs/ by name and bytes, and the keys of the crates below it, so theirs too.
 """
 import hashlib
 import json
@@ -31,7 +31,9 @@ def of_file(path):
 
 
 def files_below(folder):
-    """The names of all files below a folder, relative to it, sorted. A link or another thing that is no file is refused."""
+    """The names of all files below a folder, relative to it, sorted. A link or another thing that
+    is no file is refused.
+    """
     found = []
     for holder, folders, names in os.walk(folder):
         for name in folders + names:
@@ -40,7 +42,7 @@ def files_below(folder):
             if stat.S_ISREG(mode):
                 found.append(os.path.relpath(path, folder))
             elif not stat.S_ISDIR(mode):
-                raise Stop('{} is neither a file nor a folder'.format(path))
+                raise Stop(f'{path} is neither a file nor a folder')
     return sorted(found)
 
 
@@ -65,12 +67,16 @@ def of_texts(home, crates):
 
 
 def of_sources(texts):
-    """One hash over the texts of all crates that a program needs: what tells whether it is of these sources."""
+    """One hash over the texts of all crates that a program needs: what tells whether it is of these
+    sources.
+    """
     return of(FORM, sorted(texts.items()))
 
 
 def of_plain(home, crates):
-    """One hash over all that a plain build reads: the sources of the crates and their lines, the export itself, the version."""
+    """One hash over all that a plain build reads: the sources of the crates and their lines, the
+    export itself, the version.
+    """
     found = [
         [name, it.line, of_folder(os.path.join(home, 'crates', name, 'src'))]
         for name, it in sorted(crates.items())
@@ -94,7 +100,9 @@ def plain_again(home):
 
 
 def of_crates(crates, texts, toolkit):
-    """The key of each crate's proof, by name. `crates` has each after those below it; `toolkit` is its identity."""
+    """The key of each crate's proof, by name. `crates` has each after those below it; `toolkit` is
+    its identity.
+    """
     found = {}
     for name, crate in crates.items():
         words = calls.proof(crate, crates, 'KIT', 'RLIBS', 'TO')

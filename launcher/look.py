@@ -44,14 +44,18 @@ def names_in(script):
 
 
 def can_be_given(name):
-    """Whether rt try can give a file under this name: below the folder, with no step upwards, and no name of its own."""
+    """Whether rt try can give a file under this name: below the folder, with no step upwards, and
+    no name of its own.
+    """
     if not name or os.path.isabs(name) or '=' in name or os.path.normpath(name) != name:
         return False
     return name.split('/')[0] not in ('..', *TAKEN)
 
 
 def given(names, folder):
-    """The words that give rt try a copy of each file, by its name. A file that isn't there isn't given."""
+    """The words that give rt try a copy of each file, by its name. A file that isn't there isn't
+    given.
+    """
     words = []
     for name in names:
         path = os.path.join(folder, name)
@@ -63,7 +67,7 @@ def given(names, folder):
                 '{}: ./editor runs it once the program is proved'.format(name),
                 2,
             )
-        words += ['--data', '{}={}'.format(name, os.path.abspath(path))]
+        words += ['--data', f'{name}={os.path.abspath(path)}']
     return words
 
 
@@ -80,7 +84,7 @@ def script_of(words):
 def command(script, folder):
     """The words of the call of rt try."""
     if not os.path.isfile(os.path.join(folder, script)):
-        raise Stop('--look takes a script that is a file, and {} is none'.format(script), 2)
+        raise Stop(f'--look takes a script that is a file, and {script} is none', 2)
     with open(os.path.join(folder, script), 'rb') as file:
         text = file.read(LARGEST).decode('utf-8', 'replace')
     name = script if can_be_given(script) else 'the.script'
@@ -88,7 +92,7 @@ def command(script, folder):
         'rt',
         'try',
         '--data',
-        '{}={}'.format(name, os.path.abspath(os.path.join(folder, script))),
+        f'{name}={os.path.abspath(os.path.join(folder, script))}',
     ]
     return [*words, *given([it for it in names_in(text) if it != name], folder), '--', name]
 
@@ -116,7 +120,8 @@ def run(home, words):
         )
     )
     sys.stdout.flush()
-    # rt gets standard error through a pipe, since its last lines are for who writes Rattle, and are put in plain words here.
+    # rt gets standard error through a pipe, since its last lines are for who writes Rattle, and are
+    # put in plain words here.
     how = {'stdin': subprocess.DEVNULL, 'stderr': subprocess.PIPE}
     process = subprocess.Popen(call, cwd=os.path.join(home, 'crates', PROGRAM), **how)
     try:
@@ -145,7 +150,7 @@ def told(status, said):
     if 0 <= status <= 128:
         say(
             'no answer without a proof: {}'.format(
-                SAYS.get(status, 'rt try ended with status {}'.format(status))
+                SAYS.get(status, f'rt try ended with status {status}')
             )
         )
         return status or 1

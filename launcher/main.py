@@ -1,4 +1,6 @@
-"""The launcher: reads the words, finds a program or has one built, and runs it; or has it proved, or exported."""
+"""The launcher: reads the words, finds a program or has one built, and runs it; or has it proved,
+or exported.
+"""
 from __future__ import annotations
 
 import os
@@ -14,7 +16,8 @@ from launcher.messages import Stop, count, gigabytes, minutes, say
 from launcher.store import Store, default_folder
 
 HOME = os.path.dirname(os.path.dirname(os.path.abspath(__file__)))
-# The name under which the program is started, as its messages have it, and the part of the store with programs that aren't proved.
+# The name under which the program is started, as its messages have it, and the part of the store
+# with programs that aren't proved.
 PROGRAM, PLAIN = 'editor', 'plain-programs'
 # Bytes of memory that proofs side by side take at the most, where there is enough.
 USUAL_MEMORY = 7e9
@@ -112,7 +115,9 @@ def crates_and_texts():
 
 
 def run(arguments: list[str]) -> NoReturn:
-    """Runs the program: the one that was proved here, else the released one, else a plain build, else the toolkit's look."""
+    """Runs the program: the one that was proved here, else the released one, else a plain build,
+    else the toolkit's look.
+    """
     store = Store(default_folder())
     found = sources.found(HOME, store)
     path = proved(store, found.proved) or released(found) or unproved(store, found, arguments)
@@ -138,7 +143,9 @@ def unproved(store: Store, found: sources.Sources, arguments: list[str]) -> str:
 
 
 def built_now(store: Store, found: sources.Sources, arguments: list[str]) -> tuple[str, bool]:
-    """A plain build, or the toolkit's look where there is no cargo: its path, and whether it is a look."""
+    """A plain build, or the toolkit's look where there is no cargo: its path, and whether it is a
+    look.
+    """
     from launcher import kept_look, plain_build
 
     cargo, why = plain_build.find()
@@ -178,7 +185,9 @@ def ends_by_signal() -> None:
 
 
 def proved(store, sources):
-    """A kept program of these sources by the toolkit that is on the path, or by any where none is: its path or None."""
+    """A kept program of these sources by the toolkit that is on the path, or by any where none is:
+    its path or None.
+    """
     found = store.program(sources, None)
     if not found:
         return None
@@ -193,7 +202,9 @@ def proved(store, sources):
 
 
 def released(found: sources.Sources) -> str | None:
-    """The released program that stands beside the launcher, if it is one that RELEASE names: its path or None."""
+    """The released program that stands beside the launcher, if it is one that RELEASE names: its
+    path or None.
+    """
     release = programs.release_of(HOME)
     path, said = programs.beside(HOME, release)
     if path:
@@ -248,12 +259,14 @@ def built(store, kit, crates, texts, flags, jobs):
 
 
 def prove(flags):
-    """Proves and builds the program where it isn't proved yet, and compares it with a released one: the status."""
+    """Proves and builds the program where it isn't proved yet, and compares it with a released one:
+    the status.
+    """
     store = Store(default_folder())
     crates, texts = crates_and_texts()
     path = proved(store, keys.of_sources(texts))
     if path:
-        say('proved and built already: {}'.format(path))
+        say(f'proved and built already: {path}')
     else:
         path = proved_now(store, crates, texts, flags)
     return compared(path, keys.of_sources(texts))
@@ -319,7 +332,7 @@ def version_text():
     lines.append(
         'release: '
         + (
-            '{}, commit {}'.format(release.version, release.commit)
+            f'{release.version}, commit {release.commit}'
             if release and release.sha256
             else 'none yet'
         )

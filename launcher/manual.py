@@ -1,7 +1,8 @@
-"""Makes the manual pages (`./editor --man FOLDER`) from the pages of docs/, so that they can't say other things than these do.
+"""Makes the manual pages (`./editor --man FOLDER`) from the pages of docs/, so that they can't say
+other things than these do.
 
-A manual page is made of parts: a text that stands here, a section of a page by its heading, or one table of it. A section that
-isn't there any more stops the making.
+A manual page is made of parts: a text that stands here, a section of a page by its heading, or one
+table of it. A section that isn't there any more stops the making.
 """
 from __future__ import annotations
 
@@ -24,13 +25,17 @@ LABELLED = re.compile(r'\*\*([A-Z][a-z, ]+)\.\*\* ?(.*)', re.S)
 
 
 def cells(line):
-    """The cells of a table's row: a | that is written \\| or stands in a `word` isn't the end of one."""
+    """The cells of a table's row: a | that is written \\| or stands in a `word` isn't the end of
+    one.
+    """
     parts = re.split(r'((?:\\\||`[^`]*`|[^|`])*)\|', line.strip()[1:])
     return tuple(it.replace('\\|', '|').strip() for it in parts[1::2])
 
 
 def section(page, heading):
-    """The lines of a page under a heading, up to the next one of its level or above; those before the first for no heading."""
+    """The lines of a page under a heading, up to the next one of its level or above; those before
+    the first for no heading.
+    """
     found, level, fenced = [], None if heading else 0, False
     for line in page.splitlines():
         fenced ^= line.startswith(FENCE)
@@ -43,7 +48,7 @@ def section(page, heading):
         elif not (is_heading and len(marks) == 1):
             found.append(line)
     if level is None:
-        raise Stop('no section is headed "{}", from which a manual page is made'.format(heading))
+        raise Stop(f'no section is headed "{heading}", from which a manual page is made')
     return found
 
 
@@ -90,12 +95,14 @@ def plain(text):
         .replace('~', '\\(ti')
     )
     return ''.join(
-        it if it < '\x7f' else '\\[u{:04X}]'.format(ord(it)) for it in text.replace('`', '\\(ga')
+        it if it < '\x7f' else f'\\[u{ord(it):04X}]' for it in text.replace('`', '\\(ga')
     )
 
 
 def roff(text):
-    """A text of a page in roff: `words` and **words** are bold, *words* are italic, links are their text, anchors nothing."""
+    """A text of a page in roff: `words` and **words** are bold, *words* are italic, links are their
+    text, anchors nothing.
+    """
     text = ANCHOR.sub('', text)
     found, at = '', 0
     for mark in MARK.finditer(text):
@@ -104,7 +111,7 @@ def roff(text):
         if link is not None:
             found += roff(link)
         elif italic is not None:
-            found += '\\fI{}\\fR'.format(plain(italic))
+            found += f'\\fI{plain(italic)}\\fR'
         else:
             found += '\\fB{}\\fR'.format(
                 plain(word) if word else roff(bold).replace('\\fR', '\\fB')
@@ -126,13 +133,13 @@ def filled(text):
 
 def tagged(tag, text):
     """A tag, and what is said of it."""
-    return '.TP\n{}\n{}'.format(safe(roff(tag)), filled(text))
+    return f'.TP\n{safe(roff(tag))}\n{filled(text)}'
 
 
 def row(heading, parts):
     """A row of a table: the first cell is a tag, and the cells after the second say what they are."""
     told = [
-        text if at == 0 or name in ('it says', 'meaning') else '{}: {}'.format(name, text)
+        text if at == 0 or name in ('it says', 'meaning') else f'{name}: {text}'
         for at, (name, text) in enumerate(zip(heading[1:], parts[1:]))
         if text
     ]
@@ -145,9 +152,7 @@ def written(block):
     kind, held = block
     if kind == 'heading':
         level, text = held
-        return (
-            '.SH {}\n'.format(roff(text.upper())) if level <= 2 else '.SS {}\n'.format(roff(text))
-        )
+        return f'.SH {roff(text.upper())}\n' if level <= 2 else f'.SS {roff(text)}\n'
     if kind == 'code':
         return '.PP\n.RS 4\n.nf\n{}.fi\n.RE\n'.format(
             ''.join(safe(plain(line)) + '\n' for line in held)
@@ -156,10 +161,10 @@ def written(block):
         return ''.join(row(held[0], it) for it in held[1:])
     if kind == 'item':
         mark, text = held
-        return '.IP {} 4\n{}'.format(mark, filled(text))
+        return f'.IP {mark} 4\n{filled(text)}'
     label = LABELLED.fullmatch(held)
     return (
-        tagged('**{}**'.format(label[1]), label[2])
+        tagged(f'**{label[1]}**', label[2])
         if label and label[2]
         else '.PP\n' + filled(label[1] + ':' if label else held)
     )
@@ -177,7 +182,8 @@ def body(found):
 class Part:
     """What a manual page takes from a section of a page, all of it or blocks of some kinds.
 
-    Its title is that section's heading, or another one; with an empty one it goes on under the title before.
+    Its title is that section's heading, or another one; with an empty one it goes on under the
+    title before.
     """
 
     def __init__(self, page, heading, title=None, kinds=None):
@@ -319,14 +325,14 @@ MANUALS = {
 
 def file_name(name, number):
     """The file of a manual page."""
-    return '{}.{}'.format(name, number)
+    return f'{name}.{number}'
 
 
 def made(manual, pages, version):
     """A manual page, from the texts of the pages and the version."""
     name, number = manual
     what, parts = MANUALS[manual]
-    others = ['.BR {} ({})'.format(plain(other), at) for other, at in MANUALS if other != name] + [
+    others = [f'.BR {plain(other)} ({at})' for other, at in MANUALS if other != name] + [
         '.BR osmium (1)'
     ]
     return ''.join(
@@ -350,7 +356,9 @@ def of(home, version):
 
 
 def write(home: str, folder: str, version: str) -> list[str]:
-    """Writes the manual pages of a checkout into a folder, which is made where it isn't there: the names of their files."""
+    """Writes the manual pages of a checkout into a folder, which is made where it isn't there: the
+    names of their files.
+    """
     found = of(home, version)
     to = pathlib.Path(folder)
     to.mkdir(parents=True, exist_ok=True)

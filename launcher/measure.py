@@ -6,7 +6,8 @@ import time
 from launcher import machine
 from launcher.messages import gigabytes
 
-# A look is taken so many seconds after the one before at the earliest, and later where looks take long: a large process is slowed by each.
+# A look is taken so many seconds after the one before at the earliest, and later where looks take
+# long: a large process is slowed by each.
 EACH, SHARE = 5.0, 50
 
 
@@ -16,7 +17,7 @@ def processes(group):
     for name in os.listdir('/proc'):
         if name.isdigit():
             try:
-                with open('/proc/{}/stat'.format(name), encoding='ascii', errors='replace') as file:
+                with open(f'/proc/{name}/stat', encoding='ascii', errors='replace') as file:
                     words = file.read().rpartition(')')[2].split()
             except OSError:
                 continue
@@ -28,7 +29,7 @@ def processes(group):
 def memory_of(process):
     """The bytes that a process holds, with its part of what it shares with others."""
     try:
-        with open('/proc/{}/smaps_rollup'.format(process), encoding='ascii') as file:
+        with open(f'/proc/{process}/smaps_rollup', encoding='ascii') as file:
             return 1024 * sum(
                 int(it) for it in re.findall(r'^(?:Pss|SwapPss):\s+(\d+)', file.read(), re.M)
             )

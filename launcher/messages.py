@@ -15,7 +15,7 @@ class Stop(Exception):
 def say(text):
     """Writes to the error stream, each line under the launcher's name."""
     for line in text.splitlines():
-        print('{}: {}'.format(NAME, line), file=sys.stderr, flush=True)
+        print(f'{NAME}: {line}', file=sys.stderr, flush=True)
 
 
 def count(number, word):
@@ -31,15 +31,17 @@ def minutes(seconds):
 
 def gigabytes(size):
     """A size in bytes, as it is told: "4.1 GB", of 1,000,000,000 bytes each."""
-    return '{:.1f} GB'.format(size / 1e9)
+    return f'{size / 1e9:.1f} GB'
 
 
 def stopped_by(what, signal, jobs, free):
-    """What is said where something, as "the proof of low", was stopped from outside. What was stopped hasn't failed."""
-    text = '{} was stopped by signal {}'.format(what, signal)
+    """What is said where something, as "the proof of low", was stopped from outside. What was
+    stopped hasn't failed.
+    """
+    text = f'{what} was stopped by signal {signal}'
     if signal != 9:
         return text + ': run ./editor again, and it goes on from what is proved'
-    text += ': out of memory? {} were free when it began'.format(gigabytes(free))
+    text += f': out of memory? {gigabytes(free)} were free when it began'
     if jobs > 1:
         return text + '. Close other programs, and run with fewer jobs: JOBS=1 ./editor'
     return (
@@ -54,4 +56,4 @@ def end_of(path, lines=12):
         with open(path, encoding='utf-8', errors='replace') as log:
             return ''.join('    ' + line + '\n' for line in log.read().splitlines()[-lines:])
     except OSError as error:
-        return '    (the log can\'t be read: {})\n'.format(error.strerror)
+        return f'    (the log can\'t be read: {error.strerror})\n'

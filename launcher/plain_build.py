@@ -1,6 +1,7 @@
 """Builds the program as plain Rust, by cargo, and keeps it. Nothing of it is proved.
 
-The workspace and cargo's folder stay in the store, so that a changed crate alone, and what stands on it, is built again.
+The workspace and cargo's folder stay in the store, so that a changed crate alone, and what stands
+on it, is built again.
 """
 from __future__ import annotations
 
@@ -112,7 +113,9 @@ def built(home: str, store: Store, cargo: Cargo, key: str, version: str) -> str:
 
 
 def export(home: str, store: Store, version: str) -> str:
-    """Writes the sources as plain Rust: the folder. It is the store's own, so what isn't as it was written is written anew."""
+    """Writes the sources as plain Rust: the folder. It is the store's own, so what isn't as it was
+    written is written anew.
+    """
     from plain import tokens, workspace
 
     folder = pathlib.Path(store.path('plain', 'workspace'))

@@ -45,7 +45,9 @@ class Release:
 
 
 def read_release(text):
-    """What a RELEASE says, or None where it names no program. Lines that aren't fields are left out."""
+    """What a RELEASE says, or None where it names no program. Lines that aren't fields are left
+    out.
+    """
     found = {
         it[1].replace('-', '_'): it[2]
         for it in (FIELD.fullmatch(line.strip()) for line in text.splitlines())
@@ -66,7 +68,9 @@ def release_of(home):
 
 
 def beside(home, release):
-    """The released program that stands beside the launcher, and what is to be said of it: a path or None, and a text."""
+    """The released program that stands beside the launcher, and what is to be said of it: a path or
+    None, and a text.
+    """
     path = os.path.join(home, NAME)
     if not os.path.isfile(path):
         return None, ''
@@ -94,7 +98,9 @@ def beside(home, release):
 
 
 def said_of(release: Release, sources: str, is_plain: bool = False) -> str:
-    """What is added where the sources here aren't those of the released program, the proved one or the plain one."""
+    """What is added where the sources here aren't those of the released program, the proved one or
+    the plain one.
+    """
     made_of = release.plain_sources if is_plain else release.sources
     if not made_of or made_of == sources:
         return ''

@@ -1,35 +1,42 @@
 """Which proof begins next, with how many jobs, and how long all of them will take.
 
-Proofs are ordered by the longest chain of proofs that waits for them, and a proof's time is reckoned from the lines of
-Rattle of its crate and of those below it. Seconds that were stored would go stale with each crate that is renamed, split
-or grown, and gain nothing: over this repository's crates the order by lines ends within a minute of the order by measured
-seconds. The reckoned time is held against the clock as proofs end, so what is left is told in this machine's minutes.
+Proofs are ordered by the longest chain of proofs that waits for them, and a proof's time is
+reckoned from the lines of Rattle of its crate and of those below it. Seconds that were stored would
+go stale with each crate that is renamed, split or grown, and gain nothing: over this repository's
+crates the order by lines ends within a minute of the order by measured seconds. The reckoned time
+is held against the clock as proofs end, so what is left is told in this machine's minutes.
 """
 from dataclasses import dataclass
 
 from launcher.crates import all_below
 
-# Seconds of one job: what any proof takes, what a line of its crate adds, and a line of what it stands on, since libraries
-# are read and their lemmas searched. They order the proofs and begin the time that is told; nothing else hangs on them.
-# Without the last the crates at the top would be reckoned at half of what they take.
+# Seconds of one job: what any proof takes, what a line of its crate adds, and a line of what it
+# stands on, since libraries are read and their lemmas searched. They order the proofs and begin the
+# time that is told; nothing else hangs on them. Without the last the crates at the top would be
+# reckoned at half of what they take.
 SECONDS, SECONDS_A_LINE, SECONDS_A_LINE_BELOW = 8.0, 0.115, 0.006
-# Bytes of memory: a proof's own, what a thousand lines of its crate add, a thousand lines below it, and a further job.
+# Bytes of memory: a proof's own, what a thousand lines of its crate add, a thousand lines below it,
+# and a further job.
 MEMORY, MEMORY_OF_LINES, MEMORY_BELOW, MEMORY_OF_JOB = 1.0e9, 0.4e9, 0.03e9, 0.3e9
 # How much faster a proof is with more jobs; more than four seldom help.
 RATES = {1: 1.0, 2: 1.4, 3: 1.65, 4: 1.85}
 MOST_JOBS = max(RATES)
 # A crate with fewer seconds to spare than these is taken for one of the longest chain.
 CLOSE = 30.0
-# The end hangs on the longest chain where that is so many times what each processor has to do; its crates then have so many
-# jobs at least. A second job takes two fifths more of the processors for the same proof, which everything else waits for. So it
-# is only worth it where the others have time to spare: played through with the measured seconds of this repository's crates, and
-# with seconds that differ from those by a quarter, two and a half ends first on three and four processors, and nearly so on eight.
+# The end hangs on the longest chain where that is so many times what each processor has to do; its
+# crates then have so many jobs at least. A second job takes two fifths more of the processors for
+# the same proof, which everything else waits for. So it is only worth it where the others have time
+# to spare: played through with the measured seconds of this repository's crates, and with seconds
+# that differ from those by a quarter, two and a half ends first on three and four processors, and
+# nearly so on eight.
 HANGS, FAVOURED = 2.5, 2
 
 
 @dataclass(frozen=True)
 class Start:
-    """A proof that is to begin: its jobs, by how much it yields (`nice`), and the memory that it may take."""
+    """A proof that is to begin: its jobs, by how much it yields (`nice`), and the memory that it
+    may take.
+    """
 
     name: str
     jobs: int
@@ -81,11 +88,14 @@ class Schedule:
         return MEMORY + MEMORY_OF_LINES * own + MEMORY_BELOW * below + MEMORY_OF_JOB * (jobs - 1)
 
     def next(self, waiting, proved, running, alone=()):
-        """The proof that is to begin now, or None. `alone` names those that want nothing beside them.
+        """The proof that is to begin now, or None. `alone` names those that want nothing beside
+        them.
 
-        Where the end hangs on the longest chain, the crate that begins it has a second job and needn't wait for a processor,
-        since what has time to spare yields to it. A further job costs processor time, so any other crate has one job while
-        another is ready and has room in memory."""
+        Where the end hangs on the longest chain, the crate that begins it has a second job and
+        needn't wait for a processor, since what has time to spare yields to it. A further job costs
+        processor time, so any other crate has one job while another is ready and has room in
+        memory.
+        """
         ready = [
             it for it in self.order if it in waiting and proved.issuperset(self.crates[it].below)
         ]
@@ -115,7 +125,9 @@ class Schedule:
         return found
 
     def share(self, name, waiting, running, others):
-        """How many jobs a crate gets, 0 where it is to wait, and the seconds that its chain has to spare."""
+        """How many jobs a crate gets, 0 where it is to wait, and the seconds that its chain has to
+        spare.
+        """
         ends = [self.chain[it.start.name] - self.seconds[it.start.name] + it.left for it in running]
         longest = max(ends + [self.chain[it] for it in waiting])
         spare = max(0.0, longest - self.chain[name])
@@ -151,7 +163,9 @@ class Schedule:
         return clock
 
     def rates(self, running):
-        """How fast each proof goes, in seconds of one job a second: those that yield share what the others leave."""
+        """How fast each proof goes, in seconds of one job a second: those that yield share what the
+        others leave.
+        """
         found, free = {}, float(self.processors)
         for nice in sorted({it.start.nice for it in running}):
             same = [it for it in running if it.start.nice == nice]

@@ -1,8 +1,10 @@
-"""What the sources are: the hashes under which programs are kept, found again in a moment while no file changes.
+"""What the sources are: the hashes under which programs are kept, found again in a moment while no
+file changes.
 
-To hash two thousand files takes a quarter of a second. So the hashes are remembered together with a mark: one hash over the
-place, size, times and inode of each file. A mark counts only where every file was older than it by `SETTLED` when it was
-made, so that a change within the clock's steps can't hide. The time of change (`ctime`) is part of it, which no program can set.
+To hash two thousand files takes a quarter of a second. So the hashes are remembered together with a
+mark: one hash over the place, size, times and inode of each file. A mark counts only where every
+file was older than it by `SETTLED` when it was made, so that a change within the clock's steps
+can't hide. The time of change (`ctime`) is part of it, which no program can set.
 """
 from __future__ import annotations
 
@@ -21,7 +23,8 @@ if TYPE_CHECKING:
 PARTS = ('src', 'specs', 'proofs')
 # Folders and files besides the crates' on which a program hangs.
 BESIDE = ('launcher', 'plain', 'crates.txt', 'CHANGELOG.md', 'LICENSE')
-# Seconds, in units of the system's times: what is younger may change once more without another time.
+# Seconds, in units of the system's times: what is younger may change once more without another
+# time.
 SETTLED = 2 * 10**9
 MEMO = 'sources'
 MEMOS_KEPT = 8
@@ -48,7 +51,9 @@ def found(home: str, store: Store) -> Sources:
 
 
 def remembered(home: str, store: Store, memo: str, mark: str, newest: int) -> Sources:
-    """The hashes, found by reading all files, and remembered where the files have settled and the store is there."""
+    """The hashes, found by reading all files, and remembered where the files have settled and the
+    store is there.
+    """
     now = time.time_ns()
     made = hashed(home)
     if os.path.isdir(store.path(MEMO)) and newest < now - SETTLED and mark_of(home)[0] == mark:
@@ -96,7 +101,8 @@ def mark_of(home: str) -> tuple[str, int]:
         if os.path.basename(path) == '__pycache__':
             continue
         is_folder = it.st_mode & 0o170000 == 0o040000
-        # The times of a folder tell of what else was made and removed in it; its names are among those below.
+        # The times of a folder tell of what else was made and removed in it; its names are among
+        # those below.
         said = (
             (path, it.st_mode)
             if is_folder

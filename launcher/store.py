@@ -1,8 +1,10 @@
-"""The user's own folder for what is kept: the proved libraries of a build that isn't done, built programs, and logs.
+"""The user's own folder for what is kept: the proved libraries of a build that isn't done, built
+programs, and logs.
 
-It lies where no clone and no archive can bring it: `$XDG_CACHE_HOME/yokeorange`, else `~/.cache/yokeorange`, with a mode that
-lets nobody else in. A result is written apart and renamed, and counts once its record is there; a record is removed before
-its result. What is taken again is held against the record, byte by byte.
+It lies where no clone and no archive can bring it: `$XDG_CACHE_HOME/yokeorange`, else
+`~/.cache/yokeorange`, with a mode that lets nobody else in. A result is written apart and renamed,
+and counts once its record is there; a record is removed before its result. What is taken again is
+held against the record, byte by byte.
 """
 import contextlib
 import fcntl
@@ -37,7 +39,7 @@ def user_name(number):
     try:
         return pwd.getpwuid(number).pw_name
     except KeyError:
-        return 'user {}'.format(number)
+        return f'user {number}'
 
 
 def write_whole(path, text):
@@ -89,12 +91,12 @@ class Store:
             self.hold_to_owner()
 
     def make(self, home):
-        """Makes the folder and its parts where they aren't there. `home` is the checkout, in which it may not lie."""
+        """Makes the folder and its parts where they aren't there. `home` is the checkout, in which
+        it may not lie.
+        """
         folder = self.folder
         if os.path.realpath(folder).startswith(os.path.realpath(home) + os.sep):
-            raise Stop(
-                '{} lies in the checkout: set XDG_CACHE_HOME to a folder outside it'.format(folder)
-            )
+            raise Stop(f'{folder} lies in the checkout: set XDG_CACHE_HOME to a folder outside it')
         try:
             os.makedirs(os.path.dirname(folder), mode=0o700, exist_ok=True)
             with contextlib.suppress(FileExistsError):
@@ -143,8 +145,9 @@ class Store:
 
     @contextlib.contextmanager
     def lock(self, text, wait, name='lock'):
-        """Holds the folder, or the part of it that a lock of this name stands for, for one launcher. Where another has it, `wait`
-        is called with what that one wrote, and it waits."""
+        """Holds the folder, or the part of it that a lock of this name stands for, for one
+        launcher. Where another has it, `wait` is called with what that one wrote, and it waits.
+        """
         with open(self.path(name), 'a+', encoding='utf-8') as file:
             try:
                 fcntl.flock(file, fcntl.LOCK_EX | fcntl.LOCK_NB)
@@ -191,7 +194,9 @@ class Store:
         remove(self.rlib(name))
 
     def verdict_of(self, name, key):
-        """The verdict of a kept library, or None where there is none of this key whose bytes are those of its record."""
+        """The verdict of a kept library, or None where there is none of this key whose bytes are
+        those of its record.
+        """
         record = read_record(self.record(name))
         if not record or record.get('key') != key or not os.path.isdir(self.rlib(name)):
             return None
@@ -211,7 +216,9 @@ class Store:
     # ---- programs ----
 
     def keep_program(self, part, record, among='programs'):
-        """Keeps a built program under its key, with its record, and the newest few of those before it."""
+        """Keeps a built program under its key, with its record, and the newest few of those before
+        it.
+        """
         folder = self.path(among, record['key'])
         remove(folder)
         os.mkdir(folder, 0o700)
@@ -223,8 +230,9 @@ class Store:
         return os.path.join(folder, NAME)
 
     def program(self, sources, toolkit, among='programs'):
-        """A built program of these sources, by the toolkit of this identity or by any (None): its path and its record, or
-        None. Its bytes are held against its record."""
+        """A built program of these sources, by the toolkit of this identity or by any (None): its
+        path and its record, or None. Its bytes are held against its record.
+        """
         with contextlib.suppress(FileNotFoundError, NotADirectoryError):
             return self.program_among(os.listdir(self.path(among)), sources, toolkit, among)
         return None

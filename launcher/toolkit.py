@@ -1,4 +1,6 @@
-"""Where the Rattle toolkit is, which one it is, and whether it is of the kind that the launcher was made for."""
+"""Where the Rattle toolkit is, which one it is, and whether it is of the kind that the launcher was
+made for.
+"""
 import contextlib
 import json
 import os
@@ -29,8 +31,9 @@ MEMO = 'toolkit.json'
 
 @dataclass(frozen=True)
 class Toolkit:
-    """A toolkit: its folder ('' where `rt doc` names none), the line by which it names itself, and a hash that tells it from
-    every other one."""
+    """A toolkit: its folder ('' where `rt doc` names none), the line by which it names itself, and
+    a hash that tells it from every other one.
+    """
 
     folder: str
     line: str
@@ -62,7 +65,9 @@ def answer(words):
 
 
 def marks(paths):
-    """What changes where a file is written again or exchanged: so a toolkit of 100 MB isn't hashed for each run."""
+    """What changes where a file is written again or exchanged: so a toolkit of 100 MB isn't hashed
+    for each run.
+    """
     found = []
     for path in paths:
         try:
@@ -74,7 +79,9 @@ def marks(paths):
 
 
 def find(store):
-    """The toolkit whose `rt` is on the path, or None where there is none. Where the store is there it remembers the answer."""
+    """The toolkit whose `rt` is on the path, or None where there is none. Where the store is there
+    it remembers the answer.
+    """
     rt = shutil.which('rt')
     if not rt:
         return None
@@ -115,13 +122,13 @@ def look(rt):
 
 
 def misfits(toolkit, home):
-    """What makes this another toolkit than the one that the launcher's own calls were made for: nothing where it fits."""
+    """What makes this another toolkit than the one that the launcher's own calls were made for:
+    nothing where it fits.
+    """
     if not toolkit.folder:
         return ['rt doc names no page of it']
     found = [
-        'it has no {}'.format(it)
-        for it in PARTS
-        if not os.path.exists(os.path.join(toolkit.folder, it))
+        f'it has no {it}' for it in PARTS if not os.path.exists(os.path.join(toolkit.folder, it))
     ]
     wanted = logic_wanted(home)
     if wanted and toolkit.logic != wanted:
@@ -130,7 +137,7 @@ def misfits(toolkit, home):
         )
     if not found:
         said = answer([os.path.join(toolkit.folder, 'bin', 'rattle'), 'build', '--help'])
-        found = ['its rattle build has no {}'.format(it) for it in WORDS if it not in said]
+        found = [f'its rattle build has no {it}' for it in WORDS if it not in said]
     return found
 
 

@@ -53,7 +53,9 @@ LIMITS = ('--max-objects', '--max-file')
 
 @dataclass
 class Words:
-    """What the user asked for: `action` is run, help, brief, version, look, rust, man or prove; `rest` are the words that go with it."""
+    """What the user asked for: `action` is run, help, brief, version, look, rust, man or prove;
+    `rest` are the words that go with it.
+    """
 
     action: str
     rest: list = field(default_factory=list)
@@ -101,8 +103,9 @@ def rust_words(words):
 
 
 def script_in(words):
-    """The script among the program's words, or `Stop` where they can't be words of the program. The program reads them again
-    and has the last word: this keeps a slip from costing a build."""
+    """The script among the program's words, or `Stop` where they can't be words of the program. The
+    program reads them again and has the last word: this keeps a slip from costing a build.
+    """
     names, ended, at = [], False, 0
     while at < len(words):
         word = words[at]
@@ -113,7 +116,7 @@ def script_in(words):
         elif not ended and word.startswith('-') and word != '-':
             if word.partition('=')[0] not in LIMITS:
                 raise Stop(
-                    'there is no option {}: ./editor --help has those that there are'.format(word),
+                    f'there is no option {word}: ./editor --help has those that there are',
                     2,
                 )
         else:
@@ -122,7 +125,7 @@ def script_in(words):
     if len(names) != 1:
         raise Stop(
             'one script is wanted, and {} named: ./editor --help says more'.format(
-                'none is' if not names else '{} are'.format(len(names))
+                'none is' if not names else f'{len(names)} are'
             ),
             2,
         )
@@ -135,7 +138,7 @@ def hold_to_script(words):
     if not os.path.exists(script):
         raise Stop('there is no script {}'.format(script or 'of an empty name'), 3)
     if os.path.isdir(script) or not os.access(script, os.R_OK):
-        raise Stop('the script {} can\'t be read'.format(script), 7)
+        raise Stop(f'the script {script} can\'t be read', 7)
 
 
 def jobs_wanted():
@@ -144,5 +147,5 @@ def jobs_wanted():
     if not text:
         return 0
     if not re.fullmatch('[1-9][0-9]{0,2}', text):
-        raise Stop('JOBS is {!r}, and has to be a number from 1 to 999'.format(text), 2)
+        raise Stop(f'JOBS is {text!r}, and has to be a number from 1 to 999', 2)
     return int(text)

@@ -30,7 +30,9 @@ def bounded(parameter: str, bound: str) -> str:
 
 @dataclass(frozen=True)
 class Variant:
-    """A variant of an error: its name, the literal of its message, and how its fields are written: `{`, `(` or nothing."""
+    """A variant of an error: its name, the literal of its message, and how its fields are written:
+    `{`, `(` or nothing.
+    """
 
     name: str
     message: str

@@ -1,7 +1,8 @@
-"""What the crates use of Rattle's library and of the toolkit's other libraries, with the same meaning in `rattle_std`.
+"""What the crates use of Rattle's library and of the toolkit's other libraries, with the same
+meaning in `rattle_std`.
 
-The export refuses everything else. Before a name is added here: read what the toolkit's library promises of it, write it in
-`library/` where Rust's own differs, and let the session cases run.
+The export refuses everything else. Before a name is added here: read what the toolkit's library
+promises of it, write it in `library/` where Rust's own differs, and let the session cases run.
 """
 
 # Attributes, by the word they begin with.
@@ -10,7 +11,8 @@ ATTRIBUTES = frozenset({'derive', 'tactic', 'cycle', 'error', 'cfg', 'test'})
 DERIVES = frozenset(
     {'Clone', 'Copy', 'Debug', 'Drop', 'Eq', 'Error', 'Hash', 'Ord', 'PartialEq', 'PartialOrd'}
 )
-# Macros, and how their arguments begin: `in` an allocator, `rt` a handle with a semicolon, or nothing of Rattle's.
+# Macros, and how their arguments begin: `in` an allocator, `rt` a handle with a semicolon, or
+# nothing of Rattle's.
 MACROS = {
     'assert': 'rt',
     'assert_eq': 'rt',
@@ -49,7 +51,8 @@ REFUSED_WORDS = frozenset(
 # Modules that are imported as such, and then named in paths.
 MODULES = frozenset({'std::env', 'std::fmt', 'std::fs', 'std::io', 'std::mem', 'std::slice'})
 
-# Paths, as they are written once imports are put in: types, traits, functions, and what belongs to a type.
+# Paths, as they are written once imports are put in: types, traits, functions, and what belongs to
+# a type.
 STD = frozenset(
     '''
 std::alloc::AllocError

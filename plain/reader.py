@@ -1,8 +1,9 @@
 """Reads a file of Rattle and writes it as plain Rust.
 
-The reader knows the items (use, mod, struct, enum, trait, impl, fn, const, type) and walks through types and bodies token
-by token. Whatever it doesn't know it refuses, with the line. Changes are marks on tokens, so that all else stays as it was
-written; each is counted under its name in `rules`.
+The reader knows the items (use, mod, struct, enum, trait, impl, fn, const, type) and walks through
+types and bodies token by token. Whatever it doesn't know it refuses, with the line. Changes are
+marks on tokens, so that all else stays as it was written; each is counted under its name in
+`rules`.
 """
 from __future__ import annotations
 
@@ -28,8 +29,9 @@ ITEMS = frozenset({'use', 'mod', 'struct', 'enum', 'trait', 'impl', 'fn', 'const
 
 @dataclass(frozen=True)
 class Scope:
-    """What a file may name: the libraries of its crate, the functions that any crate declares, and which libraries of the
-    toolkit are the real ones."""
+    """What a file may name: the libraries of its crate, the functions that any crate declares, and
+    which libraries of the toolkit are the real ones.
+    """
 
     libraries: frozenset[str]
     functions: frozenset[str] = frozenset()
@@ -165,7 +167,9 @@ class Reader:
         self.rules[rule] += 1
 
     def strike(self, start: int, end: int, rule: str, comments: bool = False) -> None:
-        """Strikes out the tokens from one place to another, with the comments above where they are of them alone."""
+        """Strikes out the tokens from one place to another, with the comments above where they are
+        of them alone.
+        """
         self.count(rule)
         first = self.code[start]
         if comments:
@@ -353,7 +357,9 @@ class Reader:
         self.strike(start, self.at - 1, 'ghost-member', comments=True)
 
     def term(self) -> None:
-        """Steps over a term of antt between braces. Forms in which a brace may stand for something else are refused."""
+        """Steps over a term of antt between braces. Forms in which a brace may stand for something
+        else are refused.
+        """
         if self.text(self.at) != '{':
             raise self.refuse(f'a term was expected, and there is `{self.text(self.at)}`', self.at)
         end = self.closing(self.at)
@@ -610,7 +616,9 @@ class Reader:
         )
 
     def clauses(self) -> bool:
-        """Strikes out the clauses of a function, with the remarks between them. Whether there were any."""
+        """Strikes out the clauses of a function, with the remarks between them. Whether there were
+        any.
+        """
         start = self.at
         while self.text(self.at) in ('requires', 'ensures'):
             self.at += 1
@@ -966,7 +974,9 @@ class Reader:
 
 
 def tidied(text: str) -> str:
-    """The text without the lines of which nothing is left, and without blank lines that stood between such."""
+    """The text without the lines of which nothing is left, and without blank lines that stood
+    between such.
+    """
     text = re.sub(r'^[ \t]*\0[ \t\0]*\n', '', text, flags=re.M)
     text = re.sub(r'[ \t]*\0(?=[ \t]*(?:\n|[,;>)]))', '', text).replace('\0', '')
     text = re.sub(r'[ \t]+\n', '\n', text)

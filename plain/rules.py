@@ -1,4 +1,5 @@
-"""The changes that the export makes, by name. Each has a test of its name in `tests/test_rules.py`."""
+"""The changes that the export makes, by name. Each has a test of its name in `tests/test_rules.py`.
+"""
 
 RULES = {
     # what only the prover reads

@@ -31,7 +31,9 @@ class Refused(Exception):
 
 @dataclass(frozen=True)
 class Token:
-    """A token: its kind (a name of a group of `TOKEN`), its text, and the line on which it begins, counted from 1."""
+    """A token: its kind (a name of a group of `TOKEN`), its text, and the line on which it begins,
+    counted from 1.
+    """
 
     kind: str
     text: str

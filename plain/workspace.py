@@ -17,7 +17,8 @@ from plain.tokens import Refused
 
 HERE = pathlib.Path(__file__).resolve().parent
 LIBRARY = 'rattle_std'
-# The program's crate, what cargo calls the program, and the crate that runs the session cases, with what it needs.
+# The program's crate, what cargo calls the program, and the crate that runs the session cases, with
+# what it needs.
 PROGRAM, NAME, CASES = 'editor', 'yokeorange', 'session_cases'
 # The oldest Rust that builds the workspace.
 RUST = '1.70'
@@ -38,7 +39,9 @@ MARK = '# Written by `./editor --rust`. Nothing in this folder is proved.\n'
 
 @dataclass
 class Choice:
-    """Which libraries are real, and the folder of their sources, where they don't come from a registry."""
+    """Which libraries are real, and the folder of their sources, where they don't come from a
+    registry.
+    """
 
     real: frozenset[str] = frozenset()
     vendor: str = ''
@@ -50,7 +53,9 @@ class Choice:
 
 
 def choice_of(word: str) -> Choice:
-    """What `--crates` asks for: `stand-in`, `real` or `vendor=DIR`. Of a folder those libraries are taken that are there."""
+    """What `--crates` asks for: `stand-in`, `real` or `vendor=DIR`. Of a folder those libraries are
+    taken that are there.
+    """
     if word == 'stand-in':
         return Choice()
     if word == 'real':
@@ -72,7 +77,9 @@ def choice_of(word: str) -> Choice:
 
 @dataclass
 class Export:
-    """What an export wrote: its crates, its lines of Rust, how often each rule changed something, and what had to be read."""
+    """What an export wrote: its crates, its lines of Rust, how often each rule changed something,
+    and what had to be read.
+    """
 
     crates: list[str] = field(default_factory=list)
     lines: int = 0
@@ -86,7 +93,9 @@ def digest(data: bytes) -> str:
 
 
 class Folder:
-    """The folder that is written. It remembers the hash of each file that it wrote, and overwrites nothing else."""
+    """The folder that is written. It remembers the hash of each file that it wrote, and overwrites
+    nothing else.
+    """
 
     def __init__(self, path: pathlib.Path) -> None:
         self.path = path
@@ -170,8 +179,9 @@ def write(
 ) -> Export:
     """Writes the workspace of the repository in `top` into a folder.
 
-    Raises `Refused` where a source has a form that isn't known, before anything is written; `Stop` where the folder holds
-    something else."""
+    Raises `Refused` where a source has a form that isn't known, before anything is written; `Stop`
+    where the folder holds something else.
+    """
     choice = choice or Choice()
     listed = crates.listed((top / 'crates.txt').read_text(encoding='utf-8'))
     names = needed(listed)
@@ -246,7 +256,9 @@ def others(
     choice: Choice,
     version: str,
 ) -> dict[str, str]:
-    """Manifests, the lock, the library, the session cases, the licence and a README, by their places."""
+    """Manifests, the lock, the library, the session cases, the licence and a README, by their
+    places.
+    """
     found = {
         'Cargo.toml': workspace_manifest(names),
         'LICENSE': (top / 'LICENSE').read_text(encoding='utf-8'),

@@ -1,8 +1,9 @@
-"""Yoke: a mapper's working folder for OpenStreetMap edits, and what sends them. docs/PYTHON.md shows the library by examples.
+"""Yoke: a mapper's working folder for OpenStreetMap edits, and what sends them. docs/PYTHON.md
+shows the library by examples.
 
-`Day` is a working folder, `connect` gives a `Server`, and `Trouble` is what goes wrong, each kind with its exit code. These
-names are stable: one that goes is named in CHANGELOG a version before. `yoke/README.md` names the modules behind them, which
-may change at any time.
+`Day` is a working folder, `connect` gives a `Server`, and `Trouble` is what goes wrong, each kind
+with its exit code. These names are stable: one that goes is named in CHANGELOG a version before.
+`yoke/README.md` names the modules behind them, which may change at any time.
 """
 from __future__ import annotations
 
@@ -27,11 +28,36 @@ if TYPE_CHECKING:
     from yoke.verbs.start import Started
 
 __all__ = [
-    'VERSION', 'Account', 'BadLine', 'Busy', 'Candidate', 'Clash', 'Day', 'Done', 'Imported', 'Known', 'Later', 'News', 'NoAnswer', 'Object',
-    'Planned', 'Refused', 'Reply', 'Sent', 'Server', 'ServerRefused', 'Started', 'State', 'Status', 'Trouble', 'Usage', 'connect',
+    'VERSION',
+    'Account',
+    'BadLine',
+    'Busy',
+    'Candidate',
+    'Clash',
+    'Day',
+    'Done',
+    'Imported',
+    'Known',
+    'Later',
+    'News',
+    'NoAnswer',
+    'Object',
+    'Planned',
+    'Refused',
+    'Reply',
+    'Sent',
+    'Server',
+    'ServerRefused',
+    'Started',
+    'State',
+    'Status',
+    'Trouble',
+    'Usage',
+    'connect',
 ]
 
-# Where each name is. A module is loaded when one of its names is asked for, so that a part of yoke loads without the others.
+# Where each name is. A module is loaded when one of its names is asked for, so that a part of yoke
+# loads without the others.
 _PLACES = {
     'api': ('Account', 'Server', 'connect'),
     'day': ('State',),
@@ -40,7 +66,16 @@ _PLACES = {
     'opl': ('Object',),
     'program': ('BadLine', 'Reply'),
     'saved': ('Known',),
-    'trouble': ('Busy', 'Clash', 'Later', 'NoAnswer', 'Refused', 'ServerRefused', 'Trouble', 'Usage'),
+    'trouble': (
+        'Busy',
+        'Clash',
+        'Later',
+        'NoAnswer',
+        'Refused',
+        'ServerRefused',
+        'Trouble',
+        'Usage',
+    ),
     'verbs.do': ('Done',),
     'verbs.import_': ('Imported',),
     'verbs.refresh': ('News',),

@@ -1,7 +1,8 @@
 """Where the program is, and of which build: plain (ordinary Rust, not proved), proved, or unknown.
 
-A package puts a record beside its program: PREFIX/bin/yokeorange has PREFIX/share/yokeorange/build.json. A record counts
-only for the program whose SHA-256 it names. In a checkout RELEASE names the hashes of the released programs.
+A package puts a record beside its program: PREFIX/bin/yokeorange has
+PREFIX/share/yokeorange/build.json. A record counts only for the program whose SHA-256 it names. In
+a checkout RELEASE names the hashes of the released programs.
 """
 from __future__ import annotations
 
@@ -22,7 +23,9 @@ HASH = re.compile('[0-9a-f]{64}')
 
 @dataclass(frozen=True)
 class Build:
-    """What is known of a program. `sources` is one hash over its source texts, '' where no record has it."""
+    """What is known of a program. `sources` is one hash over its source texts, '' where no record
+    has it.
+    """
 
     kind: str
     version: str
@@ -35,7 +38,8 @@ class Build:
 
 
 def find(named: str | None) -> str | None:
-    """The path of the program that is named, else by $YOKE_EDITOR, else on the path, else beside this package.
+    """The path of the program that is named, else by $YOKE_EDITOR, else on the path, else beside
+    this package.
 
     None where it isn't there. A program that is named and missing is never replaced by another one.
     """
@@ -64,18 +68,28 @@ def read(text: str) -> Build | None:
 
 
 def of_release(text: str) -> list[Build]:
-    """The builds that a RELEASE names: the proved program as `sha256`, plain ones as `plain-sha256` and
-    `plain-static-sha256`."""
+    """The builds that a RELEASE names: the proved program as `sha256`, plain ones as `plain-sha256`
+    and `plain-static-sha256`.
+    """
     fields = dict(re.findall(r'^([a-z0-9-]+): (.+)$', text, re.M))
     version = fields.get('version', 'unknown')
     named = [Build('proved', version, fields.get('sha256', ''), fields.get('sources', ''))]
-    named += [Build('plain', fields.get('plain-version', version), fields.get(name, ''), fields.get('plain-sources', ''))
-              for name in ('plain-sha256', 'plain-static-sha256')]
+    named += [
+        Build(
+            'plain',
+            fields.get('plain-version', version),
+            fields.get(name, ''),
+            fields.get('plain-sources', ''),
+        )
+        for name in ('plain-sha256', 'plain-static-sha256')
+    ]
     return [it for it in named if HASH.fullmatch(it.sha256)]
 
 
 def of(program: str, checkout: pathlib.Path = HERE.parent) -> Build | None:
-    """Of which build a program is, by its record or the checkout's RELEASE; None where neither names its bytes."""
+    """Of which build a program is, by its record or the checkout's RELEASE; None where neither
+    names its bytes.
+    """
     sha256 = sha256_of(program)
     record = pathlib.Path(os.path.realpath(program)).parent.parent / RECORD
     build = read(text_of(record))
@@ -87,7 +101,10 @@ def of(program: str, checkout: pathlib.Path = HERE.parent) -> Build | None:
 
 def is_of_clone(program: str, checkout: pathlib.Path = HERE.parent) -> bool:
     """Whether it is bin/yokeorange of this checkout, which has no build of its own."""
-    return os.path.realpath(program) == str(checkout / 'bin' / NAME) and (checkout / 'launcher').is_dir()
+    return (
+        os.path.realpath(program) == str(checkout / 'bin' / NAME)
+        and (checkout / 'launcher').is_dir()
+    )
 
 
 def text_of(path: pathlib.Path) -> str:

@@ -1,7 +1,8 @@
 """A saved session that is broken: where, and what to do about it.
 
-A verb reads only what it needs of a session, and takes it to be as `editor` wrote it. What a file does to a verb that was cut off,
-or that something else wrote into, may so be anything. `found` lets `editor` take the files up, which tests each line.
+A verb reads only what it needs of a session, and takes it to be as `editor` wrote it. What a file
+does to a verb that was cut off, or that something else wrote into, may so be anything. `found` lets
+`editor` take the files up, which tests each line.
 """
 from __future__ import annotations
 
@@ -13,8 +14,12 @@ from yoke.day import Day
 from yoke.program import Program, Reply
 from yoke.trouble import Refused, Trouble
 
-NO_LINE = 30                        # what `resume` says of a bad line
-REFUSALS = (20, NO_LINE, 31)        # with those of a file that can't be read, and of an object that no session can have
+NO_LINE = 30  # what `resume` says of a bad line
+REFUSALS = (
+    20,
+    NO_LINE,
+    31,
+)  # with those of a file that can't be read, and of an object that no session can have
 
 
 class Broken(Trouble):
@@ -40,7 +45,9 @@ def _paths(day: Day) -> Iterator[pathlib.Path]:
 
 
 def of_reply(day: Day, path: pathlib.Path, reply: Reply) -> Broken | None:
-    """What the reply to a `resume` of a file says is wrong with it; None where it says nothing of the kind."""
+    """What the reply to a `resume` of a file says is wrong with it; None where it says nothing of
+    the kind.
+    """
     if reply.word != 'refused' or reply.number not in REFUSALS:
         return None
     why = words.refusal(reply.rest).partition(': ')[0]

@@ -17,8 +17,9 @@
 | `ledger.csv`, `ledger.shared` | what was imported, and what became of it (`yoke/ledger.py`); the ledgers that the day shares |
 | `held` | keys of edits that are held back while others are sent, and the number of the session that has them (`yoke/parts.py`) |
 
-Each file appears whole or not at all: it is written under another name, brought to the disk, and then renamed, and the
-folder is brought to the disk after that. So what a later step rests on is there after a loss of power too.
+Each file appears whole or not at all: it is written under another name, brought to the disk, and
+then renamed, and the folder is brought to the disk after that. So what a later step rests on is
+there after a loss of power too.
 """
 import contextlib
 import fcntl
@@ -32,14 +33,19 @@ from typing import IO, Any, Iterator, List, Optional, Tuple, Union
 from yoke.trouble import Busy, Refused, Trouble
 
 NAME = re.compile('([0-9]+)-([a-z-]+)\\.(saved|undone)')
-OWN = re.compile('[0-9]+-[a-z-]+\\.(saved|undone)|[0-9]+\\.(osc|answers?|refused)|josm-.*\\.start|changeset|server|account|log|forgotten|lock|refresh|held|extracts|ledger\\.(csv|shared)')
-LAST = 3        # sessions that are kept of those that nothing goes back to any more
+OWN = re.compile(
+    '[0-9]+-[a-z-]+\\.(saved|undone)|[0-9]+\\.(osc|answers?|refused)|josm-.*\\.start|changeset|server|account|log|forgotten|lock|refresh|held|extracts|ledger\\.(csv|shared)'
+)
+LAST = 3  # sessions that are kept of those that nothing goes back to any more
 FORGOTTEN = 'forgotten'
 HELD = 'held'
-UNREVERTED = 'unreverted'       # the verb in the name of the session that a revert begins with: by itself it is a revert that was stopped
-PART, WHOLE = 'part', 'whole'   # verbs in the names of sessions: some edits are held back, and they are taken up again
-SENT = ('send', WHOLE)          # verbs whose sessions come after something that the server took
-BACK = 20       # sessions to which `undo` can go back, counted from the last
+UNREVERTED = 'unreverted'  # the verb in the name of the session that a revert begins with: by itself it is a revert that was stopped
+PART, WHOLE = (
+    'part',
+    'whole',
+)  # verbs in the names of sessions: some edits are held back, and they are taken up again
+SENT = ('send', WHOLE)  # verbs whose sessions come after something that the server took
+BACK = 20  # sessions to which `undo` can go back, counted from the last
 
 
 @dataclass(frozen=True)
@@ -57,7 +63,9 @@ class State:
 
 @dataclass(frozen=True)
 class Held:
-    """Edits that are held back while others are sent: their keys, and the number of the session that has them."""
+    """Edits that are held back while others are sent: their keys, and the number of the session
+    that has them.
+    """
 
     of: int
     keys: Tuple[str, ...]
@@ -74,13 +82,16 @@ class Day:
     def states(self, ending: str = 'saved') -> List[State]:
         """The kept sessions by number, or with the ending `undone` those that were taken back."""
         found = (NAME.fullmatch(path.name) for path in self.folder.glob('*.' + ending))
-        return sorted((State(int(name[1]), name[2], self.folder / name[0]) for name in found if name), key=lambda state: state.number)
+        return sorted(
+            (State(int(name[1]), name[2], self.folder / name[0]) for name in found if name),
+            key=lambda state: state.number,
+        )
 
     def last(self) -> State:
         """The session as it is now; Trouble where there is none."""
         states = self.states()
         if not states:
-            raise Trouble('there is no session in {}: yoke start EXTRACT begins one'.format(self.folder))
+            raise Trouble(f'there is no session in {self.folder}: yoke start EXTRACT begins one')
         return states[-1]
 
     def keep(self, verb: str, text: str) -> State:
@@ -91,7 +102,9 @@ class Day:
 
     @contextlib.contextmanager
     def draft(self, verb: str) -> Iterator['Draft']:
-        """A session that a verb is about to keep as the last one; what of it isn't kept in the context goes."""
+        """A session that a verb is about to keep as the last one; what of it isn't kept in the
+        context goes.
+        """
         name = self.next_name(verb)
         one = Draft(self, State(int(name.split('-')[0]), verb, self.folder / (name + '.saved')))
         try:
@@ -101,10 +114,15 @@ class Day:
 
     def next_name(self, verb: str) -> str:
         """The name, without its ending, of the session that is kept next, by a verb."""
-        return '{:06}-{}'.format(max((state.number for state in self.states() + self.states('undone')), default=0) + 1, verb)
+        return '{:06}-{}'.format(
+            max((state.number for state in self.states() + self.states('undone')), default=0) + 1,
+            verb,
+        )
 
     def take_back(self) -> State:
-        """Takes the last session back; answers with it. Refused where nothing lies before, or no longer, or where it was sent."""
+        """Takes the last session back; answers with it. Refused where nothing lies before, or no
+        longer, or where it was sent.
+        """
         self.check_back()
         last = self.states()[-1]
         os.rename(last.path, last.path.with_suffix('.undone'))
@@ -117,23 +135,35 @@ class Day:
         if len(states) < 2:
             raise Refused('there is nothing to take back: this session is the first')
         if len(states) == 2 and self.read(FORGOTTEN):
-            raise Refused('the session before this one is no longer kept: the last {} are, and those since a chunk was sent'.format(BACK))
+            raise Refused(
+                'the session before this one is no longer kept: the last {} are, and those since a chunk was sent'.format(
+                    BACK
+                )
+            )
         if self.held():
             raise Refused('a part of the edits is being sent: yoke send goes on')
         if states[-1].verb in SENT:
-            raise Refused('the last session was kept after the server took a chunk; that can\'t be taken back here, only by new edits')
+            raise Refused(
+                'the last session was kept after the server took a chunk; that can\'t be taken back here, only by new edits'
+            )
         if self.pending():
-            raise Refused('it isn\'t known yet what the server took of {}: yoke send looks'.format(self.pending()))
+            raise Refused(
+                'it isn\'t known yet what the server took of {}: yoke send looks'.format(
+                    self.pending()
+                )
+            )
 
     def _forget(self) -> None:
-        """Removes sessions to which nothing goes back: all but the first, the last ones, and those since a chunk was sent."""
+        """Removes sessions to which nothing goes back: all but the first, the last ones, and those
+        since a chunk was sent.
+        """
         states = self.states()
         held = self.held()
         sent = max((at for at, state in enumerate(states) if state.verb in SENT), default=0)
         first = max(min(sent, len(states) - LAST), len(states) - BACK)
         gone = [state for state in states[1:first] if held is None or state.number != held.of]
         if gone:
-            self.write(FORGOTTEN, '{:06}\n'.format(states[first - 1].number))
+            self.write(FORGOTTEN, f'{states[first - 1].number:06}\n')
         for state in gone + self.states('undone')[:-LAST]:
             state.path.unlink()
 
@@ -145,10 +175,12 @@ class Day:
 
     def beside(self, state: State, ending: str) -> str:
         """The name of a file that belongs to a session: `osc`, `answer` or `answers`."""
-        return '{:06}.{}'.format(state.number, ending)
+        return f'{state.number:06}.{ending}'
 
     def pending(self) -> Optional[str]:
-        """The name of the document of which it isn't known whether the server took it; None where there is none."""
+        """The name of the document of which it isn't known whether the server took it; None where
+        there is none.
+        """
         states = self.states()
         name = self.beside(states[-1], 'osc') if states else None
         return name if name and self.path(name).exists() else None
@@ -181,7 +213,9 @@ class Day:
         write_by(self.path(name + '.new'), self.path(name), text)
 
     def remove(self, name: str) -> None:
-        """Removes a file of this folder, if it is there; when this returns it is gone from the disk."""
+        """Removes a file of this folder, if it is there; when this returns it is gone from the
+        disk.
+        """
         with contextlib.suppress(FileNotFoundError):
             self.path(name).unlink()
         self._sync()
@@ -195,28 +229,44 @@ class Day:
         sync_folder(self.folder)
 
     def _lock_file(self) -> IO[str]:
-        """The file by which the folder is held, open; Trouble where it is a link, which would make a file elsewhere."""
+        """The file by which the folder is held, open; Trouble where it is a link, which would make
+        a file elsewhere.
+        """
         path = self.path('lock')
         try:
-            return open(os.open(path, os.O_RDWR | os.O_CREAT | os.O_NOFOLLOW | os.O_CLOEXEC | os.O_NONBLOCK, 0o666), 'a', encoding='ascii')
+            return open(
+                os.open(
+                    path,
+                    os.O_RDWR | os.O_CREAT | os.O_NOFOLLOW | os.O_CLOEXEC | os.O_NONBLOCK,
+                    0o666,
+                ),
+                'a',
+                encoding='ascii',
+            )
         except OSError as error:
             if path.is_symlink():
-                raise Trouble(f'{path} is a link, and has to be a file of the folder itself: remove it') from None
+                raise Trouble(
+                    f'{path} is a link, and has to be a file of the folder itself: remove it'
+                ) from None
             raise Trouble(f'{path} can\'t be opened: {error}') from None
 
     @contextlib.contextmanager
     def locked(self, make: bool = False) -> Iterator['Day']:
-        """Holds the folder for this process alone; Busy where another one does. `make` makes the folder where it isn't there."""
+        """Holds the folder for this process alone; Busy where another one does. `make` makes the
+        folder where it isn't there.
+        """
         if make:
             make_folder(self.folder)
         if not self.folder.is_dir():
-            raise Trouble('there is no folder {}: yoke start EXTRACT makes it'.format(self.folder))
+            raise Trouble(f'there is no folder {self.folder}: yoke start EXTRACT makes it')
         with self._lock_file() as lock:
             try:
                 fcntl.flock(lock, fcntl.LOCK_EX | fcntl.LOCK_NB)
             except BlockingIOError:
-                raise Busy('another yoke works in {}'.format(self.folder)) from None
-            for path in self.folder.glob('*.new'):      # begun by one that was stopped; nothing rests on them
+                raise Busy(f'another yoke works in {self.folder}') from None
+            for path in self.folder.glob(
+                '*.new'
+            ):  # begun by one that was stopped; nothing rests on them
                 if is_own(path.name):
                     path.unlink()
             yield self
@@ -224,7 +274,9 @@ class Day:
 
 @dataclass
 class Draft:
-    """A session that is about to be kept: nothing of it is there until `begin`, and it is the last session after `keep`."""
+    """A session that is about to be kept: nothing of it is there until `begin`, and it is the last
+    session after `keep`.
+    """
 
     day: Day
     state: State
@@ -247,7 +299,7 @@ class Draft:
         """Removes what was written and isn't kept."""
         if self.file is not None:
             self.file.close()
-            with contextlib.suppress(FileNotFoundError):    # broken off just after it got its name
+            with contextlib.suppress(FileNotFoundError):  # broken off just after it got its name
                 self._path.unlink()
             self.file = None
 
@@ -266,10 +318,11 @@ def settle(file: IO[Any], new: pathlib.Path, path: pathlib.Path) -> None:
 
 
 def write_whole(path: Union[str, pathlib.Path], text: str) -> None:
-    """Writes a file whole or not at all: what stood there before stands there until the new text is on the disk. No other file is
-    touched, one called `.new` neither."""
+    """Writes a file whole or not at all: what stood there before stands there until the new text is
+    on the disk. No other file is touched, one called `.new` neither.
+    """
     path = pathlib.Path(path)
-    new = path.with_name('{}.{}.new'.format(path.name, os.getpid()))
+    new = path.with_name(f'{path.name}.{os.getpid()}.new')
     with open(new, 'x'):
         pass
     try:
@@ -280,7 +333,9 @@ def write_whole(path: Union[str, pathlib.Path], text: str) -> None:
 
 
 def write_by(new: pathlib.Path, path: pathlib.Path, text: str) -> None:
-    """Writes a file whole or not at all, by another name in the same folder, which may stand there if it doesn't succeed."""
+    """Writes a file whole or not at all, by another name in the same folder, which may stand there
+    if it doesn't succeed.
+    """
     with open(new, 'w', encoding='utf-8', newline='\n') as file:
         file.write(text)
         settle(file, new, path)
@@ -288,11 +343,13 @@ def write_by(new: pathlib.Path, path: pathlib.Path, text: str) -> None:
 
 def is_own(name: str) -> bool:
     """Whether a file of a day may have this name, half written or whole."""
-    return bool(OWN.fullmatch(name[:-len('.new')] if name.endswith('.new') else name))
+    return bool(OWN.fullmatch(name[: -len('.new')] if name.endswith('.new') else name))
 
 
 def make_folder(folder: pathlib.Path) -> None:
-    """Makes a folder, with those above it, where they aren't there; then their names are on the disk."""
+    """Makes a folder, with those above it, where they aren't there; then their names are on the
+    disk.
+    """
     missing = [one for one in (folder, *folder.parents) if not one.exists()]
     folder.mkdir(parents=True, exist_ok=True)
     for one in missing:

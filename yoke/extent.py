@@ -1,15 +1,17 @@
-"""How much of the map changes span: the bounding box of a changeset, as a server that limits it reckons it.
+"""How much of the map changes span: the bounding box of a changeset, as a server that limits it
+reckons it.
 
-The extent of a box is its width plus its height, here in units of 10^-7 degree. A node counts where it was and where it is
-now, a way with the nodes that it had and has. Of a relation the nodes and ways count that went or came as members, and all
-of them where a tag or a member that is a relation changed.
+The extent of a box is its width plus its height, here in units of 10^-7 degree. A node counts where
+it was and where it is now, a way with the nodes that it had and has. Of a relation the nodes and
+ways count that went or came as members, and all of them where a tag or a member that is a relation
+changed.
 """
 from decimal import Decimal
 from typing import Dict, Iterable, Iterator, List, NamedTuple, Optional, Sequence, Tuple
 
 from yoke import opl, stored
 
-UNITS = 10 ** 7
+UNITS = 10**7
 Change = Tuple[str, opl.Object]
 
 
@@ -31,8 +33,12 @@ def joined(one: Optional[Box], other: Optional[Box]) -> Optional[Box]:
     """The smallest box around both; None stands for none."""
     if one is None or other is None:
         return one or other
-    return Box(min(one.west, other.west), min(one.south, other.south),
-               max(one.east, other.east), max(one.north, other.north))
+    return Box(
+        min(one.west, other.west),
+        min(one.south, other.south),
+        max(one.east, other.east),
+        max(one.north, other.north),
+    )
 
 
 def degrees(extent: int) -> str:
@@ -109,7 +115,9 @@ def _place(node: opl.Object) -> Optional[Box]:
 
 
 def _members(before: Optional[opl.Object], after: Optional[opl.Object]) -> List[str]:
-    """The members of a relation whose places count for a change of it, without those that are relations."""
+    """The members of a relation whose places count for a change of it, without those that are
+    relations.
+    """
     old, new = (before.members if before else ()), (after.members if after else ())
     changed = [member for member in (*old, *new) if (member in old) != (member in new)]
     tags = [side.tags if side else None for side in (before, after)]

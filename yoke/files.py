@@ -1,4 +1,6 @@
-"""Files that a user names: read whole, compressed or not, and written without taking another file's place unseen."""
+"""Files that a user names: read whole, compressed or not, and written without taking another file's
+place unseen.
+"""
 from __future__ import annotations
 
 import bz2
@@ -10,35 +12,43 @@ import pathlib
 import stat
 import sys
 import zlib
-from typing import IO, Callable, Dict, Iterable, Iterator, Union
+from typing import IO, Callable, Iterable, Iterator, Union
 
 from yoke import day, printing
 from yoke.trouble import Refused, Trouble
 
 Unpacked = Union[gzip.GzipFile, bz2.BZ2File, lzma.LZMAFile]
-UNPACK: Dict[str, Callable[[IO[bytes]], Unpacked]] = {
-    '.gz': lambda file: gzip.GzipFile(fileobj=file), '.bz2': bz2.BZ2File, '.xz': lzma.LZMAFile}
-MOST = 1 << 30          # bytes of a file, unpacked: what `editor` takes
+UNPACK: dict[str, Callable[[IO[bytes]], Unpacked]] = {
+    '.gz': lambda file: gzip.GzipFile(fileobj=file),
+    '.bz2': bz2.BZ2File,
+    '.xz': lzma.LZMAFile,
+}
+MOST = 1 << 30  # bytes of a file, unpacked: what `editor` takes
 PIECE = 1 << 20
 
 
 def data_of(name: str, most: int = MOST) -> bytes:
-    """The bytes of a file, unpacked where its name ends in .gz, .bz2 or .xz; of `-` those of standard input. Trouble where there are
-    none, or more than `most`."""
+    """The bytes of a file, unpacked where its name ends in .gz, .bz2 or .xz; of `-` those of
+    standard input. Trouble where there are none, or more than `most`.
+    """
     path, data = pathlib.Path(name), b''
     try:
         with contextlib.ExitStack() as stack:
-            packed: IO[bytes] = _standard_input() if name == '-' else stack.enter_context(open(_no_device(path), 'rb'))
+            packed: IO[bytes] = (
+                _standard_input()
+                if name == '-'
+                else stack.enter_context(open(_no_device(path), 'rb'))
+            )
             file: IO[bytes] | Unpacked = packed
             if path.suffix in UNPACK:
                 file = stack.enter_context(UNPACK[path.suffix](packed))
             data = b''.join(_pieces(file, name, most))
     except FileNotFoundError:
-        raise Trouble('there is no file {}'.format(name)) from None
+        raise Trouble(f'there is no file {name}') from None
     except IsADirectoryError:
-        raise Trouble('{} is a folder'.format(name)) from None
+        raise Trouble(f'{name} is a folder') from None
     except (OSError, EOFError, lzma.LZMAError, zlib.error) as error:
-        raise Trouble('{} can\'t be read: {}'.format(name, error)) from None
+        raise Trouble(f'{name} can\'t be read: {error}') from None
     return data
 
 
@@ -51,7 +61,11 @@ def _standard_input() -> IO[bytes]:
 def _no_device(path: pathlib.Path) -> pathlib.Path:
     """The path itself; Trouble where it is a device without an end, as /dev/zero."""
     mode = path.stat().st_mode
-    if (stat.S_ISCHR(mode) or stat.S_ISBLK(mode)) and str(path) not in (os.devnull, '/dev/stdin', '/dev/tty'):
+    if (stat.S_ISCHR(mode) or stat.S_ISBLK(mode)) and str(path) not in (
+        os.devnull,
+        '/dev/stdin',
+        '/dev/tty',
+    ):
         raise Trouble(f'{path} is a device, and no file')
     return path
 
@@ -62,24 +76,34 @@ def _pieces(file: IO[bytes] | Unpacked, name: str, most: int) -> Iterator[bytes]
     while piece := file.read(PIECE):
         count += len(piece)
         if count > most:
-            raise Trouble(f'{name} has more than {most} bytes when it is unpacked: split it, or take a part of it')
+            raise Trouble(
+                f'{name} has more than {most} bytes when it is unpacked: split it, or take a part of it'
+            )
         yield piece
 
 
 def named(name: str) -> str:
-    """The name of a file for another program's command line: one that begins with a dash is none of its options."""
+    """The name of a file for another program's command line: one that begins with a dash is none of
+    its options.
+    """
     return './' + name if name.startswith('-') else name
 
 
-def check_outputs(names: Iterable[str], read: Iterable[str], folder: os.PathLike[str] | str) -> None:
-    """Refused where an output of a command is a file that the same command reads, another of its outputs, or a file of the day in a folder."""
+def check_outputs(
+    names: Iterable[str], read: Iterable[str], folder: os.PathLike[str] | str
+) -> None:
+    """Refused where an output of a command is a file that the same command reads, another of its
+    outputs, or a file of the day in a folder.
+    """
     taken = [('/dev/stdin' if name == '-' else name, 'read by the same command') for name in read]
     for name in names:
         for other, what in taken:
             if is_same(name, other):
-                raise Refused('{} isn\'t written: it is {}; name another file'.format(name, what))
+                raise Refused(f'{name} isn\'t written: it is {what}; name another file')
         if is_of_day(name, folder):
-            raise Refused('{} isn\'t written: it is a file of the day itself; name another file'.format(name))
+            raise Refused(
+                f'{name} isn\'t written: it is a file of the day itself; name another file'
+            )
         taken.append((name, 'another output of the same command'))
 
 
@@ -91,9 +115,17 @@ def is_same(one: str, other: str) -> bool:
 
 
 def is_of_day(name: str, folder: os.PathLike[str] | str) -> bool:
-    """Whether a name, or what it is a link to, is one that files of a day have, and in the folder of the day."""
-    places = [os.path.join(os.path.realpath(os.path.dirname(name)), os.path.basename(name)), os.path.realpath(name)]
-    return any(os.path.dirname(place) == os.path.realpath(folder) and day.is_own(os.path.basename(place)) for place in places)
+    """Whether a name, or what it is a link to, is one that files of a day have, and in the folder
+    of the day.
+    """
+    places = [
+        os.path.join(os.path.realpath(os.path.dirname(name)), os.path.basename(name)),
+        os.path.realpath(name),
+    ]
+    return any(
+        os.path.dirname(place) == os.path.realpath(folder) and day.is_own(os.path.basename(place))
+        for place in places
+    )
 
 
 def write_own(name: str, text: str, mark: bytes, force: bool) -> None:
@@ -106,7 +138,8 @@ def write_own(name: str, text: str, mark: bytes, force: bool) -> None:
 
 
 def check_own(name: str, mark: bytes, force: bool) -> None:
-    """Refused where a file is there already and wasn't written so by yoke, which its `mark` near its begin tells, unless `force`.
+    """Refused where a file is there already and wasn't written so by yoke, which its `mark` near
+    its begin tells, unless `force`.
 
     It may hold work that is nowhere else. Trouble where it is a folder.
     """
@@ -114,11 +147,15 @@ def check_own(name: str, mark: bytes, force: bool) -> None:
     if name == '-':
         return
     if path.is_dir():
-        raise Trouble('{} is a folder'.format(name))
+        raise Trouble(f'{name} is a folder')
     if path.exists() and not force:
         with open(path, 'rb') as there:
             if mark not in there.read(400):
-                raise Refused('{} is there, and wasn\'t written by yoke: name another file, or --force'.format(name))
+                raise Refused(
+                    '{} is there, and wasn\'t written by yoke: name another file, or --force'.format(
+                        name
+                    )
+                )
 
 
 def write_new(name: str, lines: Iterable[str]) -> None:
@@ -143,8 +180,12 @@ def give_name(new: pathlib.Path, path: pathlib.Path) -> None:
     try:
         os.link(new, path)
     except FileExistsError:
-        raise Refused(f'{path} is there by now, and isn\'t written over: name another file') from None
-    except OSError:                     # a file system without hard links
+        raise Refused(
+            f'{path} is there by now, and isn\'t written over: name another file'
+        ) from None
+    except OSError:  # a file system without hard links
         if os.path.lexists(path):
-            raise Refused(f'{path} is there by now, and isn\'t written over: name another file') from None
+            raise Refused(
+                f'{path} is there by now, and isn\'t written over: name another file'
+            ) from None
         os.rename(new, path)

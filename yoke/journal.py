@@ -1,7 +1,9 @@
-"""What happened in a day, in a file of the day: each changeset as it was opened, and each send as it ended.
+"""What happened in a day, in a file of the day: each changeset as it was opened, and each send as
+it ended.
 
-The file `log` has a line of JSON for each. A line is added and never changed; half a line, of a machine that stopped, is
-ended by the next one and passed over. Nothing rests on this file but what `yoke log` shows.
+The file `log` has a line of JSON for each. A line is added and never changed; half a line, of a
+machine that stopped, is ended by the next one and passed over. Nothing rests on this file but what
+`yoke log` shows.
 """
 
 import json

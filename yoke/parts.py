@@ -85,8 +85,8 @@ class Wanted:
 
 @dataclass(frozen=True)
 class Reviewed:
-    """How the edits of a session were reviewed: the keys of those that are accepted as they are, and
-    of those on which nobody decided.
+    """How the edits of a session were reviewed: the keys of those that are accepted as they are,
+    and of those on which nobody decided.
     """
 
     accepted: FrozenSet[str]
@@ -108,7 +108,9 @@ class Chosen:
 NOT_NAMED = 'not named by --only'
 IN_CONFLICT = 'in conflict, or hanging together with what is'
 TOO_MANY = 'beyond --at-most'
-NOT_ACCEPTED = 'not accepted as they are, or hanging together with what is not (yoke review --write)'
+NOT_ACCEPTED = (
+    'not accepted as they are, or hanging together with what is not (yoke review --write)'
+)
 
 
 Size = Callable[[Group], int]
@@ -324,7 +326,9 @@ class Parts:
         while order:
             batch = self._batch(order, spans)
             count = sum(map(spans.changes, batch))
-            anyway = len(batch) == 1 and (batch[0] in self._anyway or self._is_too_large(batch[0], spans))
+            anyway = len(batch) == 1 and (
+                batch[0] in self._anyway or self._is_too_large(batch[0], spans)
+            )
             self._make_room(batch, count, spans)
             waiting.difference_update(*batch)
             hold_back(self.session, text, waiting)
@@ -360,7 +364,9 @@ class Parts:
             return False
         if group[0] not in self._told:
             self._told.add(group[0])
-            self.note(too_large(group, count, most) if count > most else too_wide(group, box, widest))
+            self.note(
+                too_large(group, count, most) if count > most else too_wide(group, box, widest)
+            )
         return True
 
     def _make_room(self, batch: List[Group], count: int, spans: 'Spans') -> None:

@@ -1,14 +1,17 @@
-"""Lines for a terminal, in which nothing can move the cursor, hide other text or turn the direction of reading.
+"""Lines for a terminal, in which nothing can move the cursor, hide other text or turn the direction
+of reading.
 
-Tags, cells of a table and a server's answers come from others. `shown` and `line` make what is invisible in them visible,
-and `Guard` stands in front of standard output and the error stream, so that each `print` goes through `shown`.
+Tags, cells of a table and a server's answers come from others. `shown` and `line` make what is
+invisible in them visible, and `Guard` stands in front of standard output and the error stream, so
+that each `print` goes through `shown`.
 """
 import contextlib
 import re
 import sys
 from typing import Any, Iterator, Optional, TextIO
 
-# Control characters, marks of direction, separators of lines, what has no width, tag characters and lone surrogates.
+# Control characters, marks of direction, separators of lines, what has no width, tag characters and
+# lone surrogates.
 _MARKS = '\x7f-\x9f\xad\u061c\u180e\u200b\u200e\u200f\u2028-\u202e\u2060-\u206f\ufeff\ufff9-\ufffb\ud800-\udfff\U000e0000-\U000e007f'
 HIDDEN = re.compile('[\x00-\x08\x0b-\x1f' + _MARKS + ']')
 HIDDEN_IN_LINE = re.compile('[\x00-\x1f' + _MARKS + ']')
@@ -31,8 +34,9 @@ def _escape(found: 're.Match[str]') -> str:
 class Guard:
     """A text stream that shows what is invisible in each text that is written to it.
 
-    A character that the stream's encoding lacks is written so too, and a line of OPL stays one. Everything else is the
-    stream's own, and `data` has the stream itself, for a document that is written byte by byte as it is.
+    A character that the stream's encoding lacks is written so too, and a line of OPL stays one.
+    Everything else is the stream's own, and `data` has the stream itself, for a document that is
+    written byte by byte as it is.
     """
 
     def __init__(self, data: TextIO) -> None:
@@ -57,12 +61,14 @@ def _in_encoding(text: str, encoding: str) -> str:
         text.encode(encoding)
         return text
     except UnicodeEncodeError as error:
-        found, rest = text[error.start:error.end], text[error.end:]
-        return text[:error.start] + re.sub('(?s).', _escape, found) + _in_encoding(rest, encoding)
+        found, rest = text[error.start : error.end], text[error.end :]
+        return text[: error.start] + re.sub('(?s).', _escape, found) + _in_encoding(rest, encoding)
 
 
 class Nowhere:
-    """What takes the place of a stream that was closed before the program began: what is written to it is dropped."""
+    """What takes the place of a stream that was closed before the program began: what is written to
+    it is dropped.
+    """
 
     encoding = 'utf-8'
 
@@ -94,7 +100,9 @@ def _guard(stream: Optional[TextIO]) -> Any:
 
 
 def document(text: str) -> None:
-    """Writes a document to standard output as it is, in UTF-8 whatever the encoding of the terminal."""
+    """Writes a document to standard output as it is, in UTF-8 whatever the encoding of the
+    terminal.
+    """
     stream = sys.stdout.data if isinstance(sys.stdout, Guard) else sys.stdout
     binary = getattr(stream, 'buffer', None)
     if binary is None:

@@ -1,4 +1,6 @@
-"""What tells of progress and of faults: lines on the error stream, so that standard output has results alone."""
+"""What tells of progress and of faults: lines on the error stream, so that standard output has
+results alone.
+"""
 import sys
 
 from yoke import results

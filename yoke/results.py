@@ -1,7 +1,7 @@
 """What a command found and did, as data: one JSON document on standard output, with `--json`.
 
-A verb calls `put` and `add` beside what it prints. Without `--json` they do nothing, so a verb that has to make its data
-first asks `wanted`. docs/JSON.md describes the document.
+A verb calls `put` and `add` beside what it prints. Without `--json` they do nothing, so a verb that
+has to make its data first asks `wanted`. docs/JSON.md describes the document.
 """
 from __future__ import annotations
 
@@ -17,7 +17,7 @@ from yoke import VERSION, opl, printing, saved
 from yoke.day import State
 from yoke.trouble import Trouble
 
-SCHEMA = 1      # goes up when a field changes its meaning or goes; new fields may come without
+SCHEMA = 1  # goes up when a field changes its meaning or goes; new fields may come without
 
 
 @dataclass
@@ -69,12 +69,19 @@ def collected() -> Iterator[tuple[Results, io.StringIO]]:
         _current.reset(token)
 
 
-def write(verb: str, code: int, found: Results, printed: str, trouble: BaseException | None) -> None:
+def write(
+    verb: str, code: int, found: Results, printed: str, trouble: BaseException | None
+) -> None:
     """Writes the document."""
     document = {
-        'schema': SCHEMA, 'yoke': VERSION, 'verb': verb, 'exit': code,
+        'schema': SCHEMA,
+        'yoke': VERSION,
+        'verb': verb,
+        'exit': code,
         'error': None if trouble is None else _error(trouble),
-        'notes': found.notes, 'lines': printed.splitlines(), 'result': found.fields,
+        'notes': found.notes,
+        'lines': printed.splitlines(),
+        'result': found.fields,
     }
     printing.document(json.dumps(document, ensure_ascii=False, default=str) + '\n')
 
@@ -82,25 +89,38 @@ def write(verb: str, code: int, found: Results, printed: str, trouble: BaseExcep
 def _error(trouble: BaseException) -> dict[str, Any]:
     found: dict[str, Any] = {'kind': type(trouble).__name__, 'message': str(trouble)}
     if isinstance(trouble, Trouble):
-        found.update({name: value for name, value in vars(trouble).items() if name in ('keys', 'status', 'wait', 'line')})
+        found.update(
+            {
+                name: value
+                for name, value in vars(trouble).items()
+                if name in ('keys', 'status', 'wait', 'line')
+            }
+        )
     return found
 
 
 # ---- parts of a result ----
+
 
 def of_state(state: State) -> dict[str, Any]:
     """A session that was kept."""
     return {'number': state.number, 'verb': state.verb, 'path': str(state.path)}
 
 
-
 def of_object(thing: opl.Object | None) -> dict[str, Any] | None:
-    """An object as JSON has it: degrees as numbers, members as pairs of key and role. None stands for one that isn't there."""
+    """An object as JSON has it: degrees as numbers, members as pairs of key and role. None stands
+    for one that isn't there.
+    """
     if thing is None:
         return None
     found: dict[str, Any] = {
-        'key': thing.key, 'version': thing.version, 'deleted': thing.deleted, 'changeset': thing.changeset,
-        'time': thing.time, 'uid': thing.uid, 'user': thing.user,
+        'key': thing.key,
+        'version': thing.version,
+        'deleted': thing.deleted,
+        'changeset': thing.changeset,
+        'time': thing.time,
+        'uid': thing.uid,
+        'user': thing.user,
     }
     if not thing.deleted:
         found['tags'] = dict(thing.tags)
@@ -120,6 +140,10 @@ def _number(degrees: Any) -> float | None:
 def of_known(known: saved.Known) -> dict[str, Any]:
     """An object of a session, with its sides."""
     return {
-        'key': known.key, 'edit': known.edit, 'conflict': None if known.conflict == 'none' else known.conflict,
-        'base': of_object(known.base), 'mine': of_object(known.mine), 'theirs': of_object(known.theirs),
+        'key': known.key,
+        'edit': known.edit,
+        'conflict': None if known.conflict == 'none' else known.conflict,
+        'base': of_object(known.base),
+        'mine': of_object(known.mine),
+        'theirs': of_object(known.theirs),
     }

@@ -1,7 +1,8 @@
-"""A saved session, read without the program: of each object its base, what it is here, and what it is in conflict with.
+"""A saved session, read without the program: of each object its base, what it is here, and what it
+is in conflict with.
 
-The lines are those that `save` writes (docs/SAVING.md). Of a large session most objects are only looked at
-by key, so a line is taken apart when it is asked for.
+The lines are those that `save` writes (docs/SAVING.md). Of a large session most objects are only
+looked at by key, so a line is taken apart when it is asked for.
 """
 from typing import Dict, Optional, Sequence, Union
 
@@ -16,9 +17,10 @@ class NotWhole(Trouble):
 class Known:
     """An object of a session, by its key.
 
-    `base` is the version of the server from which the edits began: None of a new object, and marked deleted where the
-    server deleted it. `mine` is what the object is here: None where it is deleted here or on the server. `conflict` is
-    `none`, `changed`, `held` or `withdrawn`, and `theirs` the version of the server that it is in conflict with, else None.
+    `base` is the version of the server from which the edits began: None of a new object, and marked
+    deleted where the server deleted it. `mine` is what the object is here: None where it is deleted
+    here or on the server. `conflict` is `none`, `changed`, `held` or `withdrawn`, and `theirs` the
+    version of the server that it is in conflict with, else None.
     """
 
     def __init__(self, key: str, conflict: str) -> None:
@@ -66,7 +68,9 @@ class Known:
 
     @property
     def edit(self) -> Optional[str]:
-        """`new`, `changed` or `deleted`; None where nothing was edited. This is what `count` counts as changed."""
+        """`new`, `changed` or `deleted`; None where nothing was edited. This is what `count` counts
+        as changed.
+        """
         if self.is_new:
             return 'new'
         if self._same:
@@ -90,7 +94,9 @@ def known_of(lines: Sequence[str]) -> Known:
 
 
 def read(text: str) -> Dict[str, Known]:
-    """The objects of a saved session, Known by key, by rank; Trouble where the text is none. Incomplete ones aren't in it."""
+    """The objects of a saved session, Known by key, by rank; Trouble where the text is none.
+    Incomplete ones aren't in it.
+    """
     things: Dict[str, Known] = {}
     thing = Known('', 'none')
     if not text.startswith('session 1 ') or not text.endswith('session end\n'):

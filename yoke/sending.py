@@ -1,8 +1,9 @@
 """Sends the edits of a day, so that nothing is lost and nothing is sent twice, wherever it ends.
 
-What is on disk tells where a send stands. `N` is the last session that was kept; `changeset` names the changeset that is
-open, and `N.osc`, `N.answer` and `N.answers` stand beside the session (`yoke/day.py`). Each file is whole and on the disk
-before the next call goes out, and each answer is on the disk before anything rests on it:
+What is on disk tells where a send stands. `N` is the last session that was kept; `changeset` names
+the changeset that is open, and `N.osc`, `N.answer` and `N.answers` stand beside the session
+(`yoke/day.py`). Each file is whole and on the disk before the next call goes out, and each answer
+is on the disk before anything rests on it:
 
 | row | changeset | N.osc | N.answer | what it means | what the next start does |
 |---|---|---|---|---|---|
@@ -23,20 +24,22 @@ From row to row, in this order, of which each line is one write or one call:
     4 -> 2   write N.answers; write (N+1)-send.saved, by which N.osc is no longer beside the last session
     2 -> 1   C is full, or nothing is left to send: PUT changeset/C/close; remove changeset
 
-Row 3 rests on two things that API 0.6 has: a document is taken whole or not at all, and nothing is taken into a changeset
-that is closed. The close is the fence: a document still at work at the server either ends before it, and then the second
-look sees it, or finds the changeset closed. So the same changes never go out again while the first time may still count.
-The look is at `changeset/C/download`; where that doesn't come, at the version that one of the changes would have made. How
-many changes a changeset counts says the same once more, and where the two don't agree nothing goes out; nor does anything go
-into one that counts more than was confirmed.
+Row 3 rests on two things that API 0.6 has: a document is taken whole or not at all, and nothing is
+taken into a changeset that is closed. The close is the fence: a document still at work at the
+server either ends before it, and then the second look sees it, or finds the changeset closed. So
+the same changes never go out again while the first time may still count. The look is at
+`changeset/C/download`; where that doesn't come, at the version that one of the changes would have
+made. How many changes a changeset counts says the same once more, and where the two don't agree
+nothing goes out; nor does anything go into one that counts more than was confirmed.
 
-A server may limit how much goes out: by time (429), by the size of a document, or by the bounding box of a changeset (both
-413). Each is a refusal, by which nothing was taken. The next document is then smaller: half the changes, or, for the box,
-those that span half as much. After a document that was taken the next has twice as many changes again, up to those that
-were wanted. A 429 waits besides, and ends the send with `Later` where that takes longer than the command may wait.
+A server may limit how much goes out: by time (429), by the size of a document, or by the bounding
+box of a changeset (both 413). Each is a refusal, by which nothing was taken. The next document is
+then smaller: half the changes, or, for the box, those that span half as much. After a document that
+was taken the next has twice as many changes again, up to those that were wanted. A 429 waits
+besides, and ends the send with `Later` where that takes longer than the command may wait.
 
-A new object has no version that would guard it, so row 3 is where another sender would make it twice; a change that names
-a version can't be taken twice at all.
+A new object has no version that would guard it, so row 3 is where another sender would make it
+twice; a change that names a version can't be taken twice at all.
 """
 import enum
 import json
@@ -54,12 +57,12 @@ from yoke.session import Session
 from yoke.stored import Stored
 from yoke.trouble import Clash, NoAnswer, Redacted, Refused, ServerRefused, Trouble
 
-CHUNK = 1000                # changes in a document, unless --chunk names another number
-SILENCES = 3                # documents in a row that got no answer and weren't taken, before a send ends
-WAITS = (10, 60)            # seconds between them
-FENCE_WAITS = (5, 15, 60)   # seconds in which a changeset that is closed may still be at work
-CLASHES = (409, 410, 412)   # somebody was faster
-Identity = Tuple[State, int, int]   # a kept session, and the file that it is now
+CHUNK = 1000  # changes in a document, unless --chunk names another number
+SILENCES = 3  # documents in a row that got no answer and weren't taken, before a send ends
+WAITS = (10, 60)  # seconds between them
+FENCE_WAITS = (5, 15, 60)  # seconds in which a changeset that is closed may still be at work
+CLASHES = (409, 410, 412)  # somebody was faster
+Identity = Tuple[State, int, int]  # a kept session, and the file that it is now
 
 
 def always(chunk: List[Change]) -> bool:
@@ -68,31 +71,37 @@ def always(chunk: List[Change]) -> bool:
 
 
 class Outcome(enum.Enum):
-    """What became of a document. In each case but TAKEN it is gone from the disk, and what it had is still to be sent."""
+    """What became of a document. In each case but TAKEN it is gone from the disk, and what it had
+    is still to be sent.
+    """
 
     TAKEN = 1
-    SILENT = 2      # no answer came, and it wasn't taken
-    AGAIN = 3       # another changeset or a smaller chunk is wanted
+    SILENT = 2  # no answer came, and it wasn't taken
+    AGAIN = 3  # another changeset or a smaller chunk is wanted
 
 
 @dataclass
 class Open:
-    """A changeset that is open: its id, its tags, how many changes it has, and the box around them, where that is known."""
+    """A changeset that is open: its id, its tags, how many changes it has, and the box around them,
+    where that is known.
+    """
 
     number: str
     tags: Dict[str, str]
     count: int = 0
     box: Optional[extent.Box] = None
-    is_measured: bool = False       # whether `box` is around all of its changes
+    is_measured: bool = False  # whether `box` is around all of its changes
 
 
 @dataclass
 class Sending:
-    """One send: a session, a server, the tags for changesets, and how many changes a chunk may have.
+    """One send: a session, a server, the tags for changesets, and how many changes a chunk may
+    have.
 
-    `note` is called with lines of progress. `account` is the name of the account that has to send, if any; `max_extent` is how
-    much of the map a changeset may span, in units of 10^-7 degree: its box's width plus its height. After `run` `sent` is how
-    many changes were taken, and `used` the changesets.
+    `note` is called with lines of progress. `account` is the name of the account that has to send,
+    if any; `max_extent` is how much of the map a changeset may span, in units of 10^-7 degree: its
+    box's width plus its height. After `run` `sent` is how many changes were taken, and `used` the
+    changesets.
     """
 
     session: Session
@@ -104,17 +113,25 @@ class Sending:
     changeset: Optional[Open] = None
     sent: int = 0
     used: List[str] = field(default_factory=list)
-    unusable: int = 0       # changesets in a row that were refused before they had a change
-    held: int = 0           # edits that are held back (`yoke/parts.py`), and that count as left
+    unusable: int = 0  # changesets in a row that were refused before they had a change
+    held: int = 0  # edits that are held back (`yoke/parts.py`), and that count as left
     account: str = ''
     max_extent: Optional[int] = None
-    sender: Optional[Account] = None        # who sends, where the server says so
-    _small: int = 0         # how many changes a chunk may have for now, where the server wanted fewer; else 0
-    _attempts: int = 0      # documents in a row to which the server said 429
-    _ahead: List[Tuple[str, opl.Object]] = field(default_factory=list)      # the next changes of the session
-    _ahead_of: Optional[Identity] = None    # the session that these are of
-    _answered: Optional[List[str]] = None   # the lines of the answer to the document that was just taken
-    _out: Optional[List[Tuple[str, opl.Object]]] = None     # the changes of the document that is out, where it was made here
+    sender: Optional[Account] = None  # who sends, where the server says so
+    _small: int = (
+        0  # how many changes a chunk may have for now, where the server wanted fewer; else 0
+    )
+    _attempts: int = 0  # documents in a row to which the server said 429
+    _ahead: List[Tuple[str, opl.Object]] = field(
+        default_factory=list
+    )  # the next changes of the session
+    _ahead_of: Optional[Identity] = None  # the session that these are of
+    _answered: Optional[
+        List[str]
+    ] = None  # the lines of the answer to the document that was just taken
+    _out: Optional[
+        List[Tuple[str, opl.Object]]
+    ] = None  # the changes of the document that is out, where it was made here
     _boxes_of: Optional[Tuple[Identity, extent.Boxes]] = None
 
     @property
@@ -148,18 +165,22 @@ class Sending:
         self.close()
 
     def begin(self) -> None:
-        """Asks the server for its limits, and goes on from where the last send ended, to row 1 or 2."""
+        """Asks the server for its limits, and goes on from where the last send ended, to row 1 or
+        2.
+        """
         check_server(self.day, self.server)
         self.limits = self.server.limits()
         if not self.limits.writable:
-            raise NoAnswer('{} takes no edits at present; send again later'.format(self.server.address))
+            raise NoAnswer(f'{self.server.address} takes no edits at present; send again later')
         self.sender = accounts.check(self.day, self.server, self.account, self.note)
         self._take_up()
 
     def send_all(self, may_go: Callable[[List[Change]], bool] = always) -> bool:
-        """Sends the last session, chunk by chunk, and leaves the changeset open. Answers whether nothing is left of it.
+        """Sends the last session, chunk by chunk, and leaves the changeset open. Answers whether
+        nothing is left of it.
 
-        `may_go` is asked of each chunk before it goes out; where it says no, the chunk and all after it stay here.
+        `may_go` is asked of each chunk before it goes out; where it says no, the chunk and all
+        after it stay here.
         """
         chunk, silences = self._next_chunk(), 0
         while chunk and may_go(chunk):
@@ -172,7 +193,11 @@ class Sending:
             if outcome is Outcome.SILENT:
                 silences += 1
                 if silences == SILENCES:
-                    raise NoAnswer('no answer came to {} documents in a row, and none was taken; send again later'.format(silences))
+                    raise NoAnswer(
+                        'no answer came to {} documents in a row, and none was taken; send again later'.format(
+                            silences
+                        )
+                    )
                 api.pause(WAITS[silences - 1])
             chunk = self._next_chunk()
         return not chunk
@@ -191,15 +216,20 @@ class Sending:
             self.current.count, is_open = self._looked_at()
             confirmed = len(self._earlier())
             if self.current.count > confirmed:
-                raise Trouble("{}; where they are none of this day's, remove {}".format(
-                    self._others(self.current.count, confirmed), self.day.path("changeset")))
+                raise Trouble(
+                    "{}; where they are none of this day's, remove {}".format(
+                        self._others(self.current.count, confirmed), self.day.path("changeset")
+                    )
+                )
             if not is_open:
                 self._drop()
             elif self.current.tags != self.tags or self.current.count >= self.most:
                 self.close()
 
     def _looked_at(self) -> Tuple[int, bool]:
-        """How many changes the changeset has, and whether it is open; one that the server doesn't know isn't."""
+        """How many changes the changeset has, and whether it is open; one that the server doesn't
+        know isn't.
+        """
         try:
             return self.server.changeset(self.current.number)
         except ServerRefused as refused:
@@ -225,7 +255,9 @@ class Sending:
     # ---- rows 1 and 2 ----
 
     def room(self) -> int:
-        """How many changes the next chunk may have; where the changeset is full the chunk goes into another one."""
+        """How many changes the next chunk may have; where the changeset is full the chunk goes into
+        another one.
+        """
         left = self.most - (self.current.count if self.changeset else 0)
         return min(self.largest(), left) if left > 0 else self.largest()
 
@@ -236,12 +268,13 @@ class Sending:
     def _next_chunk(self) -> List[Change]:
         """The changes of the next chunk; none where nothing is left."""
         if self._ahead_of != identity(self.day.last()):
-            self._look_ahead(self.session.ask(['upload {}'.format(self.room())]))
-        return self._within_extent(self._ahead[:self.room()])
+            self._look_ahead(self.session.ask([f'upload {self.room()}']))
+        return self._within_extent(self._ahead[: self.room()])
 
     def _look_ahead(self, answer: Answer) -> None:
-        """Keeps the next changes of the last session, of an Answer whose last `upload` has them: after a refusal they are asked for no
-        second time."""
+        """Keeps the next changes of the last session, of an Answer whose last `upload` has them:
+        after a refusal they are asked for no second time.
+        """
         self._ahead, self._ahead_of = answer.first_chunk(), identity(self.day.last())
 
     def _boxes(self) -> extent.Boxes:
@@ -252,17 +285,22 @@ class Sending:
         return self._boxes_of[1]
 
     def _within_extent(self, chunk: List[Change]) -> List[Change]:
-        """As many changes of a chunk as keep the changeset within the extent. Where not even the first does the changeset is closed; a
-        change that spans more by itself goes out alone."""
+        """As many changes of a chunk as keep the changeset within the extent. Where not even the
+        first does the changeset is closed; a change that spans more by itself goes out alone.
+        """
         if self.max_extent is None or not chunk:
             return chunk
         count = 0
         if self.changeset and (self.current.is_measured or not self.current.count):
             count = self._boxes().fitting(chunk, self.current.box, self.max_extent)
         if not count and self.changeset and self.current.count:
-            self.note('changeset {}: the next change lies too far away, and goes into another one'.format(self.current.number))
+            self.note(
+                'changeset {}: the next change lies too far away, and goes into another one'.format(
+                    self.current.number
+                )
+            )
             self.close()
-        return chunk[:count or self._boxes().fitting(chunk, None, self.max_extent) or 1]
+        return chunk[: count or self._boxes().fitting(chunk, None, self.max_extent) or 1]
 
     def _open(self) -> None:
         number = self.server.open_changeset(self.tags)
@@ -289,7 +327,9 @@ class Sending:
     # ---- row 3 ----
 
     def _deliver(self, chunk: List[Change]) -> Outcome:
-        """Sends a chunk; answers with its Outcome. Raises Clash or ServerRefused where the server refuses what is in it."""
+        """Sends a chunk; answers with its Outcome. Raises Clash or ServerRefused where the server
+        refuses what is in it.
+        """
         try:
             document = osc.document(chunk, self.current.number)
         except ValueError as error:
@@ -302,8 +342,8 @@ class Sending:
         except ServerRefused as refused:
             return self._refused(refused, chunk)
         except (NoAnswer, osc.NoXml) as silence:
-            self.unusable = 0       # the server took no offence at this changeset
-            self.note('{}; the changeset {} is looked into'.format(silence, self.current.number))
+            self.unusable = 0  # the server took no offence at this changeset
+            self.note(f'{silence}; the changeset {self.current.number} is looked into')
             return Outcome.TAKEN if self._settle() else Outcome.SILENT
         self._write('answer', text)
         return Outcome.TAKEN
@@ -313,12 +353,18 @@ class Sending:
         if refused.status == 409 and not words.is_version_mismatch(refused.text):
             return self._other_changeset(refused)
         if refused.status in CLASHES:
-            if self._found():       # a proxy had sent it twice, and this is the answer to the second time
+            if (
+                self._found()
+            ):  # a proxy had sent it twice, and this is the answer to the second time
                 return Outcome.TAKEN
             self._hold_to_count()
             self._remove('osc')
             keys = users(refused.text)
-            raise Clash(str(refused) + ('; where it doesn\'t know them: yoke refresh ' + ' '.join(keys) if keys else ''), keys) from None
+            raise Clash(
+                str(refused)
+                + ('; where it doesn\'t know them: yoke refresh ' + ' '.join(keys) if keys else ''),
+                keys,
+            ) from None
         if refused.status in (413, 429):
             if self._was_taken():
                 return Outcome.TAKEN
@@ -326,7 +372,9 @@ class Sending:
             self._make_smaller(refused, chunk)
             return Outcome.AGAIN
         if refused.status == 400:
-            self.day.rename(self.day.beside(self.day.last(), 'osc'), self.day.beside(self.day.last(), 'refused'))
+            self.day.rename(
+                self.day.beside(self.day.last(), 'osc'), self.day.beside(self.day.last(), 'refused')
+            )
         else:
             self._remove('osc')
         raise refused
@@ -341,37 +389,52 @@ class Sending:
         return True
 
     def _make_smaller(self, refused: ServerRefused, chunk: List[Change]) -> None:
-        """Sees to it that the next document is smaller than this chunk, or goes into another changeset; of a 429 it waits, too."""
+        """Sees to it that the next document is smaller than this chunk, or goes into another
+        changeset; of a 429 it waits, too.
+        """
         if refused.status == 429:
             self._small = max(1, len(chunk) // 2)
             self.server.hold_off(refused, self._attempts)
             self._attempts += 1
             return
-        self.note('{}'.format(refused))
+        self.note(f'{refused}')
         if self.current.count:
             self.close()
         elif len(chunk) == 1:
             verb, one = chunk[0]
-            raise ServerRefused('{}; {} {} is one change, and too large by itself: make it smaller, or take it back'.format(
-                refused, verb, one.key), refused.status, refused.text)
+            raise ServerRefused(
+                '{}; {} {} is one change, and too large by itself: make it smaller, or take it back'.format(
+                    refused, verb, one.key
+                ),
+                refused.status,
+                refused.text,
+            )
         elif words.is_too_wide(refused.text):
             self._span_less(chunk)
         else:
-            self.size = len(chunk) // 2     # for good: the server's limit of a document doesn't change
+            self.size = len(chunk) // 2  # for good: the server's limit of a document doesn't change
 
     def _span_less(self, chunk: List[Change]) -> None:
-        """Lets changesets span half as much as this chunk; where its changes have no place the next chunk has half of them."""
+        """Lets changesets span half as much as this chunk; where its changes have no place the next
+        chunk has half of them.
+        """
         box = self._boxes().of_all(chunk)
         if box is None or not box.extent:
             self._small = len(chunk) // 2
         else:
             self.max_extent = box.extent // 2
-            self.note('from here on a changeset spans {} degrees at most'.format(extent.degrees(self.max_extent)))
+            self.note(
+                'from here on a changeset spans {} degrees at most'.format(
+                    extent.degrees(self.max_extent)
+                )
+            )
 
     def _other_changeset(self, refused: ServerRefused) -> Outcome:
-        """A 409 for the changeset itself: it is closed, or somebody works in it. A second new one in a row is another fault."""
+        """A 409 for the changeset itself: it is closed, or somebody works in it. A second new one
+        in a row is another fault.
+        """
         self.unusable = 0 if self.current.count else self.unusable + 1
-        self.note('{}'.format(refused))
+        self.note(f'{refused}')
         if words.is_of_another_account(refused.text):
             self._remove('osc')
             self._drop()
@@ -382,7 +445,8 @@ class Sending:
         return Outcome.AGAIN
 
     def _settle(self) -> bool:
-        """Whether the document that is out was taken. If not it never will be: its changeset is closed, and both are gone here.
+        """Whether the document that is out was taken. If not it never will be: its changeset is
+        closed, and both are gone here.
 
         NoAnswer where that can't be told yet.
         """
@@ -402,14 +466,15 @@ class Sending:
         try:
             return self._found()
         except (NoAnswer, ServerRefused) as silence:
-            self.note('{}'.format(silence))
+            self.note(f'{silence}')
             return None
 
     def _fence(self) -> bool:
-        """Closes the changeset until it is closed; answers whether it counts the changes of the document that is out.
+        """Closes the changeset until it is closed; answers whether it counts the changes of the
+        document that is out.
 
-        A close may be refused while a document is at work in it: NoAnswer where that takes too long. Trouble where it counts
-        changes that are neither this day's nor those that are out.
+        A close may be refused while a document is at work in it: NoAnswer where that takes too
+        long. Trouble where it counts changes that are neither this day's nor those that are out.
         """
         number, waits = self.current.number, list(FENCE_WAITS)
         while True:
@@ -418,31 +483,41 @@ class Sending:
             if not is_open:
                 break
             if not waits:
-                raise NoAnswer('the changeset {} is still at work at the server'.format(number))
-            self.note('the changeset {} is still at work; asked again in {} s'.format(number, waits[0]))
+                raise NoAnswer(f'the changeset {number} is still at work at the server')
+            self.note(f'the changeset {number} is still at work; asked again in {waits[0]} s')
             api.pause(waits.pop(0))
         return self._counts(count)
 
     def _counts(self, count: int) -> bool:
-        """Whether so many changes in the changeset are with those of the document that is out. Trouble where they are others."""
+        """Whether so many changes in the changeset are with those of the document that is out.
+        Trouble where they are others.
+        """
         confirmed, out = len(self._earlier()), len(self._sent())
         if count not in (confirmed, confirmed + out):
             raise self._others(count, confirmed)
         return count == confirmed + out
 
     def _hold_to_count(self) -> None:
-        """NoAnswer where the changeset counts the changes of the document that is out, though it was refused and isn't found."""
+        """NoAnswer where the changeset counts the changes of the document that is out, though it
+        was refused and isn't found.
+        """
         count, _ = self.server.changeset(self.current.number)
         if self._counts(count):
             raise self._unseen()
 
     def _unseen(self) -> NoAnswer:
-        return NoAnswer('the changeset {} counts the changes of {}, and doesn\'t show them yet'.format(
-            self.current.number, self._document))
+        return NoAnswer(
+            'the changeset {} counts the changes of {}, and doesn\'t show them yet'.format(
+                self.current.number, self._document
+            )
+        )
 
     def _others(self, count: int, confirmed: int) -> Trouble:
-        return Trouble('the changeset {} has {} changes, and {} were confirmed: look what they are before anything is sent again'.format(
-            self.current.number, count, confirmed))
+        return Trouble(
+            'the changeset {} has {} changes, and {} were confirmed: look what they are before anything is sent again'.format(
+                self.current.number, count, confirmed
+            )
+        )
 
     def _sent(self) -> List[Change]:
         """The changes of the document that is out."""
@@ -460,28 +535,36 @@ class Sending:
         except osc.NotThere:
             return False
         except osc.NoXml as fault:
-            return self._found_by_version(sent, NoAnswer('the changeset {} can\'t be read: {}'.format(self.current.number, fault)))
+            return self._found_by_version(
+                sent,
+                NoAnswer(f'the changeset {self.current.number} can\'t be read: {fault}'),
+            )
         except ValueError as fault:
             if self._counts(self.server.changeset(self.current.number)[0]) and self._found_hidden():
                 return True
-            raise Trouble('the changeset {} isn\'t what API 0.6 makes of {}: {}'.format(
-                self.current.number, self._document, fault)) from None
+            raise Trouble(
+                'the changeset {} isn\'t what API 0.6 makes of {}: {}'.format(
+                    self.current.number, self._document, fault
+                )
+            ) from None
         self._write('answer', text)
         return True
 
     def _found_hidden(self) -> bool:
-        """Whether the document that is out was taken, and the changeset doesn't show some of it since these versions were redacted; keeps
-        what says so as the answer. A new object's id is nowhere else, so one that is hidden isn't found."""
+        """Whether the document that is out was taken, and the changeset doesn't show some of it
+        since these versions were redacted; keeps what says so as the answer. A new object's id is
+        nowhere else, so one that is hidden isn't found.
+        """
         sent, lines = self._sent(), []
         try:
             found = osc.matched(sent, self.server.download(self.current.number), self._given())
         except (NoAnswer, ServerRefused, osc.NoXml) as silence:
-            self.note('{}'.format(silence))
+            self.note(f'{silence}')
             return False
         for (verb, one), line in zip(sent, found):
             if line is None and not self._is_hidden(verb, one):
                 return False
-            lines.append(line or '{} {} v{}'.format(verb, one.key, one.version + 1))
+            lines.append(line or f'{verb} {one.key} v{one.version + 1}')
         self._write('answer', osc.result_of(lines))
         return True
 
@@ -496,9 +579,11 @@ class Sending:
         return False
 
     def _found_by_version(self, sent: List[Change], silence: Trouble) -> bool:
-        """The same where the changeset itself can't be looked into, by the version that a change or deletion made.
+        """The same where the changeset itself can't be looked into, by the version that a change or
+        deletion made.
 
-        The silence is raised where there is neither, or where new objects were taken, whose ids the changeset alone tells.
+        The silence is raised where there is neither, or where new objects were taken, whose ids the
+        changeset alone tells.
         """
         one = next((thing for verb, thing in sent if verb != 'create'), None)
         if one is None:
@@ -512,15 +597,23 @@ class Sending:
         return True
 
     def _given(self) -> Set[str]:
-        """The keys that this changeset gave to new objects before: they answer nothing of what is out."""
+        """The keys that this changeset gave to new objects before: they answer nothing of what is
+        out.
+        """
         return {line.split(' ')[2] for line in self._earlier() if line.startswith('create ')}
 
     def _earlier(self) -> List[str]:
-        """The lines of all answers that were confirmed before, of documents in the changeset that is open."""
+        """The lines of all answers that were confirmed before, of documents in the changeset that
+        is open.
+        """
         lines = []
         for path in sorted(self.day.folder.glob('*.answers')):
             document = self.day.read(path.name.replace('.answers', '.osc'))
-            if path.name != self.day.beside(self.day.last(), 'answers') and document and osc.changeset_of(document) == self.current.number:
+            if (
+                path.name != self.day.beside(self.day.last(), 'answers')
+                and document
+                and osc.changeset_of(document) == self.current.number
+            ):
                 lines += path.read_text(encoding='utf-8').splitlines()
         return lines
 
@@ -538,29 +631,50 @@ class Sending:
         self.sent, self.unusable = self.sent + len(lines), 0
         if self.current.number not in self.used:
             self.used.append(self.current.number)
-        self.note('changeset {}: {} changes taken, {} left'.format(self.current.number, len(lines), answer.upload_size() + self.held))
+        self.note(
+            'changeset {}: {} changes taken, {} left'.format(
+                self.current.number, len(lines), answer.upload_size() + self.held
+            )
+        )
         if self.current.count >= self.most:
             self.close()
         return self._next_chunk()
 
     def _lines_of_answer(self) -> List[str]:
-        """The lines by which `confirm` takes the answer in: as it was just read, else from the disk."""
+        """The lines by which `confirm` takes the answer in: as it was just read, else from the
+        disk.
+        """
         lines, self._answered = self._answered, None
         if lines is not None:
             return lines
         sent, text = self._sent(), self._there('answer')
         try:
-            return osc.answers(sent, text) if '<diffResult' in text else osc.looked_up(sent, text, self._given())
+            return (
+                osc.answers(sent, text)
+                if '<diffResult' in text
+                else osc.looked_up(sent, text, self._given())
+            )
         except ValueError as fault:
-            raise Trouble('{} doesn\'t answer {}: {}'.format(
-                self.day.path(self.day.beside(self.day.last(), 'answer')), self._document, fault)) from None
+            raise Trouble(
+                '{} doesn\'t answer {}: {}'.format(
+                    self.day.path(self.day.beside(self.day.last(), 'answer')), self._document, fault
+                )
+            ) from None
 
     def _measure(self) -> None:
-        """Lets the box of the changeset be around the changes that were taken, where it was around all before them."""
+        """Lets the box of the changeset be around the changes that were taken, where it was around
+        all before them.
+        """
         assert self.changeset is not None
-        knows = self.max_extent is not None and self._out is not None and (self.current.is_measured or not self.current.count)
+        knows = (
+            self.max_extent is not None
+            and self._out is not None
+            and (self.current.is_measured or not self.current.count)
+        )
         if knows:
-            self.current.box = extent.joined(self.current.box, self._boxes().of_all(self._out or []))
+            self.current.box = extent.joined(
+                self.current.box, self._boxes().of_all(self._out or [])
+            )
         self.current.is_measured, self._out = knows, None
 
     def _grow(self) -> None:
@@ -584,14 +698,22 @@ def noted(day: Day) -> Optional[Open]:
 def users(text: str) -> List[str]:
     """The keys of the users that a 412 names, the first twenty: the session may not know them."""
     found = re.search('used (?:by|in) (way|relation)s? ([0-9, ]+)', text)
-    return ['{}{}'.format(found[1][0], number) for number in re.findall('[0-9]+', found[2])[:20]] if found else []
+    return (
+        [f'{found[1][0]}{number}' for number in re.findall('[0-9]+', found[2])[:20]]
+        if found
+        else []
+    )
 
 
 def check_server(day: Day, server: Server) -> None:
     """Trouble where a day is of another server."""
     before = (day.read('server') or '').strip()
     if before and before != server.address:
-        raise Trouble('this day is of the server {}, and its ids mean nothing to another: start another --day for {}'.format(before, server.address))
+        raise Trouble(
+            'this day is of the server {}, and its ids mean nothing to another: start another --day for {}'.format(
+                before, server.address
+            )
+        )
 
 
 def note_server(day: Day, server: Server) -> None:

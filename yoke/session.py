@@ -29,54 +29,91 @@ class Session:
         return cls(Day(arguments.day), Program.of(arguments))
 
     def ask(self, lines: Iterable[str], allow_refused: bool = False) -> Answer:
-        """The Answer to lines over the last session, of which nothing is kept. Refused at the first refused one, unless they are allowed."""
+        """The Answer to lines over the last session, of which nothing is kept. Refused at the first
+        refused one, unless they are allowed.
+        """
         return self._run(self.day.last(), list(lines), allow_refused)
 
-    def edit(self, verb: str, lines: Iterable[str], allow_refused: bool = False, keep_refused: bool = False) -> Answer:
-        """Does lines over the last session, and keeps what comes as the work of a verb; answers with the Answer.
+    def edit(
+        self,
+        verb: str,
+        lines: Iterable[str],
+        allow_refused: bool = False,
+        keep_refused: bool = False,
+    ) -> Answer:
+        """Does lines over the last session, and keeps what comes as the work of a verb; answers
+        with the Answer.
 
-        Where a step is refused nothing is kept, and Refused is raised. With `allow_refused` the Answer comes all the same,
-        and with `keep_refused` the other steps are kept too. NoAnswer where a document went out and its answer isn't known:
-        the server may have taken what such an edit would change.
+        Where a step is refused nothing is kept, and Refused is raised. With `allow_refused` the
+        Answer comes all the same, and with `keep_refused` the other steps are kept too. NoAnswer
+        where a document went out and its answer isn't known: the server may have taken what such an
+        edit would change.
         """
         self.check_settled()
         with self.day.draft(verb) as draft:
-            answer = self._run(self.day.last(), list(lines), allow_refused, lambda answer: (
-                draft.begin() if keep_refused or not answer.refused() else None))
+            answer = self._run(
+                self.day.last(),
+                list(lines),
+                allow_refused,
+                lambda answer: (draft.begin() if keep_refused or not answer.refused() else None),
+            )
             if draft.file is not None:
                 draft.keep()
         return answer
 
     def check_settled(self) -> None:
-        """NoAnswer where a document went out, and it isn't known what the server took of it, or where a part of the edits is being sent."""
+        """NoAnswer where a document went out, and it isn't known what the server took of it, or
+        where a part of the edits is being sent.
+        """
         pending, held = self.day.pending(), self.day.held()
         if pending:
-            raise NoAnswer('it isn\'t known yet what the server took of {}: yoke send looks, and goes on'.format(self.day.path(pending)))
+            raise NoAnswer(
+                'it isn\'t known yet what the server took of {}: yoke send looks, and goes on'.format(
+                    self.day.path(pending)
+                )
+            )
         if held:
-            raise NoAnswer('a send was stopped while {} edits were held back: the same yoke send goes on'.format(len(held.keys)))
+            raise NoAnswer(
+                'a send was stopped while {} edits were held back: the same yoke send goes on'.format(
+                    len(held.keys)
+                )
+            )
 
     def confirm(self, name: str, size: int) -> Answer:
-        """Takes in the answers of a server, which are a file of the day, and keeps the session after them as the work of `send`.
+        """Takes in the answers of a server, which are a file of the day, and keeps the session
+        after them as the work of `send`.
 
-        Answers with the Answer, whose last `upload` has what is left, in chunks of so many changes. Trouble where the
-        answers aren't those to what this session would send.
+        Answers with the Answer, whose last `upload` has what is left, in chunks of so many changes.
+        Trouble where the answers aren't those to what this session would send.
         """
-        lines = ['confirm ' + opl.escape(os.path.abspath(self.day.path(name))), 'upload {}'.format(size)]
+        lines = [
+            'confirm ' + opl.escape(os.path.abspath(self.day.path(name))),
+            f'upload {size}',
+        ]
         with self.day.draft('send') as draft:
-            answer = self._run(self.day.last(), lines, True, lambda answer: draft.begin() if answer.replies[0].word == 'ok' else None)
+            answer = self._run(
+                self.day.last(),
+                lines,
+                True,
+                lambda answer: draft.begin() if answer.replies[0].word == 'ok' else None,
+            )
             taken = answer.last('confirm')
             assert taken is not None
             if taken.word != 'ok':
-                raise Trouble('{}: {}'.format(self.day.path(name), words.refusal(taken.rest)))
+                raise Trouble(f'{self.day.path(name)}: {words.refusal(taken.rest)}')
             draft.keep()
         if answer.refused():
             raise_refused(answer)
         return answer
 
-    def _run(self, state: State, lines: List[str], allow_refused: bool, target: Optional[Target] = None) -> Answer:
-        """Replies carry the numbers of the lines given here, from 1. With a `target` the session after them is saved into the file that
-        it gives for the replies to them, where the session was taken up.
+    def _run(
+        self, state: State, lines: List[str], allow_refused: bool, target: Optional[Target] = None
+    ) -> Answer:
+        """Replies carry the numbers of the lines given here, from 1. With a `target` the session
+        after them is saved into the file that it gives for the replies to them, where the session
+        was taken up.
         """
+
         def checked(answer: Answer) -> Optional[IO[bytes]]:
             assert target is not None
             first, *others = answer.replies
@@ -93,7 +130,7 @@ class Session:
             broken = damage.of_reply(self.day, state.path, first)
             if broken is not None:
                 raise broken
-            raise Refused('{} isn\'t taken up: {}'.format(state.path, words.refusal(first.rest)))
+            raise Refused(f'{state.path} isn\'t taken up: {words.refusal(first.rest)}')
         for reply in answer.replies:
             reply.line -= 1
         if not allow_refused and answer.refused():
@@ -101,7 +138,9 @@ class Session:
         return answer
 
     def relations(self) -> Dict[str, saved.Known]:
-        """The relations of the last session alone: of a large one they are a small part, at its end."""
+        """The relations of the last session alone: of a large one they are a small part, at its
+        end.
+        """
         with stored.opened(self.day.last().path) as session:
             return {known.key: known for known in session.of_kind('r')}
 
@@ -113,7 +152,9 @@ class Session:
 def raise_refused(answer: Answer) -> NoReturn:
     """Raises the first refusal of an Answer: Clash where it is for conflicts, else Refused."""
     reply = answer.refused()[0]
-    raise (Clash if reply.number == 23 else Refused)('{}: {}'.format(words.refusal(reply.rest), words.cut(reply.step)))
+    raise (Clash if reply.number == 23 else Refused)(
+        f'{words.refusal(reply.rest)}: {words.cut(reply.step)}'
+    )
 
 
 def resume(state: State) -> str:

@@ -1,7 +1,8 @@
-"""A session as a whole: its objects, what is only referred to, which new id comes next, and who uses what.
+"""A session as a whole: its objects, what is only referred to, which new id comes next, and who
+uses what.
 
-`read` takes all of a saved session apart. `of_file` looks up what is asked for, where it lies: of a large session in which little
-was edited that is a small part.
+`read` takes all of a saved session apart. `of_file` looks up what is asked for, where it lies: of a
+large session in which little was edited that is a small part.
 """
 from __future__ import annotations
 
@@ -17,8 +18,8 @@ from yoke.stored import Stored
 class Table:
     """What a session holds.
 
-    `things` has its objects, Known by key and by rank; `incomplete` the keys that are only referred to; `next_new` the
-    number that the next new object gets: 7 stands for the ids -7, -8 and on.
+    `things` has its objects, Known by key and by rank; `incomplete` the keys that are only referred
+    to; `next_new` the number that the next new object gets: 7 stands for the ids -7, -8 and on.
     """
 
     things: Mapping[str, saved.Known]
@@ -49,7 +50,11 @@ class Table:
 
     def users(self, key: str) -> list[str]:
         """The keys of the objects that refer to this one as they are here, by rank."""
-        return [known.key for known in self.things.values() if known.mine and key in known.mine.references]
+        return [
+            known.key
+            for known in self.things.values()
+            if known.mine and key in known.mine.references
+        ]
 
     def new(self) -> list[str]:
         """The keys of the objects that were made here and that no server has, by rank."""
@@ -57,14 +62,20 @@ class Table:
 
     def edits(self) -> dict[str, saved.Known]:
         """The objects that are edited or in conflict, by key and by rank."""
-        return {key: known for key, known in self.things.items() if known.edit or known.conflict != 'none'}
+        return {
+            key: known
+            for key, known in self.things.items()
+            if known.edit or known.conflict != 'none'
+        }
 
 
 def read(text: str) -> Table:
     """The table of a saved session; Trouble where the text is none."""
     number, things = next_new(text), saved.read(text)
     start = len('incomplete ')
-    incomplete = {line[start:].rstrip('\r') for line in text.split('\n') if line.startswith('incomplete ')}
+    incomplete = {
+        line[start:].rstrip('\r') for line in text.split('\n') if line.startswith('incomplete ')
+    }
     return Table(things, incomplete, number)
 
 
@@ -72,14 +83,18 @@ def next_new(text: str) -> int:
     """The number of the next new object of a saved session; Trouble where the text is none."""
     header = text.split('\n', 1)[0].rstrip('\r').split(' ')
     if len(header) != 3 or header[:2] != ['session', '1'] or not opl.is_digits(header[2]):
-        raise saved.NotWhole('it is no saved session: it begins with {!r}'.format(' '.join(header)[:40]))
+        raise saved.NotWhole(
+            'it is no saved session: it begins with {!r}'.format(' '.join(header)[:40])
+        )
     return int(header[2])
 
 
 # ---- looked up in a file ----
 
+
 def of_file(path: os.PathLike[str] | str) -> Table:
-    """The table of a saved session in a file, of which nothing is read but what is asked for; Trouble where the file is none.
+    """The table of a saved session in a file, of which nothing is read but what is asked for;
+    Trouble where the file is none.
 
     The file is held open, and may lose its name meanwhile.
     """

@@ -1,18 +1,22 @@
 """What ends a verb before it is done: one line for the user, and the exit code that goes with it.
 
-Whatever a user can meet is raised as one of these. Anything else that is raised is a fault of the program `yoke` itself.
+Whatever a user can meet is raised as one of these. Anything else that is raised is a fault of the
+program `yoke` itself.
 """
 from typing import Iterable
 
 
 class Trouble(Exception):
-    """Something here isn't as it has to be: a file, a folder, the program. Its text is one plain sentence or two."""
+    """Something here isn't as it has to be: a file, a folder, the program. Its text is one plain
+    sentence or two.
+    """
 
     code = 3
 
 
 class Refused(Trouble):
-    """The session refused a step, or what was asked for can't be done as things are. Nothing was kept of it.
+    """The session refused a step, or what was asked for can't be done as things are. Nothing was
+    kept of it.
 
     `details` are lines that name what was refused, or what looks wrong.
     """
@@ -31,7 +35,8 @@ class Usage(Trouble):
 
 
 class Clash(Trouble):
-    """Somebody was faster, or a conflict isn't resolved yet: `yoke refresh`, `yoke conflicts`, `yoke resolve`.
+    """Somebody was faster, or a conflict isn't resolved yet: `yoke refresh`, `yoke conflicts`,
+    `yoke resolve`.
 
     `keys` are objects that the session may not know, and that a refresh has to ask for.
     """
@@ -44,14 +49,17 @@ class Clash(Trouble):
 
 
 class NoAnswer(Trouble):
-    """No answer of the server came, or none that tells what it did. The same command again goes on from there."""
+    """No answer of the server came, or none that tells what it did. The same command again goes on
+    from there.
+    """
 
     code = 5
 
 
 class ServerRefused(Trouble):
-    """The server answered with a 4xx: it did nothing of what it was asked. `status` and `text` are its answer, and `wait` is
-    how many seconds it asks to wait, or 0 where it doesn't say."""
+    """The server answered with a 4xx: it did nothing of what it was asked. `status` and `text` are
+    its answer, and `wait` is how many seconds it asks to wait, or 0 where it doesn't say.
+    """
 
     code = 6
 
@@ -61,7 +69,9 @@ class ServerRefused(Trouble):
 
 
 class Later(ServerRefused):
-    """The server asks to wait for longer than the command may. `wait` is how many seconds, or 0 where it doesn't say."""
+    """The server asks to wait for longer than the command may. `wait` is how many seconds, or 0
+    where it doesn't say.
+    """
 
     code = 75
 

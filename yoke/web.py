@@ -1,6 +1,8 @@
-"""HTTP beside API 0.6, such as Overpass and logins: a call goes out once, and its answer has an end.
+"""HTTP beside API 0.6, such as Overpass and logins: a call goes out once, and its answer has an
+end.
 
-The calls are those of `transport.py`: no redirect is followed, since it would carry a form elsewhere.
+The calls are those of `transport.py`: no redirect is followed, since it would carry a form
+elsewhere.
 """
 import urllib.parse
 from dataclasses import dataclass
@@ -9,7 +11,7 @@ from typing import Mapping, Optional
 from yoke import api, transport
 from yoke.trouble import NoAnswer, Usage
 
-MOST = 1 << 20              # bytes of an answer, if no more are wanted
+MOST = 1 << 20  # bytes of an answer, if no more are wanted
 
 
 @dataclass(frozen=True)
@@ -27,8 +29,9 @@ class Response:
 
 
 def checked(address: str, option: str) -> str:
-    """An address for `https`, or for `http` on this machine; Usage, with the option's name, if it is
-    another one. A password in it isn't repeated in the message."""
+    """An address for `https`, or for `http` on this machine; Usage, with the option's name, if it
+    is another one. A password in it isn't repeated in the message.
+    """
     try:
         parts = urllib.parse.urlsplit(address)
         is_one = parts.scheme in ('http', 'https') and bool(parts.hostname) and parts.port != 0
@@ -46,16 +49,32 @@ def get(address: str, most: int = MOST, timeout: float = transport.TIMEOUT) -> R
     return call('GET', address, None, {}, most, timeout)
 
 
-def post_form(address: str, fields: Mapping[str, str], headers: Optional[Mapping[str, str]] = None,
-              most: int = MOST, timeout: float = transport.TIMEOUT) -> Response:
+def post_form(
+    address: str,
+    fields: Mapping[str, str],
+    headers: Optional[Mapping[str, str]] = None,
+    most: int = MOST,
+    timeout: float = transport.TIMEOUT,
+) -> Response:
     """The answer to a form. NoAnswer if none comes, or one of more bytes."""
-    return call('POST', address, urllib.parse.urlencode(fields).encode('ascii'),
-                {'Content-Type': 'application/x-www-form-urlencoded', **(headers or {})},
-                most, timeout)
+    return call(
+        'POST',
+        address,
+        urllib.parse.urlencode(fields).encode('ascii'),
+        {'Content-Type': 'application/x-www-form-urlencoded', **(headers or {})},
+        most,
+        timeout,
+    )
 
 
-def call(method: str, address: str, body: Optional[bytes], headers: Mapping[str, str], most: int,
-         timeout: float) -> Response:
+def call(
+    method: str,
+    address: str,
+    body: Optional[bytes],
+    headers: Mapping[str, str],
+    most: int,
+    timeout: float,
+) -> Response:
     """Makes a call, once. No message has the form in it, which may have secrets."""
     one = transport.Transport(address, timeout, most=most)
     try:
@@ -64,8 +83,9 @@ def call(method: str, address: str, body: Optional[bytes], headers: Mapping[str,
         raise NoAnswer(str(silence).replace(address, host(address))) from None
     finally:
         one.close()
-    return Response(found.status, {name.lower(): value for name, value in found.headers.items()},
-                    found.body)
+    return Response(
+        found.status, {name.lower(): value for name, value in found.headers.items()}, found.body
+    )
 
 
 def host(address: str) -> str:

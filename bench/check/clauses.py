@@ -1,5 +1,6 @@
 #!/usr/bin/env python3
-"""clauses.py [--explained FILE] [BEFORE [AFTER]]: which promises differ between two states of this repository.
+"""clauses.py [--explained FILE] [BEFORE [AFTER]]: which promises differ between two states of this
+repository.
 
 BEFORE and AFTER are folders of a checkout, or commits of this one; BEFORE is by default the release
 that RELEASE names, and AFTER the files as they stand. It compares
@@ -14,10 +15,11 @@ Each difference has a line
 
     KIND CRATE NAME: WHAT
 
-A line of FILE explains one, as `CRATE NAME: why no promise is weaker`; NAME may end with `*`. Since the
-release that is bench/check/clauses.txt. The status is 0 where each difference is explained and each
-explanation is of one. It compares the text, without layout and comments, and judges no meaning: that is
-for who reads its lines. Where the checkout has no history, the release can't be read, and it says so.
+A line of FILE explains one, as `CRATE NAME: why no promise is weaker`; NAME may end with `*`. Since
+the release that is bench/check/clauses.txt. The status is 0 where each difference is explained and
+each explanation is of one. It compares the text, without layout and comments, and judges no
+meaning: that is for who reads its lines. Where the checkout has no history, the release can't be
+read, and it says so.
 """
 import argparse
 import fnmatch
@@ -59,7 +61,9 @@ class Folder:
     def names(self) -> List[str]:
         """The paths of its files below crates/, from its top."""
         found = self.top.glob('crates/*/s*/**/*')
-        return sorted(str(it.relative_to(self.top)) for it in found if it.suffix in ('.rt', '.antt'))
+        return sorted(
+            str(it.relative_to(self.top)) for it in found if it.suffix in ('.rt', '.antt')
+        )
 
     def text(self, name: str) -> str:
         """The text of one of them."""
@@ -74,7 +78,9 @@ class Commit:
     name: str
 
     def _git(self, *words: str) -> str:
-        done = subprocess.run(['git', '-C', str(self.home), *words], stdout=subprocess.PIPE, check=True)
+        done = subprocess.run(
+            ['git', '-C', str(self.home), *words], stdout=subprocess.PIPE, check=True
+        )
         return done.stdout.decode('utf-8')
 
     def names(self) -> List[str]:
@@ -89,7 +95,9 @@ class Commit:
 
 @dataclass(frozen=True, order=True)
 class Said:
-    """What is said at one place: the crate, what kind of promise it is, its name, and its text in one line."""
+    """What is said at one place: the crate, what kind of promise it is, its name, and its text in
+    one line.
+    """
 
     crate: str
     kind: str
@@ -109,8 +117,8 @@ def in_braces(text: str, start: int) -> str:
     for at in range(start, len(text)):
         depth += {'{': 1, '}': -1}.get(text[at], 0)
         if not depth:
-            return text[start + 1:at]
-    raise ValueError('a brace is not closed: ' + text[start:start + 80])
+            return text[start + 1 : at]
+    raise ValueError('a brace is not closed: ' + text[start : start + 80])
 
 
 def lent(text: str) -> List[str]:
@@ -121,7 +129,9 @@ def lent(text: str) -> List[str]:
 
 
 def owner_of(line: str) -> Optional[str]:
-    """The type or trait to which the functions below this line belong, None where it begins no such part."""
+    """The type or trait to which the functions below this line belong, None where it begins no such
+    part.
+    """
     found = OWNER.match(line)
     if not found:
         return None
@@ -148,7 +158,9 @@ def functions_of(text: str, is_program: bool = False) -> Iterator[Tuple[str, Lis
         line = lines[at]
         begun = owner_of(line)
         owner = begun or ('' if line == '}' else owner)
-        shares = is_program or (' as ' in begun or line.startswith('pub trait') if begun else shares and bool(owner))
+        shares = is_program or (
+            ' as ' in begun or line.startswith('pub trait') if begun else shares and bool(owner)
+        )
         head = FUNCTION.match(line)
         at += 1
         if not head or not (head[2] or shares):
@@ -228,8 +240,9 @@ def said_in(source: Source) -> Promises:
 
 
 def differences(before: Promises, after: Promises, everything: bool = False) -> List[Said]:
-    """What differs, in the order of crates: what is gone or reads otherwise, what is asked anew, and
-    what else is new where everything is wanted."""
+    """What differs, in the order of crates: what is gone or reads otherwise, what is asked anew,
+    and what else is new where everything is wanted.
+    """
     found = []
     for (crate, kind, name), text in before.items():
         if (crate, kind, name) not in after:
@@ -237,7 +250,7 @@ def differences(before: Promises, after: Promises, everything: bool = False) -> 
                 found.append(Said(crate, kind, name, 'gone'))
         elif after[crate, kind, name] != text:
             found.append(Said(crate, kind, name, 'reads otherwise'))
-    for (crate, kind, name) in after:
+    for crate, kind, name in after:
         if (crate, kind, name) not in before:
             of_new = kind == 'requires' and (crate, 'call', name.rpartition(' ')[0]) not in before
             if everything or kind == 'requires' and not of_new:
@@ -285,10 +298,12 @@ def is_there(commit: str) -> bool:
     return subprocess.run(asked, stderr=subprocess.DEVNULL, check=False).returncode == 0
 
 
-def compare(before: Promises, after: Promises, listed: Mapping[str, str],
-            everything: bool = False) -> Tuple[List[str], List[str]]:
-    """The lines of the differences, and what isn't as it has to be: a difference that no line explains, and
-    an explanation of none."""
+def compare(
+    before: Promises, after: Promises, listed: Mapping[str, str], everything: bool = False
+) -> Tuple[List[str], List[str]]:
+    """The lines of the differences, and what isn't as it has to be: a difference that no line
+    explains, and an explanation of none.
+    """
     used, told, wrong = set(), [], []
     for it in differences(before, after, everything):
         why = explained_by(it, listed)
@@ -304,7 +319,8 @@ def compare(before: Promises, after: Promises, listed: Mapping[str, str],
 def main() -> int:
     """Prints the differences; 1 where one isn't explained, or an explanation is of none."""
     words = argparse.ArgumentParser(
-        description=__doc__, formatter_class=argparse.RawDescriptionHelpFormatter)
+        description=__doc__, formatter_class=argparse.RawDescriptionHelpFormatter
+    )
     words.add_argument('before', nargs='?')
     words.add_argument('after', nargs='?', default=str(TOP))
     words.add_argument('--explained', metavar='FILE', type=pathlib.Path)
@@ -313,10 +329,14 @@ def main() -> int:
     before = given.before or released((TOP / 'RELEASE').read_text(encoding='utf-8'))
     file = given.explained or (None if given.before else EXPLAINED)
     if not given.before and not is_there(before):
-        print(f'clauses: not compared: this checkout has no history, so not the release at {before}')
+        print(
+            f'clauses: not compared: this checkout has no history, so not the release at {before}'
+        )
         return 0
     listed = explanations(file.read_text(encoding='utf-8')) if file else {}
-    told, wrong = compare(said_in(source_of(before)), said_in(source_of(given.after)), listed, given.all)
+    told, wrong = compare(
+        said_in(source_of(before)), said_in(source_of(given.after)), listed, given.all
+    )
     print('\n'.join(told))
     for line in wrong:
         print(f'clauses: {line}', file=sys.stderr)

@@ -8,7 +8,10 @@ PROOFS = '# for its proofs alone: '
 
 @dataclass
 class Crate:
-    """A crate: its layer, what it is for, the libraries that it lists, and those that its comment gives to its proofs."""
+    """A crate: its layer, what it is for, the libraries that it lists, and those that its comment
+    gives to its proofs.
+    """
+
     name: str
     layer: str
     purpose: str
@@ -27,7 +30,7 @@ def crates_and_layers(text):
             remarks.append(line)
         elif ':' in line:
             name, _, libraries = line.partition(':')
-            for_proofs = [it[len(PROOFS):].split() for it in remarks if it.startswith(PROOFS)]
+            for_proofs = [it[len(PROOFS) :].split() for it in remarks if it.startswith(PROOFS)]
             purpose = ' '.join(it[2:] for it in remarks if not it.startswith(PROOFS))
             crates[name] = Crate(name, layer, purpose, libraries.split(), sum(for_proofs, []))
             remarks = []

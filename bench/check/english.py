@@ -1,15 +1,17 @@
 #!/usr/bin/env python3
-"""Measures how hard pages are to read: the length of their sentences, and words that a reader has to take twice.
+"""Measures how hard pages are to read: the length of their sentences, and words that a reader has
+to take twice.
 
     bench/check/english.py            a line for each page: words, sentences, mean and longest sentence, odd words
     bench/check/english.py --check    ends with 1 where a page of PLAIN isn't plain, or all pages have more words than MOST_WORDS
     bench/check/english.py PAGE..     the sentences of these pages that are too long, and the odd words, each with its line
 
-A page is plain where a sentence has at most 16 words on average and none more than 35, and where it has none of the odd
-phrases. Tables, code, quotes and headings don't count as sentences; an item of a list is one.
+A page is plain where a sentence has at most 16 words on average and none more than 35, and where it
+has none of the odd phrases. Tables, code, quotes and headings don't count as sentences; an item of
+a list is one.
 
-The words of a page are all of its text between blanks that has a letter or a digit, tables and code included: bars,
-dashes, arrows and fences are no words. Needs Python alone.
+The words of a page are all of its text between blanks that has a letter or a digit, tables and code
+included: bars, dashes, arrows and fences are no words. Needs Python alone.
 """
 from __future__ import annotations
 
@@ -21,18 +23,43 @@ from collections.abc import Iterator
 from dataclasses import dataclass
 
 TOP = pathlib.Path(__file__).resolve().parents[2]
-MEAN, LONGEST = 16, 35          # words of a sentence
-MOST_WORDS = 38_000             # of all pages together
+MEAN, LONGEST = 16, 35  # words of a sentence
+MOST_WORDS = 38_000  # of all pages together
 
-# Pages that are plain, and stay so. A page that is rewritten joins them, and each how-to belongs to them.
+# Pages that are plain, and stay so. A page that is rewritten joins them, and each how-to belongs to
+# them.
 PLAIN = [
-    'docs/PROOF.md', 'docs/SPEED.md', 'docs/TRIALS.md', 'README.md', 'docs/INSTALL.md',
-    'docs/JSON.md', 'docs/PROVED.md', 'docs/COMPANION.md', 'docs/COMPANION-FORMATS.md',
-    'docs/REFUSALS.md', 'docs/CRATES.md', 'docs/MERGING.md', 'docs/DOWNLOADS.md', 'docs/TABLES.md',
-    'docs/COMMANDS.md', 'docs/SCRIPTS.md', 'docs/UPLOADS.md', 'docs/ARCHITECTURE.md', 'docs/OPL.md',
-    'docs/DECISIONS.md', 'docs/RELATIONS.md', 'CONTRIBUTING.md', 'docs/MEETINGS.md',
-    'docs/SAVING.md', 'docs/GLOSSARY.md', 'docs/CHEATSHEET.md', 'docs/TOUR.md', 'CHANGELOG.md',
-    'yoke/README.md', 'docs/PYTHON.md', 'docs/PROTOCOL.md',
+    'docs/PROOF.md',
+    'docs/SPEED.md',
+    'docs/TRIALS.md',
+    'README.md',
+    'docs/INSTALL.md',
+    'docs/JSON.md',
+    'docs/PROVED.md',
+    'docs/COMPANION.md',
+    'docs/COMPANION-FORMATS.md',
+    'docs/REFUSALS.md',
+    'docs/CRATES.md',
+    'docs/MERGING.md',
+    'docs/DOWNLOADS.md',
+    'docs/TABLES.md',
+    'docs/COMMANDS.md',
+    'docs/SCRIPTS.md',
+    'docs/UPLOADS.md',
+    'docs/ARCHITECTURE.md',
+    'docs/OPL.md',
+    'docs/DECISIONS.md',
+    'docs/RELATIONS.md',
+    'CONTRIBUTING.md',
+    'docs/MEETINGS.md',
+    'docs/SAVING.md',
+    'docs/GLOSSARY.md',
+    'docs/CHEATSHEET.md',
+    'docs/TOUR.md',
+    'CHANGELOG.md',
+    'yoke/README.md',
+    'docs/PYTHON.md',
+    'docs/PROTOCOL.md',
     *sorted(str(path.relative_to(TOP)) for path in (TOP / 'docs' / 'HOWTO').glob('*.md')),
 ]
 
@@ -69,12 +96,18 @@ class Sentence:
 
 
 def paragraphs(text: str) -> Iterator[tuple[int, str]]:
-    """The paragraphs and items of lists of a page, outside code, tables and headings, each with its first line."""
+    """The paragraphs and items of lists of a page, outside code, tables and headings, each with its
+    first line.
+    """
     fenced, begun, held = False, 0, []
     for number, line in enumerate([*text.split('\n'), ''], 1):
         stripped = line.strip()
         fenced ^= stripped.startswith('```')
-        is_text = bool(stripped) and not fenced and not stripped.startswith(('```', '|', '#', '![', '<', '---', '>'))
+        is_text = (
+            bool(stripped)
+            and not fenced
+            and not stripped.startswith(('```', '|', '#', '![', '<', '---', '>'))
+        )
         is_item = bool(re.match(r'(?:[-*]|\d+\.) ', stripped))
         if held and (not is_text or is_item):
             yield begun, ' '.join(held)
@@ -117,7 +150,11 @@ class Measure:
     @property
     def mean(self) -> float:
         """Words of a sentence on average."""
-        return sum(one.words for one in self.sentences) / len(self.sentences) if self.sentences else 0.0
+        return (
+            sum(one.words for one in self.sentences) / len(self.sentences)
+            if self.sentences
+            else 0.0
+        )
 
     @property
     def longest(self) -> int:
@@ -155,7 +192,9 @@ def details(page: str) -> None:
             print(f'{page}:{one.line}: {one.words} words: {one.text}')
     for line, phrase, better in found.odd:
         print(f'{page}:{line}: {phrase}: write {better}')
-    print(f'{page}: {len(found.sentences)} sentences of {found.mean:.1f} words, the longest has {found.longest}')
+    print(
+        f'{page}: {len(found.sentences)} sentences of {found.mean:.1f} words, the longest has {found.longest}'
+    )
 
 
 def check() -> int:
@@ -164,12 +203,16 @@ def check() -> int:
     for found in bad:
         details(found.page)
     words = sum(measure(page).words for page in pages())
-    print(f'{len(PLAIN) - len(bad)} of {len(PLAIN)} plain pages are plain; {words:,} words in {len(pages())} pages, {MOST_WORDS:,} at most')
+    print(
+        f'{len(PLAIN) - len(bad)} of {len(PLAIN)} plain pages are plain; {words:,} words in {len(pages())} pages, {MOST_WORDS:,} at most'
+    )
     return 1 if bad or words > MOST_WORDS else 0
 
 
 def main() -> int:
-    words = argparse.ArgumentParser(description=__doc__, formatter_class=argparse.RawDescriptionHelpFormatter)
+    words = argparse.ArgumentParser(
+        description=__doc__, formatter_class=argparse.RawDescriptionHelpFormatter
+    )
     words.add_argument('--check', action='store_true')
     words.add_argument('pages', metavar='PAGE', nargs='*')
     said = words.parse_args()
@@ -179,8 +222,10 @@ def main() -> int:
         details(page)
     if not said.pages:
         for found in map(measure, pages()):
-            print(f'{found.words:6} words {len(found.sentences):4} sentences  mean {found.mean:4.1f}  longest {found.longest:3}  '
-                  f'odd {len(found.odd):3}  {found.page}')
+            print(
+                f'{found.words:6} words {len(found.sentences):4} sentences  mean {found.mean:4.1f}  longest {found.longest:3}  '
+                f'odd {len(found.odd):3}  {found.page}'
+            )
     return 0
 
 

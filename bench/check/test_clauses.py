@@ -78,7 +78,9 @@ class Differences(unittest.TestCase):
         self.assertEqual([], found(CODE, SPECS))
         said = CODE.replace('// what it is for', '// else')
         self.assertEqual([], found(said, SPECS.replace('-- it is small', '-- small')))
-        self.assertEqual([], found(CODE, SPECS.replace('IsEven n\n      → IsEven', 'IsEven n → IsEven')))
+        self.assertEqual(
+            [], found(CODE, SPECS.replace('IsEven n\n      → IsEven', 'IsEven n → IsEven'))
+        )
 
     def test_clauses(self) -> None:
         """A promise that is gone or another, and a demand that is new."""
@@ -95,7 +97,7 @@ class Differences(unittest.TestCase):
 
     def test_calls(self) -> None:
         """A call that is gone."""
-        less = CODE[:CODE.index('pub fn law')]
+        less = CODE[: CODE.index('pub fn law')]
         self.assertEqual(['call law: gone', 'ensures law 0: gone'], found(less, SPECS))
 
     def test_definitions(self) -> None:
@@ -106,7 +108,7 @@ class Differences(unittest.TestCase):
         self.assertEqual(['field IsRight even: gone'], found(CODE, less))
         other = SPECS.replace('count n = n', 'count n = 0')
         self.assertEqual(['definition count: reads otherwise'], found(CODE, other))
-        less = SPECS[:SPECS.index('abbrev pub last')]
+        less = SPECS[: SPECS.index('abbrev pub last')]
         self.assertEqual(['definition last: gone'], found(CODE, less))
 
     def test_new(self) -> None:

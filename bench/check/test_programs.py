@@ -1,4 +1,5 @@
-"""Tests of what reads definitions (definitions.py), logs of a proof (axioms) and pages (english.py).
+"""Tests of what reads definitions (definitions.py), logs of a proof (axioms) and pages
+(english.py).
 
 Run `python3 -m unittest bench.check.test_programs`.
 """
@@ -27,7 +28,11 @@ VERDICT = 'logic=proved functions=8 axioms={} target=x86_64-unknown-linux-gnu cp
 
 def log_of(names):
     """What a check with --list-axioms prints of a program that reaches these calls."""
-    return ''.join('  {}   reached\n'.format(name) for name in sorted(names)) + '  libc::access\n' + VERDICT.format(len(names))
+    return (
+        ''.join(f'  {name}   reached\n' for name in sorted(names))
+        + '  libc::access\n'
+        + VERDICT.format(len(names))
+    )
 
 
 class Logs(unittest.TestCase):
@@ -37,18 +42,33 @@ class Logs(unittest.TestCase):
         self.assertEqual([], list(axioms.log_faults(log_of(self.known))))
 
     def test_one_more(self):
-        self.assertIn("the tables haven't libc::system", list(axioms.log_faults(log_of(self.known | {'libc::system'}))))
+        self.assertIn(
+            "the tables haven't libc::system",
+            list(axioms.log_faults(log_of(self.known | {'libc::system'}))),
+        )
 
     def test_one_less(self):
-        self.assertIn("the program doesn't reach libc::read", list(axioms.log_faults(log_of(self.known - {'libc::read'}))))
+        self.assertIn(
+            "the program doesn't reach libc::read",
+            list(axioms.log_faults(log_of(self.known - {'libc::read'}))),
+        )
 
     def test_short_log(self):
         short = 'axioms libc: libc::chdir, libc::chmod, libc::chown, ... (29 of the 128 declared)\n'
         self.assertEqual([], list(axioms.log_faults(short + VERDICT.format(len(self.known)))))
-        self.assertEqual(['it has libc::system'], list(axioms.log_faults(short.replace('chmod', 'system') + VERDICT.format(len(self.known)))))
+        self.assertEqual(
+            ['it has libc::system'],
+            list(
+                axioms.log_faults(
+                    short.replace('chmod', 'system') + VERDICT.format(len(self.known))
+                )
+            ),
+        )
 
     def test_unproved(self):
-        self.assertEqual(['it has no verdict on a program'], list(axioms.log_faults('fn main: open\n')))
+        self.assertEqual(
+            ['it has no verdict on a program'], list(axioms.log_faults('fn main: open\n'))
+        )
 
 
 SPECS = '''use Rattle.std.specs.Prelude.{◌≡◌, List as Row}
@@ -96,19 +116,35 @@ class Files(unittest.TestCase):
         text = SPECS + 'pub mod Inner\nloose = 1\nunfoldable last : ℕ\n-- of it\n\nlast = 2\n'
         file = self.file_of(text, lambda path, home: definitions.File(path, home, 'some'))
         file.define_all(definitions.HEAD.match, lambda head: head[1])
-        self.assertEqual([('first', 4, ['abbrev pub first : Row → ℕ', 'first [] = 0']), ('Pair', 7, ['pub record Pair : Type 0 where', '  pub left : ℕ']),
-                          ('last', 12, ['unfoldable last : ℕ', 'last = 2'])],
-                         [(made.name, made.line, made.text.split('\n')) for made in file.own.values()])
+        self.assertEqual(
+            [
+                ('first', 4, ['abbrev pub first : Row → ℕ', 'first [] = 0']),
+                ('Pair', 7, ['pub record Pair : Type 0 where', '  pub left : ℕ']),
+                ('last', 12, ['unfoldable last : ℕ', 'last = 2']),
+            ],
+            [(made.name, made.line, made.text.split('\n')) for made in file.own.values()],
+        )
 
     def test_definitions_of_the_toolkit(self):
         file = self.file_of(KIT_SPECS, lambda path, home: definitions.KitSpecs(path, home, 'core'))
-        self.assertEqual({'get': 2, 'Bag': 2, 'plain': 2}, {name: made.lines for name, made in file.own.items()})
+        self.assertEqual(
+            {'get': 2, 'Bag': 2, 'plain': 2}, {name: made.lines for name, made in file.own.items()}
+        )
         self.assertEqual(('core.specs.Option', 'is_some'), file.names['is_some'])
 
     def test_what_a_law_says(self):
-        self.assertEqual('Said n answer', definitions.said_of('made', '{ (n : ℕ) (answer : List (A × B)) → (made n ≡ answer) ↔ Said n answer }'))
-        for law in ('{ (n : ℕ) (answer : ℕ) → (made n ≡ 1) ↔ Said n answer }', '{ (n : ℕ) (answer : ℕ) → made n ≡ answer → Said n answer }',
-                    '{ (answer : ℕ) → (made 1 ≡ answer) ↔ Said answer }', '{ (n : ℕ) (answer : ℕ) → Fits n → (made n ≡ answer) ↔ Said n answer }'):
+        self.assertEqual(
+            'Said n answer',
+            definitions.said_of(
+                'made', '{ (n : ℕ) (answer : List (A × B)) → (made n ≡ answer) ↔ Said n answer }'
+            ),
+        )
+        for law in (
+            '{ (n : ℕ) (answer : ℕ) → (made n ≡ 1) ↔ Said n answer }',
+            '{ (n : ℕ) (answer : ℕ) → made n ≡ answer → Said n answer }',
+            '{ (answer : ℕ) → (made 1 ≡ answer) ↔ Said answer }',
+            '{ (n : ℕ) (answer : ℕ) → Fits n → (made n ≡ answer) ↔ Said n answer }',
+        ):
             self.assertIsNone(definitions.said_of('made', law))
 
     def test_a_definition_that_a_law_settles(self):
@@ -127,7 +163,9 @@ class Files(unittest.TestCase):
 
 class Words(unittest.TestCase):
     def test_layout_is_no_word(self):
-        self.assertEqual(4, english.count_words('| `a` | 7 |\n|---|---|\n| → | é |\n```sh\n```\n...\n'))
+        self.assertEqual(
+            4, english.count_words('| `a` | 7 |\n|---|---|\n| → | é |\n```sh\n```\n...\n')
+        )
 
 
 if __name__ == '__main__':

@@ -10,8 +10,12 @@ LEFT_OUT = ['CHANGELOG.md']
 
 def pages():
     """The pages into which something may be written, by name."""
-    names = [path.name for path in TOP.glob('*.md')] + sorted(str(path.relative_to(TOP)) for path in (TOP / 'docs').glob('**/*.md'))
-    return {name: (TOP / name).read_text(encoding='utf-8') for name in names if name not in LEFT_OUT}
+    names = [path.name for path in TOP.glob('*.md')] + sorted(
+        str(path.relative_to(TOP)) for path in (TOP / 'docs').glob('**/*.md')
+    )
+    return {
+        name: (TOP / name).read_text(encoding='utf-8') for name in names if name not in LEFT_OUT
+    }
 
 
 class Written:
@@ -39,4 +43,4 @@ class Written:
             if text != self.was[page]:
                 lines = self.was[page].split('\n')
                 changed = next((line for line in text.split('\n') if line not in lines), '')
-                yield '{} is not as `{}` makes it: {}'.format(page, command, changed[:160])
+                yield f'{page} is not as `{command}` makes it: {changed[:160]}'

@@ -27,7 +27,11 @@ class Drawn:
 def edits() -> Drawn:
     """The town of the examples with the edits of edit.script."""
     lines = (EXAMPLES / 'edit.script').read_text(encoding='utf-8').splitlines()
-    steps = [line for line in lines if line.split(' ')[0] not in ('print', 'count', 'tag', 'undo', 'redo') or 'w5' in line]
+    steps = [
+        line
+        for line in lines
+        if line.split(' ')[0] not in ('print', 'count', 'tag', 'undo', 'redo') or 'w5' in line
+    ]
     written = output([*steps, USERS, 'save']).splitlines()
     begin = next(at for at, line in enumerate(written) if line.startswith('session 1 '))
     users = [line for line in written[:begin] if line.startswith('w') and line[1:].isdigit()]

@@ -1,11 +1,12 @@
-"""model [--max-objects N] [--max-file N] SCRIPT: writes what `editor` has to write for a script over the files in this
-folder, and ends as `editor` has to end.
+"""model [--max-objects N] [--max-file N] SCRIPT: writes what `editor` has to write for a script
+over the files in this folder, and ends as `editor` has to end.
 
-It was written from README.md and docs/ alone, by an engineer who had not seen the crates; nine of its readings were
-turned when the first comparison had made the guide plainer, and others when docs/ said more of `save`, `fuse` and
-meetings. A difference from the program is a bug, here or there, or a sentence that the documents lack. A new command is
-added to it from its section of the pages in docs/. It takes well-formed scripts for granted, and ends with a message on a line
-that it can't read; files may be as bad as they like.
+It was written from README.md and docs/ alone, by an engineer who had not seen the crates; nine of
+its readings were turned when the first comparison had made the guide plainer, and others when docs/
+said more of `save`, `fuse` and meetings. A difference from the program is a bug, here or there, or
+a sentence that the documents lack. A new command is added to it from its section of the pages in
+docs/. It takes well-formed scripts for granted, and ends with a message on a line that it can't
+read; files may be as bad as they like.
 """
 import calendar
 import pathlib
@@ -14,15 +15,19 @@ import sys
 from collections import namedtuple
 from itertools import count, repeat
 
-Content = namedtuple('Content', 'tags body')    # body: (x, y) of a node, keys of a way, (key, role) of a relation
-Entry = namedtuple('Entry', 'meta base mine conflict', defaults=[None])     # base, mine: a content, None if deleted
-Conflict = namedtuple('Conflict', 'why meta theirs')                        # why: BOTH, BACK or HELD; meta: of theirs
-Change = namedtuple('Change', 'verb key version content')                   # of an upload; content: None of a delete
-INCOMPLETE = Entry(None, None, None)            # only ever this one object, tested with `is`
-NEW = (0, 0, '', 0, '')                         # the metadata of a new object, which has the base None
-BOTH, BACK, HELD = 'changed', 'withdrawn', 'held'      # as `conflicts` writes them
+Content = namedtuple(
+    'Content', 'tags body'
+)  # body: (x, y) of a node, keys of a way, (key, role) of a relation
+Entry = namedtuple(
+    'Entry', 'meta base mine conflict', defaults=[None]
+)  # base, mine: a content, None if deleted
+Conflict = namedtuple('Conflict', 'why meta theirs')  # why: BOTH, BACK or HELD; meta: of theirs
+Change = namedtuple('Change', 'verb key version content')  # of an upload; content: None of a delete
+INCOMPLETE = Entry(None, None, None)  # only ever this one object, tested with `is`
+NEW = (0, 0, '', 0, '')  # the metadata of a new object, which has the base None
+BOTH, BACK, HELD = 'changed', 'withdrawn', 'held'  # as `conflicts` writes them
 KINDS = 'nwr'
-SEVENTH = 10 ** 7                               # coordinates are whole numbers of 10^-7 degree
+SEVENTH = 10**7  # coordinates are whole numbers of 10^-7 degree
 Limits = namedtuple('Limits', 'objects file', defaults=[2_000_000, 268_435_456])
 LONG_LINE = 16_777_216
 
@@ -32,6 +37,7 @@ class Refused(Exception):
 
 
 # ---- keys, texts, coordinates ----
+
 
 def rank(key):
     """Nodes before ways before relations, positive ids rising and then -1, -2 and on."""
@@ -59,7 +65,9 @@ ESCAPED = re.compile('[\x00-\x20\x7f-\xa0\xad%,=@\u0600-\U0010ffff]')
 
 
 def write_text(text):
-    return ESCAPED.sub(lambda hit: ('%{:02x}%' if ord(hit[0]) < 256 else '%{:04x}%').format(ord(hit[0])), text)
+    return ESCAPED.sub(
+        lambda hit: ('%{:02x}%' if ord(hit[0]) < 256 else '%{:04x}%').format(ord(hit[0])), text
+    )
 
 
 def read_degrees(word):
@@ -81,13 +89,19 @@ def off_the_map(place):
 
 
 def write_degrees(units):
-    text = '{}.{:07d}'.format(abs(units) // SEVENTH, abs(units) % SEVENTH).rstrip('0').rstrip('.')
+    text = f'{abs(units) // SEVENTH}.{abs(units) % SEVENTH:07d}'.rstrip('0').rstrip('.')
     return '-' + text if units < 0 else text
 
 
 def read_tags(word):
-    """The value of a `T` as pairs, in the order of their keys' bytes (which is that of their code points)."""
-    return tuple(sorted(tuple(map(read_text, pair.split('='))) for pair in word.split(','))) if word else ()
+    """The value of a `T` as pairs, in the order of their keys' bytes (which is that of their code
+    points).
+    """
+    return (
+        tuple(sorted(tuple(map(read_text, pair.split('='))) for pair in word.split(',')))
+        if word
+        else ()
+    )
 
 
 def read_nodes(word):
@@ -106,7 +120,13 @@ def read_line(line):
     field = {word[0]: word[1:] for word in words[1:]}
     key = read_key(words[0])
     version = 0 if is_new(key) else int(field.get('v', 0))
-    meta = (version, int(field.get('c', 0)), field.get('t', ''), int(field.get('i', 0)), read_text(field.get('u', '')))
+    meta = (
+        version,
+        int(field.get('c', 0)),
+        field.get('t', ''),
+        int(field.get('i', 0)),
+        read_text(field.get('u', '')),
+    )
     if field.get('d') == 'D':
         return key, meta, None
     if key[0] == 'n':
@@ -119,7 +139,8 @@ def read_line(line):
 def write_line(key, entry):
     version, changeset, time, uid, user = entry.meta
     head = '{} v{} d{} c{} t{} i{} u{} T'.format(
-        key, version, 'D' if entry.mine is None else 'V', changeset, time, uid, write_text(user))
+        key, version, 'D' if entry.mine is None else 'V', changeset, time, uid, write_text(user)
+    )
     if entry.mine is None:
         return head + {'n': ' x y', 'w': ' N', 'r': ' M'}[key[0]]
     tags, body = entry.mine
@@ -132,6 +153,7 @@ def write_line(key, entry):
 
 
 # ---- the table ----
+
 
 def refers(key, content):
     """The keys that an object refers to, in its order."""
@@ -150,12 +172,14 @@ def repoint(users, key, before, after):
 
 
 class Table:
-    """The entries by key, whose mine and whose base refers to each key, and the number of the next new id."""
+    """The entries by key, whose mine and whose base refers to each key, and the number of the next
+    new id.
+    """
 
     def __init__(self, limits=Limits()):
         self.entries, self.referrers, self.base_referrers, self.number = {}, {}, {}, 1
         self.limits = limits
-        self.server = None      # of an editor of a meeting
+        self.server = None  # of an editor of a meeting
 
     def entry(self, key):
         return self.entries.get(key)
@@ -193,7 +217,9 @@ class Table:
             self.put(key, before)
 
     def with_mine(self, key, content):
-        """The entry of a known object with another content, or deleted with None; a new one that is deleted has none."""
+        """The entry of a known object with another content, or deleted with None; a new one that is
+        deleted has none.
+        """
         entry = self.entries[key]
         if content is None and is_new(key):
             return None
@@ -201,6 +227,7 @@ class Table:
 
 
 # ---- tests that several jobs make ----
+
 
 def there(table, key, kinds=KINDS):
     """The content of an object that a step names, by the refusals 1, 2, 3, 6 and 4."""
@@ -248,7 +275,7 @@ def all_downloaded(table, nodes):
 def unused(table, key, named):
     others = [user for user in table.users(key) if user not in named]
     if others:
-        raise Refused('5 {} {}'.format(key, first(others)))
+        raise Refused(f'5 {key} {first(others)}')
 
 
 def fits(key, content):
@@ -263,6 +290,7 @@ def fits(key, content):
 
 
 # ---- the jobs: each gives what it changes as a dict of entries, and the keys that it made ----
+
 
 def job_node(table, x, y, tags):
     return add(table, 'n', Content(read_tags(tags[1:]), read_place(x, y)))
@@ -292,7 +320,9 @@ def job_tag(table, keys, tags):
             tags_of[tag] = value
             if not value:
                 del tags_of[tag]
-        draft[key] = table.with_mine(key, table.mine(key)._replace(tags=tuple(sorted(tags_of.items()))))
+        draft[key] = table.with_mine(
+            key, table.mine(key)._replace(tags=tuple(sorted(tags_of.items())))
+        )
     return draft, []
 
 
@@ -377,7 +407,12 @@ def job_erase(table, keys):
     gone = named | fallen
     for node in {node for way in fallen for node in table.mine(way).body} - named:
         # what goes too is no user; one in conflict stays
-        if table.mine(node) and not table.mine(node).tags and not table.entry(node).conflict and set(table.users(node)) <= named | fallen:
+        if (
+            table.mine(node)
+            and not table.mine(node).tags
+            and not table.entry(node).conflict
+            and set(table.users(node)) <= named | fallen
+        ):
             gone.add(node)
     for relation in {user for key in gone for user in table.users(key) if user[0] == 'r'} - gone:
         content = table.mine(relation)
@@ -421,8 +456,11 @@ def job_split(table, key, keys):
     for relation in table.users(key):
         content, members = table.mine(relation), []
         for i, (member, role) in enumerate(content.body):
-            members += [(name, role) for name in in_place(table, content, i, key, names, pieces)] \
-                if member == key else [(member, role)]
+            members += (
+                [(name, role) for name in in_place(table, content, i, key, names, pieces)]
+                if member == key
+                else [(member, role)]
+            )
         draft[relation] = table.with_mine(relation, content._replace(body=tuple(members)))
     return draft, made
 
@@ -434,22 +472,36 @@ def cut(nodes, named):
         if len(places) < 2:
             return []
         start = places[0]
-        nodes, places = nodes[start:-1] + nodes[:start + 1], [place - start for place in places[1:]]
+        nodes, places = nodes[start:-1] + nodes[: start + 1], [
+            place - start for place in places[1:]
+        ]
     ends = [0] + [place for place in places if place > 0] + [len(nodes) - 1]
-    return [nodes[i:j + 1] for i, j in zip(ends, ends[1:])]
+    return [nodes[i : j + 1] for i, j in zip(ends, ends[1:])]
 
 
 def in_place(table, relation, i, key, names, pieces):
     """What stands in a relation for its i-th member, the way that was cut."""
     if dict(relation.tags).get('type') == 'restriction' and relation.body[i][1] in ('from', 'to'):
-        via = {node for member, role in relation.body if role == 'via'
-               for node in ([member] if member[0] == 'n' else ends(table, member, key))}
-        return [next((name for name, piece in zip(names, pieces) if via & {piece[0], piece[-1]}), key)]
-    return names if runs_forward(table, relation.body, i, key, pieces[0][0], pieces[-1][-1]) else names[::-1]
+        via = {
+            node
+            for member, role in relation.body
+            if role == 'via'
+            for node in ([member] if member[0] == 'n' else ends(table, member, key))
+        }
+        return [
+            next((name for name, piece in zip(names, pieces) if via & {piece[0], piece[-1]}), key)
+        ]
+    return (
+        names
+        if runs_forward(table, relation.body, i, key, pieces[0][0], pieces[-1][-1])
+        else names[::-1]
+    )
 
 
 def runs_forward(table, members, i, key, start, end):
-    """Whether the i-th member is passed along the way: by the member before it, else by the one behind it."""
+    """Whether the i-th member is passed along the way: by the member before it, else by the one
+    behind it.
+    """
     for j, near, far in (i - 1, start, end), (i + 1, end, start):
         if 0 <= j < len(members):
             nodes = ends(table, members[j][0], key)
@@ -460,7 +512,9 @@ def runs_forward(table, members, i, key, start, end):
 
 def ends(table, member, key):
     """The first and the last node of a member that is another way than `key`."""
-    nodes = table.mine(member).body if member[0] == 'w' and member != key and table.mine(member) else ()
+    nodes = (
+        table.mine(member).body if member[0] == 'w' and member != key and table.mine(member) else ()
+    )
     return nodes[:1] + nodes[-1:]
 
 
@@ -493,7 +547,9 @@ def job_combine(table, keys):
 
 
 def made_one(table, keys, body):
-    """The draft that leaves of several objects one, with the tags of all and this body; and which one stays."""
+    """The draft that leaves of several objects one, with the tags of all and this body; and which
+    one stays.
+    """
     values = {}
     for key in keys:
         for tag, value in table.mine(key).tags:
@@ -503,19 +559,23 @@ def made_one(table, keys, body):
             raise Refused('13 ' + write_text(tag))
     stays = next((key for key in keys if not is_new(key)), keys[0])
     draft = {key: table.with_mine(key, None) for key in keys}
-    draft[stays] = table.with_mine(stays, Content(tuple((tag, values[tag].pop()) for tag in sorted(values)), body))
+    draft[stays] = table.with_mine(
+        stays, Content(tuple((tag, values[tag].pop()) for tag in sorted(values)), body)
+    )
     return draft, stays
 
 
 def folded(members, keys, stays):
-    """The members with each run of all the ways made one; None where one of them stands in no such run."""
+    """The members with each run of all the ways made one; None where one of them stands in no such
+    run.
+    """
     out, i = [], 0
     while i < len(members):
         if members[i][0] not in keys:
             out.append(members[i])
             i += 1
             continue
-        run = members[i:i + len(keys)]
+        run = members[i : i + len(keys)]
         if [key for key, _ in run] not in (keys, keys[::-1]) or len({role for _, role in run}) > 1:
             return None
         out.append((stays, run[0][1]))
@@ -564,6 +624,7 @@ def without_runs(nodes, of):
 
 # ---- files ----
 
+
 def read_file(table, name):
     """The bytes of a file that a step names."""
     path = pathlib.Path(read_text(name))
@@ -577,7 +638,9 @@ def read_file(table, name):
 
 
 def numbered_lines(data):
-    """The lines of a file or a script with their numbers, each without one CR at its end; the skipped ones too."""
+    """The lines of a file or a script with their numbers, each without one CR at its end; the
+    skipped ones too.
+    """
     for number, line in enumerate(data.split(b'\n'), 1):
         yield number, line, line[:-1] if line.endswith(b'\r') else line
 
@@ -587,22 +650,25 @@ def read_objects(data, importing):
     objects = {}
     for number, whole, line in numbered_lines(data):
         if len(whole) > LONG_LINE:
-            raise Refused('20 longline {}'.format(number))
+            raise Refused(f'20 longline {number}')
         if not line.strip(b' \t') or line[:1] in (b'#', b'c'):
             continue
         line = line.decode(errors='surrogateescape')
         fault = fault_of(line, importing)
         if fault:
-            raise Refused('20 line {} fault {}'.format(number, fault))
+            raise Refused(f'20 line {number} fault {fault}')
         key, meta, content = read_line(line)
         if key in objects:
-            raise Refused('20 twice {}'.format(number))
+            raise Refused(f'20 twice {number}')
         objects[key] = meta, content
     return objects
 
 
 def job_download(table, name, *parts):
-    told = {key: Entry(meta, content, content) for key, (meta, content) in read_objects(read_file(table, name), False).items()}
+    told = {
+        key: Entry(meta, content, content)
+        for key, (meta, content) in read_objects(read_file(table, name), False).items()
+    }
     return merged(table, part_of(told, *parts)), []
 
 
@@ -613,9 +679,18 @@ def part_of(told, *parts):
     if not parts:
         return told
     there = {key: entry.mine for key, entry in told.items() if entry.mine is not None}
-    inside = {key for key, content in there.items() if key[0] == 'n' and (box is None or in_box(content.body, box))}
-    ways = {key for key, content in there.items() if key[0] == 'w' and has_tags(content, wanted)
-            and (box is None or not inside.isdisjoint(content.body))}
+    inside = {
+        key
+        for key, content in there.items()
+        if key[0] == 'n' and (box is None or in_box(content.body, box))
+    }
+    ways = {
+        key
+        for key, content in there.items()
+        if key[0] == 'w'
+        and has_tags(content, wanted)
+        and (box is None or not inside.isdisjoint(content.body))
+    }
     nodes = {key for key in inside if has_tags(there[key], wanted)}
     nodes |= {node for way in ways for node in there[way].body if node in there}
     near = relations_of(there, nodes | ways)
@@ -639,7 +714,11 @@ def has_tags(content, wanted):
 
 def relations_of(contents, members):
     """The relations that have one of the members."""
-    return {key for key, content in contents.items() if key[0] == 'r' and not members.isdisjoint(refers(key, content))}
+    return {
+        key
+        for key, content in contents.items()
+        if key[0] == 'r' and not members.isdisjoint(refers(key, content))
+    }
 
 
 def job_generate(table, number):
@@ -654,25 +733,29 @@ def city(streets):
     """The objects of the made-up city."""
     for k in range(1, 9 * streets + 2):
         row, column = divmod(k - 1, 1000)
-        yield 'n{}'.format(k), (), (column * SEVENTH // 1000, row * SEVENTH // 1000)
+        yield f'n{k}', (), (column * SEVENTH // 1000, row * SEVENTH // 1000)
     for j in range(1, streets + 1):
-        nodes = tuple('n{}'.format(k) for k in range(9 * (j - 1) + 1, 9 * j + 2))
-        yield 'w{}'.format(j), (('highway', 'residential'), ('name', 'Street {}'.format(j))), nodes
+        nodes = tuple(f'n{k}' for k in range(9 * (j - 1) + 1, 9 * j + 2))
+        yield f'w{j}', (('highway', 'residential'), ('name', f'Street {j}')), nodes
     for q in range(1, streets // 10 + 1):
-        members = tuple(('w{}'.format(j), '') for j in range(10 * (q - 1) + 1, 10 * q + 1))
-        yield 'r{}'.format(q), (('ref', str(q)), ('type', 'route')), members
+        members = tuple((f'w{j}', '') for j in range(10 * (q - 1) + 1, 10 * q + 1))
+        yield f'r{q}', (('ref', str(q)), ('type', 'route')), members
 
 
 def job_import(table, name):
     objects = read_objects(read_file(table, name), True)
-    news = {key: content for key, (_, content) in objects.items() if is_new(key) and content is not None}
+    news = {
+        key: content for key, (_, content) in objects.items() if is_new(key) and content is not None
+    }
     names = {key: key[0] + str(-table.number - i) for i, key in enumerate(news)}
     for key, content in news.items():
         for ref in refers(key, content):
             if is_new(ref) and ref not in names:
                 raise Refused('1 ' + ref)
             may_refer(table, () if is_new(ref) else (ref,))
-    draft = {names[key]: Entry(NEW, None, renamed(key, content, names)) for key, content in news.items()}
+    draft = {
+        names[key]: Entry(NEW, None, renamed(key, content, names)) for key, content in news.items()
+    }
     return draft, list(draft)
 
 
@@ -682,7 +765,9 @@ def renamed(key, content, names):
         return content
     if key[0] == 'w':
         return content._replace(body=tuple(names.get(node, node) for node in content.body))
-    return content._replace(body=tuple((names.get(member, member), role) for member, role in content.body))
+    return content._replace(
+        body=tuple((names.get(member, member), role) for member, role in content.body)
+    )
 
 
 # ---- the fifteen faults of a line ----
@@ -715,7 +800,11 @@ def fault_of(line, importing):
         fault = fault_of_value(letter, value)
         if fault:
             return fault
-        if letter in 'NM' and not importing and any(item[1] == '-' for item in value.split(',') if item):
+        if (
+            letter in 'NM'
+            and not importing
+            and any(item[1] == '-' for item in value.split(',') if item)
+        ):
             return 15
         seen[letter] = value
     if head[1] != '-' and int(seen.get('v', 0)) == 0:
@@ -737,10 +826,14 @@ def fault_of_value(letter, value):
         return None if is_text(value) else 6
     if letter in 'xy':
         return None if not value or is_coordinate(value, letter) else 8
-    return {'T': fault_of_tags, 'N': fault_of_nodes, 'M': fault_of_members}[letter](value) if value else None
+    return (
+        {'T': fault_of_tags, 'N': fault_of_nodes, 'M': fault_of_members}[letter](value)
+        if value
+        else None
+    )
 
 
-MOST_ID = 10 ** 18
+MOST_ID = 10**18
 
 
 def is_id(word):
@@ -748,7 +841,10 @@ def is_id(word):
 
 
 def is_coordinate(word, axis):
-    return re.fullmatch(COORDINATE, word) is not None and abs(read_degrees(word)) <= (180 if axis == 'x' else 90) * SEVENTH
+    return (
+        re.fullmatch(COORDINATE, word) is not None
+        and abs(read_degrees(word)) <= (180 if axis == 'x' else 90) * SEVENTH
+    )
 
 
 def is_time(word):
@@ -756,18 +852,28 @@ def is_time(word):
     if not hit:
         return False
     year, month, day, hour, minute, second = map(int, hit.groups())
-    return year >= 1 and 1 <= month <= 12 and 1 <= day <= calendar.monthrange(year, month)[1] \
-        and hour <= 23 and minute <= 59 and second <= 59
+    return (
+        year >= 1
+        and 1 <= month <= 12
+        and 1 <= day <= calendar.monthrange(year, month)[1]
+        and hour <= 23
+        and minute <= 59
+        and second <= 59
+    )
 
 
 def is_text(word):
-    """Whether it is a text: raw characters and escapes. A byte that is no UTF-8 was read as a lone surrogate."""
-    rest = re.sub('%([0-9a-fA-F]{1,6})%', lambda hit: 'x' if is_scalar(int(hit[1], 16)) else '%', word)
+    """Whether it is a text: raw characters and escapes. A byte that is no UTF-8 was read as a lone
+    surrogate.
+    """
+    rest = re.sub(
+        '%([0-9a-fA-F]{1,6})%', lambda hit: 'x' if is_scalar(int(hit[1], 16)) else '%', word
+    )
     return re.search('[\x00-\x20%,=\ud800-\udfff]', rest) is None
 
 
 def is_scalar(number):
-    return 0 < number < 0xd800 or 0xdfff < number <= 0x10ffff
+    return 0 < number < 0xD800 or 0xDFFF < number <= 0x10FFFF
 
 
 def fault_of_tags(value):
@@ -802,24 +908,35 @@ def fault_of_members(value):
 
 
 def cut_at(text, separators):
-    """What stands before the first separator, the separator, and what stands behind it; both empty where there is none."""
+    """What stands before the first separator, the separator, and what stands behind it; both empty
+    where there is none.
+    """
     hit = re.search(separators, text)
-    return (text[:hit.start()], hit[0], text[hit.end():]) if hit else (text, '', '')
+    return (text[: hit.start()], hit[0], text[hit.end() :]) if hit else (text, '', '')
 
 
 def fault_of_nodes(value):
     for item in value.split(','):
-        hit = re.fullmatch('n({})(?:x({})?y({})?)?'.format(ID, COORDINATE, COORDINATE), item)
-        if not hit or not is_id(hit[1]) or not all(not hit[i] or is_coordinate(hit[i], axis) for i, axis in ((2, 'x'), (3, 'y'))):
+        hit = re.fullmatch(f'n({ID})(?:x({COORDINATE})?y({COORDINATE})?)?', item)
+        if (
+            not hit
+            or not is_id(hit[1])
+            or not all(
+                not hit[i] or is_coordinate(hit[i], axis) for i, axis in ((2, 'x'), (3, 'y'))
+            )
+        ):
             return 12
     return None
 
 
 # ---- a download over what is known ----
 
+
 def known(entry):
     """The metadata and the content of the version of the server that is known of an object."""
-    return (entry.conflict.meta, entry.conflict.theirs) if entry.conflict else (entry.meta, entry.base)
+    return (
+        (entry.conflict.meta, entry.conflict.theirs) if entry.conflict else (entry.meta, entry.base)
+    )
 
 
 def merged(table, told):
@@ -840,12 +957,14 @@ def merged(table, told):
             else:
                 leaving.add(key)
     if unlike:
-        raise Refused('17 {} {}'.format(first(unlike), told[first(unlike)].meta[0]))
+        raise Refused(f'17 {first(unlike)} {told[first(unlike)].meta[0]}')
     return with_references(table, told, after, leaving)
 
 
 def by_itself(key, entry, news):
-    """The entry of a known object of which the file tells a newer version; None where it is about to go."""
+    """The entry of a known object of which the file tells a newer version; None where it is about
+    to go.
+    """
     if entry.mine == entry.base:
         if news.mine is None and entry.mine is not None:
             return None
@@ -853,7 +972,11 @@ def by_itself(key, entry, news):
         return news._replace(conflict=Conflict(BACK, news.meta, news.mine)) if back else news
     if entry.mine == news.mine:
         return news
-    joined = joined_content(entry.base, entry.mine, news.mine) if entry.base and entry.mine and news.mine else None
+    joined = (
+        joined_content(entry.base, entry.mine, news.mine)
+        if entry.base and entry.mine and news.mine
+        else None
+    )
     if joined and (fits(key, joined) or joined == news.mine):
         return news._replace(mine=joined)
     return entry._replace(conflict=Conflict(BOTH, news.meta, news.mine))
@@ -867,7 +990,9 @@ def joined_content(base, mine, theirs):
 
 def content_of(tags, body):
     """A content from values by tag, where None says that there is no such tag."""
-    return Content(tuple(sorted((tag, value) for tag, value in tags.items() if value is not None)), body)
+    return Content(
+        tuple(sorted((tag, value) for tag, value in tags.items() if value is not None)), body
+    )
 
 
 def joined_parts(base, mine, theirs):
@@ -885,11 +1010,14 @@ def joined_part(base, mine, theirs):
 
 
 def with_references(table, told, after, leaving):
-    """What comes back, is held or goes, and is only referred to, behind what each object is by itself."""
+    """What comes back, is held or goes, and is only referred to, behind what each object is by
+    itself.
+    """
+
     def now(key):
         return after.get(key) or table.entry(key)
 
-    refs = set()                # what the objects refer to that the file changes and those that come back
+    refs = set()  # what the objects refer to that the file changes and those that come back
     back, todo = {}, [ref for key, entry in after.items() for ref in refers(key, entry.mine)]
     while todo:
         ref = todo.pop()
@@ -902,8 +1030,12 @@ def with_references(table, told, after, leaving):
             back[ref] = Entry(meta, content, content, Conflict(BACK, meta, content))
             todo += refers(ref, content)
     after.update(back)
-    held, todo = set(), [key for key in leaving if key in refs or any(
-        user not in after and user not in leaving for user in table.users(key))]
+    held, todo = set(), [
+        key
+        for key in leaving
+        if key in refs
+        or any(user not in after and user not in leaving for user in table.users(key))
+    ]
     while todo:
         key = todo.pop()
         if key in leaving and key not in held:
@@ -922,13 +1054,17 @@ def with_references(table, told, after, leaving):
             if ref not in told and ref not in after and table.entry(ref) is None:
                 after[ref] = INCOMPLETE
     for key, entry in told.items():
-        if entry.mine is None and after.get(key) is entry and any(
-                user not in after or user in held for user in table.users(key)):
+        if (
+            entry.mine is None
+            and after.get(key) is entry
+            and any(user not in after or user in held for user in table.users(key))
+        ):
             after[key] = INCOMPLETE
     return after
 
 
 # ---- conflicts ----
+
 
 def in_conflict(table):
     return sorted((key for key, entry in table.entries.items() if entry.conflict), key=rank)
@@ -940,10 +1076,13 @@ def conflicts(table):
     for key in in_conflict(table):
         entry = table.entry(key)
         why, meta, theirs = entry.conflict
-        lines.append('conflict {} {}\n'.format(key, why))
-        for side, its_meta, content in \
-                ('base', entry.meta, entry.base), ('mine', entry.meta, entry.mine), ('theirs', meta, theirs):
-            lines.append('{} {}\n'.format(side, write_line(key, Entry(its_meta, None, content))))
+        lines.append(f'conflict {key} {why}\n')
+        for side, its_meta, content in (
+            ('base', entry.meta, entry.base),
+            ('mine', entry.meta, entry.mine),
+            ('theirs', meta, theirs),
+        ):
+            lines.append(f'{side} {write_line(key, Entry(its_meta, None, content))}\n')
     return ''.join(lines)
 
 
@@ -973,7 +1112,13 @@ def resolved(key, entry, form, choice):
         return None if why == BACK else entry.mine
     if form == 'theirs':
         return theirs
-    if why != BOTH or entry.mine is None or theirs is None or form == 'parts' and entry.base is None:
+    if (
+        why != BOTH
+        or entry.mine is None
+        or theirs is None
+        or form == 'parts'
+        and entry.base is None
+    ):
         raise Refused('16 ' + key)
     side = {'mine': entry.mine, 'theirs': theirs}
     if form == 'mix':
@@ -991,8 +1136,9 @@ def resolved(key, entry, form, choice):
 
 # ---- find and check ----
 
+
 def listed(word, lines):
-    return ''.join(line + '\n' for line in ['{} {}'.format(word, len(lines))] + lines)
+    return ''.join(line + '\n' for line in [f'{word} {len(lines)}'] + lines)
 
 
 def found(table, *query):
@@ -1031,14 +1177,19 @@ def single(table, words):
         return AROUND[word](table, single(table, words))
     if word[0] == 'T':
         wanted = read_tags(word[1:])
-        return {key for key, entry in table.entries.items() if entry.mine and has_tags(entry.mine, wanted)}
+        return {
+            key
+            for key, entry in table.entries.items()
+            if entry.mine and has_tags(entry.mine, wanted)
+        }
     return {key for key, entry in table.entries.items() if TESTS[word](key, entry)}
 
 
 AROUND = {
     'not': lambda table, keys: table.entries.keys() - keys,
     'child': lambda table, keys: {ref for key in keys for ref in refers(key, table.mine(key))},
-    'parent': lambda table, keys: {user for key in keys for user in table.users(key)}}
+    'parent': lambda table, keys: {user for key in keys for user in table.users(key)},
+}
 TESTS = {
     'node': lambda key, entry: key[0] == 'n',
     'way': lambda key, entry: key[0] == 'w',
@@ -1047,18 +1198,25 @@ TESTS = {
     'changed': lambda key, entry: entry.mine != entry.base,
     'deleted': lambda key, entry: entry is not INCOMPLETE and entry.mine is None,
     'incomplete': lambda key, entry: entry is INCOMPLETE,
-    'conflict': lambda key, entry: entry.conflict is not None}
+    'conflict': lambda key, entry: entry.conflict is not None,
+}
 
 
 def checked(table):
-    """Which nodes lie at one place, which ways have a node twice side by side, and which rings aren't closed."""
+    """Which nodes lie at one place, which ways have a node twice side by side, and which rings
+    aren't closed.
+    """
     there = sorted((key for key, entry in table.entries.items() if entry.mine), key=rank)
     ways = [key for key in there if key[0] == 'w']
     first_at, lines = {}, []
     for key in [key for key in there if key[0] == 'n']:
         of = first_at.setdefault(table.mine(key).body, key)
-        lines += ['doubled {} {}'.format(key, of)] if of != key else []
-    lines += ['repeated ' + key for key in ways if nodes_left(table.mine(key).body, ()) != table.mine(key).body]
+        lines += [f'doubled {key} {of}'] if of != key else []
+    lines += [
+        'repeated ' + key
+        for key in ways
+        if nodes_left(table.mine(key).body, ()) != table.mine(key).body
+    ]
     lines += ['openring ' + key for key in ways if is_open_ring(table, table.mine(key).body)]
     return listed('check', lines)
 
@@ -1072,22 +1230,30 @@ def is_open_ring(table, nodes):
 
 # ---- what an upload sends ----
 
+
 def changes_of(table):
     """The changes that bring the edits to the server, in the order in which they are sent."""
     clashing = in_conflict(table)
     if clashing:
-        raise Refused('23 {} {}'.format(len(clashing), clashing[0]))
-    changed = sorted((key for key, entry in table.entries.items() if entry.mine != entry.base), key=rank)
+        raise Refused(f'23 {len(clashing)} {clashing[0]}')
+    changed = sorted(
+        (key for key, entry in table.entries.items() if entry.mine != entry.base), key=rank
+    )
     sent = [key for key in changed if table.mine(key)]
     for key in sent:
         for ref in refers(key, table.mine(key)):
             if table.entry(ref) is INCOMPLETE and not vouched(table, ref):
-                raise Refused('24 {} {}'.format(key, ref))
+                raise Refused(f'24 {key} {ref}')
     made = made_in_order(table, [key for key in sent if table.entry(key).base is None])
     edited = [key for key in sent if table.entry(key).base is not None]
-    gone = {kind: [key for key in changed if key[0] == kind and not table.mine(key)] for kind in KINDS}
-    return [with_content(table, key) for key in made + edited] + relations_gone(table, gone['r']) + [
-        Change('delete', key, table.entry(key).meta[0], None) for key in gone['w'] + gone['n']]
+    gone = {
+        kind: [key for key in changed if key[0] == kind and not table.mine(key)] for kind in KINDS
+    }
+    return (
+        [with_content(table, key) for key in made + edited]
+        + relations_gone(table, gone['r'])
+        + [Change('delete', key, table.entry(key).meta[0], None) for key in gone['w'] + gone['n']]
+    )
 
 
 def with_content(table, key):
@@ -1097,12 +1263,18 @@ def with_content(table, key):
 
 
 def vouched(table, ref):
-    """Whether the downloaded version of an object says that the server has what is only referred to."""
-    return any(table.mine(user) is None or user in table.users(ref) for user in table.base_users(ref))
+    """Whether the downloaded version of an object says that the server has what is only referred
+    to.
+    """
+    return any(
+        table.mine(user) is None or user in table.users(ref) for user in table.base_users(ref)
+    )
 
 
 def made_in_order(table, left):
-    """What the server doesn't have there yet, each behind what it refers to, of those that are ready the first by rank."""
+    """What the server doesn't have there yet, each behind what it refers to, of those that are
+    ready the first by rank.
+    """
     order, missing = [], set(left)
     needs = {key: missing.intersection(refers(key, table.mine(key))) for key in left}
     while left:
@@ -1116,9 +1288,14 @@ def made_in_order(table, left):
 
 
 def relations_gone(table, left):
-    """The changes that delete relations, each before what it refers to; some are emptied where there is no such order."""
+    """The changes that delete relations, each before what it refers to; some are emptied where
+    there is no such order.
+    """
     changes, version = [], {key: table.entry(key).meta[0] for key in left}
-    users = {key: table.base_users(key) & version.keys() if table.base_users(key) else set() for key in left}
+    users = {
+        key: table.base_users(key) & version.keys() if table.base_users(key) else set()
+        for key in left
+    }
     while left:
         free = next((key for key in left if not users[key]), None)
         turn = free or next(key for key in left if any(key in users[other] for other in left))
@@ -1140,17 +1317,17 @@ def uploaded(table, size):
     for change in changes:
         server.take(change)
     server.assert_edited(changes)
-    chunks = [changes[i:i + size] for i in range(0, len(changes), size)]
-    lines = ['upload changes {} chunks {}\n'.format(len(changes), len(chunks))]
+    chunks = [changes[i : i + size] for i in range(0, len(changes), size)]
+    lines = [f'upload changes {len(changes)} chunks {len(chunks)}\n']
     for number, chunk in enumerate(chunks, 1):
-        lines.append('chunk {} of {}\n'.format(number, len(chunks)))
+        lines.append(f'chunk {number} of {len(chunks)}\n')
         lines += [change.verb + ' ' + write_change(change) + '\n' for change in chunk]
     return ''.join(lines)
 
 
 def write_change(change):
     if change.verb == 'delete':
-        return '{} v{}'.format(change.key, change.version)
+        return f'{change.key} v{change.version}'
     return write_line(change.key, Entry((change.version,) + NEW[1:], None, change.content))
 
 
@@ -1162,12 +1339,14 @@ def rehearsed(table):
             server.take(change)
         except NotTaken as reason:
             return 'rehearse: the server refuses change {} of {}, {} {}: {}\n'.format(
-                number, len(changes), change.verb, write_change(change), reason)
+                number, len(changes), change.verb, write_change(change), reason
+            )
     server.assert_edited(changes)
-    return 'rehearse accepted {}\n'.format(len(changes))
+    return f'rehearse accepted {len(changes)}\n'
 
 
 # ---- what a server answers ----
+
 
 def confirm(table, name):
     """Takes the answers to the first changes of an upload; what they answer counts as the server's."""
@@ -1185,7 +1364,7 @@ def answers_of(table, data, changes):
         change = changes[len(answers)] if len(answers) < len(changes) else None
         new = change and new_key(change, re.split('[ \t]+', line.decode(errors='surrogateescape')))
         if not new:
-            raise Refused('26 {}'.format(number))
+            raise Refused(f'26 {number}')
         if change.verb == 'create' and (table.entry(new) or new in given):
             raise Refused('27 ' + new)
         given.add(new)
@@ -1194,9 +1373,17 @@ def answers_of(table, data, changes):
 
 
 def new_key(change, words):
-    """The key that the object has behind the answer; None where the words are no answer to the change."""
-    if len(words) != (4 if change.verb == 'create' else 3) or words[0] != change.verb or not is_key(words[1]) \
-            or read_key(words[1]) != change.key or change.version == 2_000_000_000 or words[-1] != 'v{}'.format(change.version + 1):
+    """The key that the object has behind the answer; None where the words are no answer to the
+    change.
+    """
+    if (
+        len(words) != (4 if change.verb == 'create' else 3)
+        or words[0] != change.verb
+        or not is_key(words[1])
+        or read_key(words[1]) != change.key
+        or change.version == 2_000_000_000
+        or words[-1] != f'v{change.version + 1}'
+    ):
         return None
     if change.verb != 'create':
         return change.key
@@ -1211,7 +1398,9 @@ def is_key(word):
 def settle(table, change, new):
     """The table behind one answer."""
     entry = table.entry(change.key)
-    base = None if change.verb == 'delete' else entry.mine or change.content     # emptied: still to be deleted
+    base = (
+        None if change.verb == 'delete' else entry.mine or change.content
+    )  # emptied: still to be deleted
     if new != change.key:
         table.put(change.key, None)
     table.put(new, Entry((change.version + 1,) + NEW[1:], base, entry.mine))
@@ -1222,8 +1411,9 @@ def settle(table, change, new):
 
 # ---- a session that is put away ----
 
+
 def saved(table):
-    lines = ['session 1 {}'.format(table.number)]
+    lines = [f'session 1 {table.number}']
     for key in sorted(table.entries, key=rank):
         lines += saved_lines(key, table.entry(key))
     return ''.join(line + '\n' for line in lines + ['session end'])
@@ -1234,10 +1424,18 @@ def saved_lines(key, entry):
         return ['incomplete ' + key]
     base = 'new' if is_new(key) else 'live' if entry.base else 'gone'
     mine = 'same' if entry.mine == entry.base else 'own' if entry.mine else 'none'
-    lines = ['known {} {} {} {}'.format(key, base, mine, entry.conflict.why if entry.conflict else 'none')]
+    lines = [
+        'known {} {} {} {}'.format(
+            key, base, mine, entry.conflict.why if entry.conflict else 'none'
+        )
+    ]
     lines += [saved_side('base', key, entry.meta, entry.base)] if base != 'new' else []
     lines += [saved_side('mine', key, meta_of_mine(key), entry.mine)] if mine == 'own' else []
-    return lines + ([saved_side('theirs', key, entry.conflict.meta, entry.conflict.theirs)] if entry.conflict else [])
+    return lines + (
+        [saved_side('theirs', key, entry.conflict.meta, entry.conflict.theirs)]
+        if entry.conflict
+        else []
+    )
 
 
 def saved_side(word, key, meta, content):
@@ -1250,7 +1448,10 @@ def meta_of_mine(key):
 
 def taken_up(table, name):
     """The table of a saved session."""
-    lines = [line.decode(errors='surrogateescape') for _, _, line in numbered_lines(read_file(table, name))]
+    lines = [
+        line.decode(errors='surrogateescape')
+        for _, _, line in numbered_lines(read_file(table, name))
+    ]
     lines = lines if lines[-1] else lines[:-1]
     start = next((i for i, line in enumerate(lines) if line.startswith('session ')), len(lines))
     numbered = iter(enumerate(lines[start:] + [''], start + 1))
@@ -1276,14 +1477,18 @@ def taken_up(table, name):
 
 def right(test, number):
     if not test:
-        raise Refused('30 {}'.format(number))
+        raise Refused(f'30 {number}')
 
 
-FIRST = re.compile('incomplete ([^ ]+)|known ([^ ]+) (live|gone|new) (same|own|none) (none|changed|held|withdrawn)')
+FIRST = re.compile(
+    'incomplete ([^ ]+)|known ([^ ]+) (live|gone|new) (same|own|none) (none|changed|held|withdrawn)'
+)
 
 
 def saved_shape(number, line):
-    """The key of the object whose first line this is, and the three words; none of what is only referred to."""
+    """The key of the object whose first line this is, and the three words; none of what is only
+    referred to.
+    """
     hit = FIRST.fullmatch(line)
     key = hit and (hit[1] or hit[2])
     right(key and is_key(key) and read_key(key) == key, number)
@@ -1313,7 +1518,7 @@ def saved_entry(key, shape, numbered):
 def read_side(numbered, word, key):
     """The number of the next line, and the metadata and the content in it."""
     number, line = next(numbered)
-    text = line[len(word) + 1:]
+    text = line[len(word) + 1 :]
     right(line.startswith(word + ' ') and not fault_of(text, True), number)
     its_key, meta, content = read_line(text)
     right(its_key == key and saved_side(word, key, meta, content) == line, number)
@@ -1324,7 +1529,11 @@ def can_be(table, key, shape):
     """Whether a session can have such an object."""
     entry = table.entry(key)
     for ref in refers(key, entry.mine):
-        if table.entry(ref) is None or table.entry(ref) is not INCOMPLETE and table.mine(ref) is None:
+        if (
+            table.entry(ref) is None
+            or table.entry(ref) is not INCOMPLETE
+            and table.mine(ref) is None
+        ):
             return False
     if entry.mine and entry.mine != entry.base and not fits(key, entry.mine):
         return False
@@ -1349,11 +1558,14 @@ def can_clash(entry):
 
 # ---- a server ----
 
+
 class NotTaken(Exception):
     """The number of the server's reason against a change, and what it carries."""
 
 
-UNKNOWN = Content((), ())       # what the server has of an object that a downloaded version only refers to
+UNKNOWN = Content(
+    (), ()
+)  # what the server has of an object that a downloaded version only refers to
 
 
 class Server:
@@ -1361,12 +1573,14 @@ class Server:
 
     def __init__(self, table):
         self.table = table
-        self.things = {}        # what changes made: the version and the content, None of a deleted one
-        self.referrers = {}     # the keys of things that refer, or once referred, to a key
-        self.ids = {}           # the key that each placeholder stands for
+        self.things = {}  # what changes made: the version and the content, None of a deleted one
+        self.referrers = {}  # the keys of things that refer, or once referred, to a key
+        self.ids = {}  # the key that each placeholder stands for
 
     def thing(self, key):
-        """The version and the content of an object; the content is None if it is deleted, both if there never was one."""
+        """The version and the content of an object; the content is None if it is deleted, both if
+        there never was one.
+        """
         if key in self.things:
             return self.things[key]
         entry = None if is_new(key) else self.table.entry(key)
@@ -1380,7 +1594,7 @@ class Server:
         return {user for user in users if key in refers(user, self.thing(user)[1])}
 
     def free_key(self, kind):
-        return kind + str(MOST_ID + 1 + len(self.ids))      # behind all ids of files
+        return kind + str(MOST_ID + 1 + len(self.ids))  # behind all ids of files
 
     def put(self, key, version, content):
         self.things[key] = version, content
@@ -1398,9 +1612,11 @@ class Server:
         elif version is None or change.verb == 'delete' and there is None:
             raise NotTaken('2')
         elif version != change.version:
-            raise NotTaken('3 {}'.format(version))
+            raise NotTaken(f'3 {version}')
         content = self.with_ids(key, change.content)
-        if content is not None and (not fits(key, content) or key[0] == 'n' and off_the_map(content.body)):
+        if content is not None and (
+            not fits(key, content) or key[0] == 'n' and off_the_map(content.body)
+        ):
             raise NotTaken('6')
         for ref in refers(key, content):
             if self.thing(ref)[1] is None:
@@ -1415,16 +1631,22 @@ class Server:
         return renamed(key, content, self.ids)
 
     def assert_edited(self, changes):
-        """Each object that is changed here, or that a change is about, is on the server what it is here."""
+        """Each object that is changed here, or that a change is about, is on the server what it is
+        here.
+        """
         keys = {key for key, entry in self.table.entries.items() if entry.mine != entry.base}
         for key in keys | {change.key for change in changes}:
             _, content = self.thing(self.ids.get(key, key))
-            assert content == self.with_ids(key, self.table.mine(key)), '{} is another on the server'.format(key)
+            assert content == self.with_ids(
+                key, self.table.mine(key)
+            ), f'{key} is another on the server'
 
 
 # ---- a meeting ----
 
-Taken = namedtuple('Taken', 'change key before after')      # before, after: the version and the content on the server
+Taken = namedtuple(
+    'Taken', 'change key before after'
+)  # before, after: the version and the content on the server
 
 
 class Shared(Server):
@@ -1438,12 +1660,17 @@ class Shared(Server):
         return self.things.get(key, (None, None))
 
     def users(self, key):
-        return {user for user in self.referrers.get(key, ()) if key in refers(user, self.thing(user)[1])}
+        return {
+            user for user in self.referrers.get(key, ()) if key in refers(user, self.thing(user)[1])
+        }
 
     def free_key(self, kind):
         """The least one that is free here and in the table of the editor that sends."""
-        return next(key for key in map('{}{}'.format, repeat(kind), count(1))
-                    if key not in self.things and self.table.entry(key) is None)
+        return next(
+            key
+            for key in map('{}{}'.format, repeat(kind), count(1))
+            if key not in self.things and self.table.entry(key) is None
+        )
 
     def serve(self, objects):
         """Takes over the objects of a file."""
@@ -1457,36 +1684,46 @@ class Shared(Server):
     def told(self, back):
         """What stood here so many accepted changes ago."""
         if back > len(self.log):
-            raise Refused('35 {}'.format(len(self.log)))
+            raise Refused(f'35 {len(self.log)}')
         things = dict(self.things)
-        for key, before in reversed(self.log[len(self.log) - back:]):
+        for key, before in reversed(self.log[len(self.log) - back :]):
             things[key] = before
-        return {key: Entry((version,) + NEW[1:], content, content)
-                for key, (version, content) in things.items() if version is not None}
+        return {
+            key: Entry((version,) + NEW[1:], content, content)
+            for key, (version, content) in things.items()
+            if version is not None
+        }
 
     def receive(self, table, changes):
-        """Takes the changes of an editor one by one; gives those that it took, and what is said of it."""
+        """Takes the changes of an editor one by one; gives those that it took, and what is said of
+        it.
+        """
         self.table, self.ids, taken = table, {}, []
         for number, change in enumerate(changes, 1):
             before = self.thing(change.key)
             try:
                 key = self.take(change)
             except NotTaken as reason:
-                return taken, 'sent {} refused {} {}\n'.format(len(taken), number, reason)
+                return taken, f'sent {len(taken)} refused {number} {reason}\n'
             self.log.append((key, before))
             taken.append(Taken(change, key, before, self.thing(key)))
-        return taken, 'sent {}\n'.format(len(taken))
+        return taken, f'sent {len(taken)}\n'
 
 
 def assert_seen(table, taken):
-    """Each version that a change took the place of is one that its editor had seen, or that the same send made."""
+    """Each version that a change took the place of is one that its editor had seen, or that the
+    same send made.
+    """
     left = {}
     for change, key, before, after in taken:
         if change.verb != 'create':
             entry = table.entry(key)
             if before != left.get(key, (entry.meta[0], entry.base)):
-                sys.exit('model: {} {} took the place of what its editor had not seen'.format(
-                    change.verb, write_change(change)))
+                sys.exit(
+                    'model: {} {} took the place of what its editor had not seen'.format(
+                        change.verb, write_change(change)
+                    )
+                )
         left[key] = after
 
 
@@ -1495,11 +1732,12 @@ def job_fetch(table, back, *parts):
         return merged(table, part_of(table.server.told(int(back)), *parts)), []
     except Refused as refusal:
         if str(refusal).startswith('17 '):
-            sys.exit('model: a fetch tells one version in two ways: {}'.format(refusal))
+            sys.exit(f'model: a fetch tells one version in two ways: {refusal}')
         raise
 
 
 # ---- the session ----
+
 
 def read_keys(word):
     return [read_key(key) for key in word.split(',')]
@@ -1512,17 +1750,28 @@ MERGES = ('download', 'generate', 'fetch')
 def run_job(table, verb, words):
     """Does a job on the table; gives what it changed, for undo, and the keys that it made."""
     draft, made = JOBS[verb](table, *words)
-    changes = {key: (table.entry(key), entry) for key, entry in draft.items() if entry != table.entry(key)}
+    changes = {
+        key: (table.entry(key), entry) for key, entry in draft.items() if entry != table.entry(key)
+    }
     if verb not in ('delete', 'purge'):
         for key in sorted(changes, key=rank) if verb not in MERGES + ('resolve',) else ():
             if changes[key][0]:
                 no_conflict(table, key)
         for key in sorted(changes, key=rank) if verb not in MERGES else ():
             after = changes[key][1]
-            if after and after.mine and not fits(key, after.mine) and (verb != 'resolve' or after.mine != after.base):
+            if (
+                after
+                and after.mine
+                and not fits(key, after.mine)
+                and (verb != 'resolve' or after.mine != after.base)
+            ):
                 raise Refused('7 ' + key)
         more = sum((before is None) - (after is None) for before, after in changes.values())
-        if len(table.entries) + more > table.limits.objects or made and table.number + len(made) > MOST_ID:
+        if (
+            len(table.entries) + more > table.limits.objects
+            or made
+            and table.number + len(made) > MOST_ID
+        ):
             raise Refused('18')
     patch = (changes, table.number, table.number + len(made))
     table.apply(patch)
@@ -1538,24 +1787,42 @@ def counted(table):
         tally[key[0] if entry.mine else 'deleted'] += 1
         tally['changed'] += entry.mine != entry.base
         tally['conflicts'] += entry.conflict is not None
-    return 'count nodes {n} ways {w} relations {r} incomplete {incomplete} deleted {deleted} changed {changed} ' \
+    return (
+        'count nodes {n} ways {w} relations {r} incomplete {incomplete} deleted {deleted} changed {changed} '
         'conflicts {conflicts}\n'.format(**tally)
+    )
 
 
 def printed(table):
-    return ''.join(write_line(key, table.entry(key)) + '\n' for key in sorted(table.entries, key=rank)
-                   if table.entry(key) is not INCOMPLETE)
+    return ''.join(
+        write_line(key, table.entry(key)) + '\n'
+        for key in sorted(table.entries, key=rank)
+        if table.entry(key) is not INCOMPLETE
+    )
 
 
-TEXTS = {'print': printed, 'count': counted, 'conflicts': conflicts, 'rehearse': rehearsed, 'find': found,
-         'check': checked, 'save': saved}
+TEXTS = {
+    'print': printed,
+    'count': counted,
+    'conflicts': conflicts,
+    'rehearse': rehearsed,
+    'find': found,
+    'check': checked,
+    'save': saved,
+}
 
 
 class Session:
     """The table, the steps done and undone (each the patches of its jobs), and the open group."""
 
     def __init__(self, limits=Limits()):
-        self.table, self.past, self.undone, self.group, self.skips = Table(limits), [], [], None, False
+        self.table, self.past, self.undone, self.group, self.skips = (
+            Table(limits),
+            [],
+            [],
+            None,
+            False,
+        )
 
     def step(self, verb, words):
         """Does one step of the script; gives its reply without the line number, and its text."""
@@ -1588,17 +1855,27 @@ class Session:
             self.past += [self.group] if self.group else []
             self.group = None
         elif verb == 'undo':
-            self.go(int(words[0]), self.past, self.undone, '21', lambda step: [
-                self.table.revert(patch) for patch in reversed(step)])
+            self.go(
+                int(words[0]),
+                self.past,
+                self.undone,
+                '21',
+                lambda step: [self.table.revert(patch) for patch in reversed(step)],
+            )
         elif verb == 'redo':
-            self.go(int(words[0]), self.undone, self.past, '22', lambda step: [
-                self.table.apply(patch) for patch in step])
+            self.go(
+                int(words[0]),
+                self.undone,
+                self.past,
+                '22',
+                lambda step: [self.table.apply(patch) for patch in step],
+            )
         elif verb in JOBS:
             patch, made = run_job(self.table, verb, words)
             self.accepted(patch)
             return ' '.join(['ok'] + ([','.join(made)] if made else [])), ''
         else:
-            raise ValueError('{} is no step'.format(verb))
+            raise ValueError(f'{verb} is no step')
         return 'ok', ''
 
     def forget(self):
@@ -1607,7 +1884,9 @@ class Session:
 
     def accepted(self, patch):
         self.undone.clear()
-        (self.past if self.group is None else self.group).append([patch] if self.group is None else patch)
+        (self.past if self.group is None else self.group).append(
+            [patch] if self.group is None else patch
+        )
 
     def go(self, count, source, target, number, turn):
         if len(source) < count:
@@ -1621,7 +1900,9 @@ LOOKS = ('print', 'conflicts', 'count', 'find', 'check', 'save', 'upload', 'rehe
 
 
 class Editor(Session):
-    """One of the editors of a meeting, and what the server took of what it sent and waits for, None if it doesn't."""
+    """One of the editors of a meeting, and what the server took of what it sent and waits for, None
+    if it doesn't.
+    """
 
     def __init__(self, limits, server):
         super().__init__(limits)
@@ -1715,7 +1996,7 @@ def is_utf8(word):
 
 
 def end(status, text):
-    sys.stderr.write('editor: {}\n'.format(text))
+    sys.stderr.write(f'editor: {text}\n')
     sys.exit(status)
 
 
@@ -1739,5 +2020,5 @@ def written(session, script):
             try:
                 reply, text = session.step(words[0], words[1:])
             except (AttributeError, IndexError, KeyError, TypeError, ValueError) as fault:
-                sys.exit('model: script line {} is outside the grammar: {!r}'.format(number, fault))
-            yield '{} {}\n{}'.format(number, reply, text)
+                sys.exit(f'model: script line {number} is outside the grammar: {fault!r}')
+            yield f'{number} {reply}\n{text}'

@@ -1,6 +1,7 @@
 #!/usr/bin/env python3
-"""Tests of bench/wrong/run that need no toolkit: how functions are found, what a check's words come to, and which libraries each
-kit takes."""
+"""Tests of bench/wrong/run that need no toolkit: how functions are found, what a check's words come
+to, and which libraries each kit takes.
+"""
 import contextlib
 import importlib.machinery
 import importlib.util
@@ -14,14 +15,16 @@ import types
 import unittest
 from unittest import mock
 
-LOADER = importlib.machinery.SourceFileLoader('run', str(pathlib.Path(__file__).resolve().parent / 'run'))
+LOADER = importlib.machinery.SourceFileLoader(
+    'run', str(pathlib.Path(__file__).resolve().parent / 'run')
+)
 RUN = importlib.util.module_from_spec(importlib.util.spec_from_loader('run', LOADER))
 sys.modules['run'] = RUN
 LOADER.exec_module(RUN)
-from bench.wrong import kits                                                            # noqa: E402
-from launcher import crates as crates_txt, keys                                         # noqa: E402
-from launcher.store import Store                                                        # noqa: E402
-from launcher.toolkit import Toolkit                                                    # noqa: E402
+from bench.wrong import kits  # noqa: E402
+from launcher import crates as crates_txt, keys  # noqa: E402
+from launcher.store import Store  # noqa: E402
+from launcher.toolkit import Toolkit  # noqa: E402
 
 SOURCE = '''//! A module.
 pub trait Rule {
@@ -102,7 +105,9 @@ class Functions(unittest.TestCase):
 
     def test_heads_of_impls(self):
         self.assertEqual('HostSinkSink', RUN.owner_of('impl<W: Write> Sink for HostSink<W> {'))
-        self.assertEqual('WriteErrorFrom', RUN.owner_of('impl<T: Drop> From<AllocFailed<T>> for WriteError {'))
+        self.assertEqual(
+            'WriteErrorFrom', RUN.owner_of('impl<T: Drop> From<AllocFailed<T>> for WriteError {')
+        )
         self.assertEqual('Keys', RUN.owner_of('impl Keys {'))
 
     def test_each_edit_can_be_applied(self):
@@ -110,14 +115,17 @@ class Functions(unittest.TestCase):
             folder, source, pairs = RUN.TOP / 'crates' / path.parent.name, None, 0
             for line in path.read_text().split('\n'):
                 if line.startswith('file: '):
-                    source = (folder / line[len('file: '):]).read_text()
+                    source = (folder / line[len('file: ') :]).read_text()
                 elif line.startswith('old: '):
-                    self.assertEqual(1, source.count(line[len('old: '):]), path)
+                    self.assertEqual(1, source.count(line[len('old: ') :]), path)
                     pairs += 1
             self.assertGreater(pairs, 0, path)
 
     def test_edits_stand_in_their_functions(self):
-        with_body = {path.stem: RUN.turned(path, RUN.TOP / 'crates' / path.parent.name) for path in RUN.HERE.glob('closure/*.edit')}
+        with_body = {
+            path.stem: RUN.turned(path, RUN.TOP / 'crates' / path.parent.name)
+            for path in RUN.HERE.glob('closure/*.edit')
+        }
         self.assertTrue(with_body and all(with_body.values()))
 
 
@@ -154,6 +162,7 @@ class Lanes(unittest.TestCase):
                     now.remove(name)
                     seen.append(name)
                 return [task(name + '+', 0)] if more else []
+
             return RUN.Task(5, call)
 
         RUN.in_lanes(4, [task(str(n), n % 2) for n in range(6)], 11)
@@ -174,7 +183,14 @@ class Rounds(RUN.Rounds):
     """Rounds over words that are given, in place of rattle's."""
 
     def __init__(self, says):
-        self.says, self.told, self.number, self.crate, self.kept, self.needs = says, {}, 0, 'low', '/nowhere/kept', 0
+        self.says, self.told, self.number, self.crate, self.kept, self.needs = (
+            says,
+            {},
+            0,
+            'low',
+            '/nowhere/kept',
+            0,
+        )
         self.report = self.bench = self
         self.room, self.alone_ones = None, []
 
@@ -212,7 +228,11 @@ class TheRounds(unittest.TestCase):
 
         def says(edits):
             seen.append([it.path.name for it in edits])
-            return ''.join('fn low::{}: no proof: `search` did not prove `returns`\n'.format(it.function.name) for it in edits)
+            return ''.join(
+                f'fn low::{it.function.name}: no proof: `search` did not prove `returns`\n'
+                for it in edits
+            )
+
         rounds = self.run_all([edit('one', 'f'), edit('two', 'f'), edit('three', 'g')], says)
         self.assertEqual([['one', 'three'], ['two']], seen)
         self.assertEqual(dict.fromkeys(['one', 'two', 'three'], RUN.REFUSED), rounds.told)
@@ -222,13 +242,26 @@ class TheRounds(unittest.TestCase):
             if len(edits) == 2:
                 return 'fn low::f: no proof: `search` did not prove `returns`\nfn low::g: no proof: it calls `low::f`, which is not proved\n'
             return 'fn low::g: no proof: `search` did not prove `returns`\n'
-        self.assertEqual({'one': RUN.REFUSED, 'two': RUN.REFUSED}, self.run_all([edit('one', 'f'), edit('two', 'g')], says).told)
+
+        self.assertEqual(
+            {'one': RUN.REFUSED, 'two': RUN.REFUSED},
+            self.run_all([edit('one', 'f'), edit('two', 'g')], says).told,
+        )
 
     def test_the_one_that_does_not_compile_is_found(self):
         def says(edits):
             names = [it.path.name for it in edits]
-            return 'src/a.rt:1:1: error[E0308]: types\n' if 'two' in names else ''.join(
-                'fn low::{}: no proof: `search` did not prove `returns`\n'.format(it.function.name) for it in edits)
+            return (
+                'src/a.rt:1:1: error[E0308]: types\n'
+                if 'two' in names
+                else ''.join(
+                    'fn low::{}: no proof: `search` did not prove `returns`\n'.format(
+                        it.function.name
+                    )
+                    for it in edits
+                )
+            )
+
         told = self.run_all([edit('one', 'f'), edit('two', 'g'), edit('three', 'h')], says).told
         self.assertEqual({'one': RUN.REFUSED, 'two': RUN.BAD, 'three': RUN.REFUSED}, told)
 
@@ -240,29 +273,37 @@ class TheRounds(unittest.TestCase):
         for names, begun in [(['one', 'two'], []), (['one', 'two', 'three'], ['low'])]:
             BEGUN.clear()
             with contextlib.redirect_stdout(io.StringIO()):
-                rounds = self.run_all([RUN.Edit('low', pathlib.Path(name), None) for name in names], lambda edits: '')
+                rounds = self.run_all(
+                    [RUN.Edit('low', pathlib.Path(name), None) for name in names], lambda edits: ''
+                )
             self.assertEqual((names, begun), (rounds.alone_ones, BEGUN))
 
     def test_a_check_that_was_killed_says_nothing(self):
-        self.assertEqual({'one': RUN.UNSURE}, self.run_all([edit('one', 'f')], lambda edits: '').told)
+        self.assertEqual(
+            {'one': RUN.UNSURE}, self.run_all([edit('one', 'f')], lambda edits: '').told
+        )
 
 
 # ---- kits ----
 
 LOGIC = 'dac8208d650f15bf'
-PROVED = 'logic=proved functions=3 sum={} native=nat,char,string logic-built=trusted libraries-built=trusted statements=trusted'.format(LOGIC)
+PROVED = 'logic=proved functions=3 sum={} native=nat,char,string logic-built=trusted libraries-built=trusted statements=trusted'.format(
+    LOGIC
+)
 CHAIN = {'low': [], 'middle': ['low'], 'high': ['middle']}
 
 
 class StandInCrate:
-    """A crate of a stand-in for rt: its library is a folder with one file, and it notes which were built."""
+    """A crate of a stand-in for rt: its library is a folder with one file, and it notes which were
+    built.
+    """
 
     built, stamps = [], 0
     allowed, cuts_libraries = (), False
 
     def __init__(self, root, name, deps):
-        self.name, self.deps, self.folder = name, deps, '{}/crates/{}'.format(root, name)
-        self.rlib = '{}/out/rlib/{}.rlib'.format(self.folder, name)
+        self.name, self.deps, self.folder = name, deps, f'{root}/crates/{name}'
+        self.rlib = f'{self.folder}/out/rlib/{name}.rlib'
 
     def below(self):
         return [it for dep in self.deps for it in [*dep.below(), dep]]
@@ -280,6 +321,7 @@ class StandInCrate:
 
 def stand_in(**more):
     """The names of an rt that keeps nothing."""
+
     def crates_of(root, aside):
         found = {}
         for name, below in CHAIN.items():
@@ -287,9 +329,18 @@ def stand_in(**more):
         return list(found.values())
 
     rtlib = types.SimpleNamespace(guarded=lambda: [], Crate=StandInCrate)
-    return types.SimpleNamespace(Crate=StandInCrate, crates_of=crates_of, free=lambda: 0, handles_of=lambda root: (), need=lambda crate: 0,
-                                 must_fail=lambda crate, edit, flags: (True, 'must-fail low/x.edit: refused, as it must be'), processors=lambda: 1,
-                                 read_edit=None, rtlib=rtlib, **more)
+    return types.SimpleNamespace(
+        Crate=StandInCrate,
+        crates_of=crates_of,
+        free=lambda: 0,
+        handles_of=lambda root: (),
+        need=lambda crate: 0,
+        must_fail=lambda crate, edit, flags: (True, 'must-fail low/x.edit: refused, as it must be'),
+        processors=lambda: 1,
+        read_edit=None,
+        rtlib=rtlib,
+        **more,
+    )
 
 
 class OverACheckout(unittest.TestCase):
@@ -304,10 +355,18 @@ class OverACheckout(unittest.TestCase):
         self.top = self.room / 'top'
         for name in CHAIN:
             (self.top / 'crates' / name / 'src').mkdir(parents=True)
-            (self.top / 'crates' / name / 'src' / 'lib.rt').write_text('// {}\n'.format(name))
-        (self.top / 'crates.txt').write_text(''.join('{}: {}\n'.format(name, ' '.join(below)) for name, below in CHAIN.items()))
-        for patch in (mock.patch.dict(os.environ, {'XDG_CACHE_HOME': str(self.room / 'cache')}),
-                      mock.patch.object(kits.toolkit, 'find', lambda store: Toolkit('/kit', 'a kit logic ' + LOGIC, 'this kit'))):
+            (self.top / 'crates' / name / 'src' / 'lib.rt').write_text(f'// {name}\n')
+        (self.top / 'crates.txt').write_text(
+            ''.join('{}: {}\n'.format(name, ' '.join(below)) for name, below in CHAIN.items())
+        )
+        for patch in (
+            mock.patch.dict(os.environ, {'XDG_CACHE_HOME': str(self.room / 'cache')}),
+            mock.patch.object(
+                kits.toolkit,
+                'find',
+                lambda store: Toolkit('/kit', 'a kit logic ' + LOGIC, 'this kit'),
+            ),
+        ):
             patch.start()
             self.addCleanup(patch.stop)
         self.store = Store(str(self.room / 'cache' / 'yokeorange'))
@@ -329,14 +388,20 @@ class KitsThatKeepNothing(OverACheckout):
     def laid(self, *names):
         """What the libraries below these crates come from, and which were built."""
         (self.room / 'try').mkdir()
-        kit = kits.kit_of(stand_in(), self.top, str(self.room / 'try' / 'repo'), str(self.room / 'try'))
+        kit = kits.kit_of(
+            stand_in(), self.top, str(self.room / 'try' / 'repo'), str(self.room / 'try')
+        )
         with contextlib.redirect_stdout(io.StringIO()):
             kit.lay(names, 1)
         libraries = {name: pathlib.Path(crate.rlib, 'format') for name, crate in kit.crates.items()}
-        return {name: path.read_text() for name, path in libraries.items() if path.exists()}, StandInCrate.built
+        return {
+            name: path.read_text() for name, path in libraries.items() if path.exists()
+        }, StandInCrate.built
 
     def test_what_it_lacks_is_built_below_what_is_tried(self):
-        self.assertEqual(({'low': 'built', 'middle': 'built'}, ['low', 'middle']), self.laid('high'))
+        self.assertEqual(
+            ({'low': 'built', 'middle': 'built'}, ['low', 'middle']), self.laid('high')
+        )
 
     def test_nothing_is_built_below_the_lowest(self):
         self.assertEqual(({}, []), self.laid('low'))
@@ -352,7 +417,9 @@ class KitsThatKeepNothing(OverACheckout):
 
     def test_a_library_over_one_that_was_built_is_not_taken(self):
         self.keep('middle')
-        self.assertEqual(({'low': 'built', 'middle': 'built'}, ['low', 'middle']), self.laid('high'))
+        self.assertEqual(
+            ({'low': 'built', 'middle': 'built'}, ['low', 'middle']), self.laid('high')
+        )
 
     def test_a_library_whose_bytes_changed_is_not_taken(self):
         self.keep('low')
@@ -365,7 +432,11 @@ class KitsThatKeepNothing(OverACheckout):
 
     def test_a_library_of_another_toolkit_is_not_taken(self):
         self.keep('low')
-        with mock.patch.object(kits.toolkit, 'find', lambda store: Toolkit('/kit', 'a kit logic ' + LOGIC, 'another kit')):
+        with mock.patch.object(
+            kits.toolkit,
+            'find',
+            lambda store: Toolkit('/kit', 'a kit logic ' + LOGIC, 'another kit'),
+        ):
             self.assertEqual(({'low': 'built'}, ['low']), self.laid('middle'))
 
     def test_what_is_kept_stays_as_it_was(self):
@@ -375,18 +446,29 @@ class KitsThatKeepNothing(OverACheckout):
 
     def test_a_sum_is_reckoned_once(self):
         kit = kits.kit_of(stand_in(), self.top, str(self.room / 'repo'), str(self.room))
-        self.assertEqual(3, len({kit.stamp(name) for name in CHAIN} | {kit.stamp(name) for name in CHAIN}))
+        self.assertEqual(
+            3, len({kit.stamp(name) for name in CHAIN} | {kit.stamp(name) for name in CHAIN})
+        )
         self.assertEqual(3, StandInCrate.stamps)
 
     def test_what_rt_says_of_an_edit_that_is_tried_alone(self):
         rt = stand_in()
         kit = kits.kit_of(rt, self.top, str(self.room / 'repo'), str(self.room))
         for well, said, result in [
-                (True, 'refused, as it must be: src/a.rt:1:1: error', kits.REFUSED),
-                (False, 'NOT REFUSED: the crate is still proved with this edit', kits.MISSED),
-                (False, 'BAD EDIT: an old text is in src/a.rt 2 times, and not once', kits.BAD),
-                (False, 'BAD EDIT: it did not reach the prover; the first lines of what it said:\nsrc/a.rt:1:1: error[E0308]: types', kits.BAD),
-                (False, 'BAD EDIT: it did not reach the prover; the first lines of what it said:\n', kits.UNSURE)]:
+            (True, 'refused, as it must be: src/a.rt:1:1: error', kits.REFUSED),
+            (False, 'NOT REFUSED: the crate is still proved with this edit', kits.MISSED),
+            (False, 'BAD EDIT: an old text is in src/a.rt 2 times, and not once', kits.BAD),
+            (
+                False,
+                'BAD EDIT: it did not reach the prover; the first lines of what it said:\nsrc/a.rt:1:1: error[E0308]: types',
+                kits.BAD,
+            ),
+            (
+                False,
+                'BAD EDIT: it did not reach the prover; the first lines of what it said:\n',
+                kits.UNSURE,
+            ),
+        ]:
             rt.must_fail = lambda crate, edit, flags: (well, 'must-fail low/x.edit: ' + said)
             self.assertEqual(result, kit.must_fail('low', 'x.edit')[0], said)
 
@@ -416,11 +498,21 @@ class AKitThatKeeps(OverACheckout):
     def kit(self):
         """The kit over the chain of crates."""
         StandInKept.told = []
-        rt = stand_in(Kept=StandInKept, copy_crates=lambda top, root: os.mkdir(root), stamp_of=lambda crate, stamps: 'sum of ' + crate.name,
-                      REFUSED='refused', AT_LIMIT='at its limit', BAD='bad', MISSED='missed', checked=None)
+        rt = stand_in(
+            Kept=StandInKept,
+            copy_crates=lambda top, root: os.mkdir(root),
+            stamp_of=lambda crate, stamps: 'sum of ' + crate.name,
+            REFUSED='refused',
+            AT_LIMIT='at its limit',
+            BAD='bad',
+            MISSED='missed',
+            checked=None,
+        )
         rt.crates_of = lambda root, of_all=rt.crates_of: of_all(root, None)
         (self.room / 'try').mkdir()
-        return rt, kits.kit_of(rt, self.top, str(self.room / 'try' / 'repo'), str(self.room / 'try'))
+        return rt, kits.kit_of(
+            rt, self.top, str(self.room / 'try' / 'repo'), str(self.room / 'try')
+        )
 
     def test_what_is_kept_is_given_and_the_rest_built(self):
         StandInKept.names = ('low',)
@@ -428,8 +520,18 @@ class AKitThatKeeps(OverACheckout):
         with contextlib.redirect_stdout(io.StringIO()) as said:
             kit.lay(['high'], 1)
         self.assertEqual(['middle'], StandInCrate.built)
-        self.assertEqual([('low', 'key of low'), ('low', 'is built'), ('middle', 'key of middle'), ('middle', 'is built')], StandInKept.told)
-        self.assertIn('middle: neither rt ci nor ./editor --prove --keep left a proof of it', said.getvalue())
+        self.assertEqual(
+            [
+                ('low', 'key of low'),
+                ('low', 'is built'),
+                ('middle', 'key of middle'),
+                ('middle', 'is built'),
+            ],
+            StandInKept.told,
+        )
+        self.assertIn(
+            'middle: neither rt ci nor ./editor --prove --keep left a proof of it', said.getvalue()
+        )
         self.assertEqual('sum of low', kit.stamp('low'))
 
     def test_what_the_launcher_kept_is_taken_where_the_gate_kept_none(self):
@@ -439,7 +541,15 @@ class AKitThatKeeps(OverACheckout):
         kit.lay(['high'], 1)
         self.assertEqual([], StandInCrate.built)
         self.assertEqual('kept', pathlib.Path(kit.crates['middle'].rlib, 'format').read_text())
-        self.assertEqual([('low', 'key of low'), ('low', 'is built'), ('middle', 'key of middle'), ('middle', 'is built')], StandInKept.told)
+        self.assertEqual(
+            [
+                ('low', 'key of low'),
+                ('low', 'is built'),
+                ('middle', 'key of middle'),
+                ('middle', 'is built'),
+            ],
+            StandInKept.told,
+        )
 
     def test_what_the_launcher_kept_is_not_taken_over_what_the_gate_kept(self):
         StandInKept.names = ('low',)
@@ -451,16 +561,27 @@ class AKitThatKeeps(OverACheckout):
 
     def test_what_rt_says_of_an_edit_that_is_tried_alone(self):
         rt, kit = self.kit()
-        for kind, result in [('refused', kits.REFUSED), ('at its limit', kits.REFUSED), ('bad', kits.BAD), ('missed', kits.MISSED), ('?', kits.UNSURE)]:
+        for kind, result in [
+            ('refused', kits.REFUSED),
+            ('at its limit', kits.REFUSED),
+            ('bad', kits.BAD),
+            ('missed', kits.MISSED),
+            ('?', kits.UNSURE),
+        ]:
             rt.must_fail = lambda crate, edit, flags: (kind, 'must-fail low/x.edit: said')
             self.assertEqual((result, 'must-fail low/x.edit: said'), kit.must_fail('low', 'x.edit'))
 
-
     def test_what_is_not_refused_over_a_seed_is_tried_from_nothing(self):
         rt, kit = self.kit()
-        rt.checked = lambda crate, texts, flags, kept: pathlib.Path(kept, 'a.oantt').write_text('proved') and types.SimpleNamespace(returncode=0)
+        rt.checked = lambda crate, texts, flags, kept: pathlib.Path(kept, 'a.oantt').write_text(
+            'proved'
+        ) and types.SimpleNamespace(returncode=0)
         kit.begin('low')
-        for over, wanted in [('refused', ['over a seed']), ('missed', ['over a seed', 'from nothing']), ('?', ['over a seed', 'from nothing'])]:
+        for over, wanted in [
+            ('refused', ['over a seed']),
+            ('missed', ['over a seed', 'from nothing']),
+            ('?', ['over a seed', 'from nothing']),
+        ]:
             seen = []
 
             def must_fail(crate, edit, flags, kept=None, over=over, seen=seen):
@@ -469,6 +590,7 @@ class AKitThatKeeps(OverACheckout):
                     self.assertEqual('proved', pathlib.Path(kept, 'a.oantt').read_text())
                     pathlib.Path(kept, 'a.oantt').write_text('with the edit')
                 return (over if kept else 'refused'), 'said'
+
             rt.must_fail = must_fail
             self.assertEqual((kits.REFUSED, 'said'), kit.must_fail('low', 'x.edit'))
             self.assertEqual(wanted, seen)

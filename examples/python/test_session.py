@@ -1,5 +1,7 @@
 #!/usr/bin/env python3
-"""test_session.py [PROGRAM]: tries the driver on the example town. Run it in the folder examples/; bench/check/pages does."""
+"""test_session.py [PROGRAM]: tries the driver on the example town. Run it in the folder examples/;
+bench/check/pages does.
+"""
 import os
 import pathlib
 import re
@@ -11,7 +13,22 @@ from decimal import Decimal
 
 import session
 import whole
-from session import Answer, Drawing, Nothing, Refused, Script, Stopped, degrees, parse_object, quote, read_objects, run, tags, unquote, upload_lines
+from session import (
+    Answer,
+    Drawing,
+    Nothing,
+    Refused,
+    Script,
+    Stopped,
+    degrees,
+    parse_object,
+    quote,
+    read_objects,
+    run,
+    tags,
+    unquote,
+    upload_lines,
+)
 
 PROGRAM = sys.argv.pop() if len(sys.argv) > 1 else 'yokeorange'
 
@@ -36,14 +53,19 @@ class Texts(unittest.TestCase):
         self.assertEqual([unquote(line.split(' ', 1)[1]) for line in script.lines], [name] * 4)
 
     def test_degrees(self):
-        self.assertEqual([degrees(n) for n in (13.65, -0.00000001, 1e-7, Decimal('180'), -5)], ['13.65', '0', '0.0000001', '180', '-5'])
-
+        self.assertEqual(
+            [degrees(n) for n in (13.65, -0.00000001, 1e-7, Decimal('180'), -5)],
+            ['13.65', '0', '0.0000001', '180', '-5'],
+        )
 
     def test_an_error_shows_one_line_of_bounded_length(self):
         script = Script()
-        script.tag(['n1'], {'key{}'.format(number): 'value' for number in range(10000)})
+        script.tag(['n1'], {f'key{number}': 'value' for number in range(10000)})
         step = script.lines[0]
-        for error in (Refused(session.Reply(1, 'refused', '7 n1', []), step, None), Stopped(4, 'editor: bad script line 1', step)):
+        for error in (
+            Refused(session.Reply(1, 'refused', '7 n1', []), step, None),
+            Stopped(4, 'editor: bad script line 1', step),
+        ):
             self.assertIn(step[:60], str(error))
             self.assertLess(len(str(error)), 200)
             self.assertEqual(error.step, step)
@@ -54,10 +76,24 @@ class Texts(unittest.TestCase):
             self.assertNotIn('\n', str(seen.exception))
 
     def test_values_of_a_tag(self):
-        self.assertEqual(tags({'a': 'b', 'levels': 2, 'height': 2.5, 'width': 3.0, 'lit': True, 'oneway': False, 'd': Decimal('1.10')}),
-                         'a=b,levels=2,height=2.5,width=3,lit=yes,oneway=no,d=1.10')
+        self.assertEqual(
+            tags(
+                {
+                    'a': 'b',
+                    'levels': 2,
+                    'height': 2.5,
+                    'width': 3.0,
+                    'lit': True,
+                    'oneway': False,
+                    'd': Decimal('1.10'),
+                }
+            ),
+            'a=b,levels=2,height=2.5,width=3,lit=yes,oneway=no,d=1.10',
+        )
         for value in (None, [], {}, float('nan'), float('inf'), b'x'):
-            self.assertRaisesRegex(ValueError, "tag 'levels': .* is no value", tags, {'levels': value})
+            self.assertRaisesRegex(
+                ValueError, "tag 'levels': .* is no value", tags, {'levels': value}
+            )
         for key in ('', 7, None):
             self.assertRaisesRegex(ValueError, 'tag .*: a key is a text', tags, {key: 'x'})
         self.assertRaisesRegex(ValueError, "tag 'note': 256 characters", tags, {'note': 'x' * 256})
@@ -66,8 +102,13 @@ class Texts(unittest.TestCase):
         script = Script()
         script.resume('1.saved')
         bench = script.node(13, 52, {})
-        for step in (lambda: script.way(['n2', bench], {}), lambda: script.relation([(bench, '')], {}), lambda: script.tag([bench], {}),
-                     lambda: script.place(bench, 1, 1), lambda: script.members('r1', [(bench, '')])):
+        for step in (
+            lambda: script.way(['n2', bench], {}),
+            lambda: script.relation([(bench, '')], {}),
+            lambda: script.tag([bench], {}),
+            lambda: script.place(bench, 1, 1),
+            lambda: script.members('r1', [(bench, '')]),
+        ):
             self.assertRaisesRegex(ValueError, 'put it into a Drawing', step)
 
 
@@ -92,10 +133,15 @@ class Sessions(unittest.TestCase):
         script.count()
         answer = self.run_script(script)
         self.assertEqual([reply.word for reply in answer.replies], ['ok'] * 9)
-        self.assertEqual([answer.replies[2].rest, answer.replies[3].rest, answer.replies[4].rest], [bench, path, 'r-3'])
+        self.assertEqual(
+            [answer.replies[2].rest, answer.replies[3].rest, answer.replies[4].rest],
+            [bench, path, 'r-3'],
+        )
         things = {thing.key: thing for thing in answer.objects()}
         self.assertEqual(things[bench].tags, {'amenity': 'bench', 'note': 'a, b = c'})
-        self.assertEqual((things[bench].lon, things[bench].lat), (Decimal('13.65'), Decimal('0.05')))
+        self.assertEqual(
+            (things[bench].lon, things[bench].lat), (Decimal('13.65'), Decimal('0.05'))
+        )
         self.assertEqual(things[path].nodes, ['n2', bench])
         self.assertEqual(things['r-3'].members, [(path, ''), (bench, 'a role')])
         self.assertEqual(things['n1'].user, 'A B')
@@ -107,8 +153,13 @@ class Sessions(unittest.TestCase):
         script.delete(['n1'])
         with self.assertRaises(Refused) as seen:
             self.run_script(script)
-        self.assertEqual((seen.exception.number, seen.exception.reply.line, seen.exception.step), (1, 2, 'tag n9 Tname=nowhere'))
-        self.assertEqual([reply.word for reply in seen.exception.answer.replies], ['ok', 'refused', 'refused'])
+        self.assertEqual(
+            (seen.exception.number, seen.exception.reply.line, seen.exception.step),
+            (1, 2, 'tag n9 Tname=nowhere'),
+        )
+        self.assertEqual(
+            [reply.word for reply in seen.exception.answer.replies], ['ok', 'refused', 'refused']
+        )
         answer = self.run_script(script, allow_refused=True)
         self.assertEqual([reply.word for reply in answer.replies], ['ok', 'refused', 'refused'])
 
@@ -127,7 +178,9 @@ class Sessions(unittest.TestCase):
             script = Script()
             script.count()
             self.assertEqual(run(script, os.path.relpath(named), place).counts()['nodes'], 0)
-            self.assertRaisesRegex(FileNotFoundError, 'there is no program', run, script, 'named', place)
+            self.assertRaisesRegex(
+                FileNotFoundError, 'there is no program', run, script, 'named', place
+            )
 
     def test_each_call_is_a_line_of_the_grammar(self):
         script = self.script()
@@ -175,7 +228,9 @@ class Sessions(unittest.TestCase):
         answer = self.run_script(script)
         self.assertEqual(answer.findings(), [['doubled', 'n-1', 'n2'], ['repeated', 'w5']])
         self.assertEqual(answer.found(), ['n-1', 'w5'])
-        self.assertEqual([thing.nodes for thing in answer.objects() if thing.key == 'w5'], [['n1', 'n2', 'n3']])
+        self.assertEqual(
+            [thing.nodes for thing in answer.objects() if thing.key == 'w5'], [['n1', 'n2', 'n3']]
+        )
 
     def test_a_session_is_taken_up(self):
         script = self.script()
@@ -205,7 +260,11 @@ class Sessions(unittest.TestCase):
                 skipped.step(step)
             nothing.resume(place + '/there-is-none')
             nothing.save()
-            for other, words in [(self.script(), 'nothing was saved'), (skipped, 'nothing was saved'), (nothing, 'line 1: refused 19: resume ')]:
+            for other, words in [
+                (self.script(), 'nothing was saved'),
+                (skipped, 'nothing was saved'),
+                (nothing, 'line 1: refused 19: resume '),
+            ]:
                 with self.assertRaisesRegex(ValueError, words):
                     self.run_script(other, allow_refused=True).keep(kept)
                 self.assertEqual(kept.read_bytes(), before)
@@ -224,17 +283,33 @@ class Sessions(unittest.TestCase):
             os.link(folder / 'town.opl', folder / 'linked.opl')
             (folder / 'a b.opl').symlink_to('town.opl')
             before = {path.name: path.read_bytes() for path in folder.iterdir()}
-            for step, name in [('download town.opl', 'town.opl'), ('download town.opl', 'linked.opl'), ('download a%20%b.opl', 'town.opl'),
-                               ('import monday.opl', 'monday.opl'), ('resume day.saved', 'day.saved'), ('confirm day.txt', 'day.txt')]:
+            for step, name in [
+                ('download town.opl', 'town.opl'),
+                ('download town.opl', 'linked.opl'),
+                ('download a%20%b.opl', 'town.opl'),
+                ('import monday.opl', 'monday.opl'),
+                ('resume day.saved', 'day.saved'),
+                ('confirm day.txt', 'day.txt'),
+            ]:
                 for into in ('output', 'keep'):
                     script = Script()
                     script.step(step)
                     script.save()
-                    self.assertRaisesRegex(ValueError, 'is read', run, script, '/bin/false', place, **{into: folder / name})
+                    self.assertRaisesRegex(
+                        ValueError,
+                        'is read',
+                        run,
+                        script,
+                        '/bin/false',
+                        place,
+                        **{into: folder / name},
+                    )
             again = Script()
             again.resume('day.saved')
             again.save()
-            self.assertRaisesRegex(ValueError, 'is read', run(again, PROGRAM, place).keep, folder / 'day.saved')
+            self.assertRaisesRegex(
+                ValueError, 'is read', run(again, PROGRAM, place).keep, folder / 'day.saved'
+            )
             self.assertEqual({path.name: path.read_bytes() for path in folder.iterdir()}, before)
 
     def test_a_file_is_written_whole_or_not_at_all(self):
@@ -258,13 +333,28 @@ class Sessions(unittest.TestCase):
 
     def test_a_download_of_nothing_is_told_before_anything_runs(self):
         bare = 'w9 v1 Thighway=track N\n# x20 y20\nn7 v1 Ta%20%b=c x5 y5\nn1 v1 x1 y1\nw5 v1 Thighway=path Nn1\nr9 v1 Ttype=route Mw5@\n'
-        rows = [('', 'download f', False), ('# a note\n\nc1 k2\n', 'download f', False), ('', 'serve f', False), (bare, 'serve f', True),
-                (bare, 'download f', True), (bare, 'download f B0,0,1,1', True), (bare, 'download f B2,2,3,3', False),
-                (bare, 'download f Ftype=route', False), (bare, 'download f Fhighway=*', True), (bare, 'download f Fhighway=pat', False),
-                (bare, 'download f Fa%20%b=c', True), (bare, 'download f B0,0,1,1 Fhighway=path', True), (bare, 'download f B5,5,6,6 Fhighway=*', False),
-                ('w5 v1 Ta=b Nn1\nn1 v1 x1 y1\n', 'download f B0,0,1,1 Fa=b', True), ('n1 v2 dD\n', 'download f B2,2,3,3', True),
-                (bare, 'import f', False), ('n-1 v1 dD\n', 'import f', False), ('n1 v1 x1 y1\nn-1 x1 y1\n', 'import f', True),
-                ('<osm/>', 'download f', True), ('<osm/>', 'import f', True)]
+        rows = [
+            ('', 'download f', False),
+            ('# a note\n\nc1 k2\n', 'download f', False),
+            ('', 'serve f', False),
+            (bare, 'serve f', True),
+            (bare, 'download f', True),
+            (bare, 'download f B0,0,1,1', True),
+            (bare, 'download f B2,2,3,3', False),
+            (bare, 'download f Ftype=route', False),
+            (bare, 'download f Fhighway=*', True),
+            (bare, 'download f Fhighway=pat', False),
+            (bare, 'download f Fa%20%b=c', True),
+            (bare, 'download f B0,0,1,1 Fhighway=path', True),
+            (bare, 'download f B5,5,6,6 Fhighway=*', False),
+            ('w5 v1 Ta=b Nn1\nn1 v1 x1 y1\n', 'download f B0,0,1,1 Fa=b', True),
+            ('n1 v2 dD\n', 'download f B2,2,3,3', True),
+            (bare, 'import f', False),
+            ('n-1 v1 dD\n', 'import f', False),
+            ('n1 v1 x1 y1\nn-1 x1 y1\n', 'import f', True),
+            ('<osm/>', 'download f', True),
+            ('<osm/>', 'import f', True),
+        ]
         with tempfile.TemporaryDirectory() as place:
             file = pathlib.Path(place, 'f')
             for text, step, comes in rows:
@@ -273,9 +363,25 @@ class Sessions(unittest.TestCase):
                 script = Script()
                 script.step(step)
                 if not comes:
-                    self.assertRaisesRegex(Nothing, re.escape(step) + ': nothing comes', run, script, '/bin/false', place)
-                    self.assertEqual(run(script, PROGRAM, place, allow_empty=True).replies[0].word, 'ok')
-            for step in ('download f B1,2', 'download f Fhighway', 'download %ffffff%', 'download f%0%', 'download f x', 'download'):
+                    self.assertRaisesRegex(
+                        Nothing,
+                        re.escape(step) + ': nothing comes',
+                        run,
+                        script,
+                        '/bin/false',
+                        place,
+                    )
+                    self.assertEqual(
+                        run(script, PROGRAM, place, allow_empty=True).replies[0].word, 'ok'
+                    )
+            for step in (
+                'download f B1,2',
+                'download f Fhighway',
+                'download %ffffff%',
+                'download f%0%',
+                'download f x',
+                'download',
+            ):
                 script = Script()
                 script.step(step)
                 self.assertRaises(Stopped, run, script, PROGRAM, place)
@@ -290,7 +396,9 @@ class Sessions(unittest.TestCase):
         script.download('town.opl', wanted={'name': '*', 'highway': 'residential'})
         script.count()
         counts = self.run_script(script).counts()
-        self.assertEqual([counts[kind] for kind in ('nodes', 'ways', 'relations', 'incomplete')], [3, 1, 1, 1])
+        self.assertEqual(
+            [counts[kind] for kind in ('nodes', 'ways', 'relations', 'incomplete')], [3, 1, 1, 1]
+        )
 
     def test_limits(self):
         script = self.script()
@@ -316,13 +424,19 @@ class Sessions(unittest.TestCase):
             self.assertIsNone(script.node(13.6, 2, {}))
             script.print()
             answer = self.run_script(script)
-        self.assertEqual([reply.rest for reply in answer.replies], ['', 'n-1', 'n-2,w-3,r-4', 'n-5', ''])
+        self.assertEqual(
+            [reply.rest for reply in answer.replies], ['', 'n-1', 'n-2,w-3,r-4', 'n-5', '']
+        )
         names = drawing.named(answer.replies[2])
         things = {thing.key: thing for thing in answer.objects()}
         self.assertEqual(things[names[bench]].tags, {'amenity': 'bench', 'note': 'a, b = c'})
         self.assertEqual(things[names[path]].nodes, ['n2', names[bench]])
         self.assertEqual(things['r-4'].members, [(names[path], 'a role'), ('w5', '')])
-        for reply in (answer.replies[1], answer.replies[2]._replace(word='refused', rest='7 n-2'), answer.replies[2]._replace(word='skipped', rest='')):
+        for reply in (
+            answer.replies[1],
+            answer.replies[2]._replace(word='refused', rest='7 n-2'),
+            answer.replies[2]._replace(word='skipped', rest=''),
+        ):
             self.assertRaisesRegex(ValueError, 'no import of these 3 objects', drawing.named, reply)
 
     def test_a_feature_of_a_drawing_is_whole_or_not_there(self):
@@ -346,7 +460,10 @@ class Sessions(unittest.TestCase):
         self.assertNotEqual(drawing.node(13, 52, {'barrier': 'gate'}, shared=True), first)
         houses = Drawing()
         for x in range(3):
-            ring = [houses.node(13 + (x + a) / 1000, 52 + b / 1000, {}, shared=True) for a, b in [(0, 0), (1, 0), (1, 1), (0, 1)]]
+            ring = [
+                houses.node(13 + (x + a) / 1000, 52 + b / 1000, {}, shared=True)
+                for a, b in [(0, 0), (1, 0), (1, 1), (0, 1)]
+            ]
             houses.way(ring + ring[:1], {'building': 'house'})
         self.assertEqual(sum(key[0] == 'n' for key in houses.keys), 8)
         with tempfile.TemporaryDirectory() as place:
@@ -358,15 +475,40 @@ class Sessions(unittest.TestCase):
 
     def test_a_drawing_tests_what_it_is_given(self):
         drawing = Drawing(within=(9, 47, 10, 48))
-        self.assertRaisesRegex(ValueError, 'longitude 47.2 and latitude 9.5, outside 9,47,10,48: are the two exchanged', drawing.node, 47.2, 9.5, {})
+        self.assertRaisesRegex(
+            ValueError,
+            'longitude 47.2 and latitude 9.5, outside 9,47,10,48: are the two exchanged',
+            drawing.node,
+            47.2,
+            9.5,
+            {},
+        )
         for place in ((181, 0), (0, 91), (float('nan'), 0)):
             self.assertRaisesRegex(ValueError, 'outside', Drawing().node, *place, {})
         self.assertRaisesRegex(ValueError, "'9.5' is no number", drawing.node, '9.5', 47.2, {})
-        for value, words in [('a\x01', r'U\+0001'), ('a\0', r'U\+0000'), (' Neubrandenburg', 'blanks round'), ('a\u00a0', 'blanks round'),
-                             ('x' * 256, '256 characters'), ([], 'no value'), (float('nan'), 'no value')]:
-            self.assertRaisesRegex(ValueError, "tag 'addr:city': .*" + words, drawing.node, 9.5, 47.2, {'addr:city': value})
-            self.assertRaisesRegex(ValueError, "tag 'addr:city': .*" + words, drawing.way, ['n1'], {'addr:city': value})
-        self.assertRaisesRegex(ValueError, 'role of n1: blanks', drawing.relation, [('n1', ' stop')], {})
+        for value, words in [
+            ('a\x01', r'U\+0001'),
+            ('a\0', r'U\+0000'),
+            (' Neubrandenburg', 'blanks round'),
+            ('a\u00a0', 'blanks round'),
+            ('x' * 256, '256 characters'),
+            ([], 'no value'),
+            (float('nan'), 'no value'),
+        ]:
+            self.assertRaisesRegex(
+                ValueError,
+                "tag 'addr:city': .*" + words,
+                drawing.node,
+                9.5,
+                47.2,
+                {'addr:city': value},
+            )
+            self.assertRaisesRegex(
+                ValueError, "tag 'addr:city': .*" + words, drawing.way, ['n1'], {'addr:city': value}
+            )
+        self.assertRaisesRegex(
+            ValueError, 'role of n1: blanks', drawing.relation, [('n1', ' stop')], {}
+        )
         self.assertRaisesRegex(ValueError, 'put it into a Drawing', drawing.way, ['n1', None], {})
         self.assertEqual(drawing.keys, [])
         drawing.node(9.5, 47.2, {'levels': 2, 'height': 2.5, 'name': None, 'ref': '', 'lit': True})
@@ -408,7 +550,9 @@ class Uploads(unittest.TestCase):
         kept = tempfile.NamedTemporaryFile('w', encoding='utf-8', newline='\n')
         self.addCleanup(kept.close)
         for reply in run(script, PROGRAM, allow_refused=True).replies:
-            kept.write(' '.join([str(reply.line), reply.word] + [reply.rest] * bool(reply.rest)) + '\n')
+            kept.write(
+                ' '.join([str(reply.line), reply.word] + [reply.rest] * bool(reply.rest)) + '\n'
+            )
             kept.writelines(line + '\n' for line in reply.text)
         kept.flush()
         return kept.name
@@ -417,7 +561,10 @@ class Uploads(unittest.TestCase):
         first, second = run(self.tuesday(), PROGRAM).conflicts()
         self.assertEqual((first.key, first.why), ('n3', 'withdrawn'))
         self.assertEqual((first.base, first.mine), (first.theirs, first.theirs))
-        self.assertEqual((second.key, second.why, second.base.version, second.theirs.version), ('n8', 'changed', 2, 3))
+        self.assertEqual(
+            (second.key, second.why, second.base.version, second.theirs.version),
+            ('n8', 'changed', 2, 3),
+        )
         self.assertEqual([side.tags.get('backrest') for side in second[2:]], [None, 'yes', 'no'])
 
     def test_nothing_of_an_earlier_look_is_told(self):
@@ -430,7 +577,9 @@ class Uploads(unittest.TestCase):
         script.upload(10)
         script.rehearse()
         answer = run(script, PROGRAM, allow_refused=True)
-        self.assertEqual([reply.rest for reply in answer.replies if reply.word == 'refused'], ['23 2 n3'])
+        self.assertEqual(
+            [reply.rest for reply in answer.replies if reply.word == 'refused'], ['23 2 n3']
+        )
         self.assertEqual(answer.conflicts(), [])
         self.assertEqual(len(answer.chunks()), 1)
         self.assertEqual(len(answer.objects()), 5)
@@ -446,10 +595,17 @@ class Uploads(unittest.TestCase):
         script.upload(3)
         script.rehearse()
         chunks = run(script, PROGRAM).chunks()
-        self.assertEqual([[(verb, thing.key, thing.version) for verb, thing in chunk] for chunk in chunks],
-                         [[('create', 'n-1', 0), ('create', 'w-2', 0), ('modify', 'n8', 3)], [('delete', 'w5', 4)]])
+        self.assertEqual(
+            [[(verb, thing.key, thing.version) for verb, thing in chunk] for chunk in chunks],
+            [
+                [('create', 'n-1', 0), ('create', 'w-2', 0), ('modify', 'n8', 3)],
+                [('delete', 'w5', 4)],
+            ],
+        )
         self.assertEqual(chunks[0][1][1].nodes, ['n3', 'n-1'])
-        self.assertEqual(chunks[0][2][1].tags, {'amenity': 'bench', 'backrest': 'no', 'name': 'a & "b"\n'})
+        self.assertEqual(
+            chunks[0][2][1].tags, {'amenity': 'bench', 'backrest': 'no', 'name': 'a & "b"\n'}
+        )
         self.assertTrue(chunks[1][0][1].deleted)
 
     def test_reads_the_objects_of_a_kept_output(self):
@@ -457,21 +613,33 @@ class Uploads(unittest.TestCase):
         script.print()
         script.rehearse()
         script.upload(10)
-        self.assertEqual(list(read_objects(self.kept(script)).values()), run(script, PROGRAM).objects())
+        self.assertEqual(
+            list(read_objects(self.kept(script)).values()), run(script, PROGRAM).objects()
+        )
 
 
 class Objects(unittest.TestCase):
     def test_fields_in_any_order(self):
-        thing = parse_object('n1 v3 dV c7 t2024-02-29T12:00:00Z i5 uA%20%B Tname=x%20%y y-0.0000001 x13.5000000')
-        self.assertEqual((thing.version, thing.changeset, thing.uid, thing.user, thing.tags, thing.lon), (3, 7, 5, 'A B', {'name': 'x y'}, Decimal('13.5')))
+        thing = parse_object(
+            'n1 v3 dV c7 t2024-02-29T12:00:00Z i5 uA%20%B Tname=x%20%y y-0.0000001 x13.5000000'
+        )
+        self.assertEqual(
+            (thing.version, thing.changeset, thing.uid, thing.user, thing.tags, thing.lon),
+            (3, 7, 5, 'A B', {'name': 'x y'}, Decimal('13.5')),
+        )
 
     def test_deleted(self):
         self.assertTrue(parse_object('w5 v1 dD c0 t i0 u T N').deleted)
 
     def test_text_behind_replies(self):
-        answer = Answer('1 ok\nn1 v1 dV c0 t i0 u T x1 y1\n2 refused 5 n1 w5\n3 skipped\n', 'print\ndelete n1\nend\n')
-        self.assertEqual([(reply.line, reply.word, reply.rest, len(reply.text)) for reply in answer.replies],
-                         [(1, 'ok', '', 1), (2, 'refused', '5 n1 w5', 0), (3, 'skipped', '', 0)])
+        answer = Answer(
+            '1 ok\nn1 v1 dV c0 t i0 u T x1 y1\n2 refused 5 n1 w5\n3 skipped\n',
+            'print\ndelete n1\nend\n',
+        )
+        self.assertEqual(
+            [(reply.line, reply.word, reply.rest, len(reply.text)) for reply in answer.replies],
+            [(1, 'ok', '', 1), (2, 'refused', '5 n1 w5', 0), (3, 'skipped', '', 0)],
+        )
 
 
 if __name__ == '__main__':

@@ -1,9 +1,10 @@
 #!/usr/bin/env python3
 """whole.py -o FILE: puts standard input into a file, whole or not at all.
 
-A shell empties the file that stands after its `>` before the command begins. So a command that fails leaves an empty file, one
-that is stopped leaves a part, and one that reads the same file finds nothing in it. Here FILE stays as it was until all of the
-new text is on the disk. Where nothing comes it says so, ends with 1 and leaves FILE alone.
+A shell empties the file that stands after its `>` before the command begins. So a command that
+fails leaves an empty file, one that is stopped leaves a part, and one that reads the same file
+finds nothing in it. Here FILE stays as it was until all of the new text is on the disk. Where
+nothing comes it says so, ends with 1 and leaves FILE alone.
 
 The programs beside this one write their files by the functions below.
 """
@@ -13,8 +14,10 @@ import sys
 
 
 def write_whole(path, text):
-    """Writes a text to a file, whole or not at all: what stood there before stands there until all of the new text is on the disk,
-    and when this returns the file's name is on the disk too. ValueError where something else than a file has the name."""
+    """Writes a text to a file, whole or not at all: what stood there before stands there until all
+    of the new text is on the disk, and when this returns the file's name is on the disk too.
+    ValueError where something else than a file has the name.
+    """
     write_bytes_whole(path, text.encode('utf-8'))
 
 
@@ -22,8 +25,8 @@ def write_bytes_whole(path, data):
     """The same with bytes."""
     path = pathlib.Path(os.path.realpath(path))
     if path.exists() and not path.is_file():
-        raise ValueError('{} is no file'.format(path))
-    new = path.with_name('{}.{}.new'.format(path.name, os.getpid()))
+        raise ValueError(f'{path} is no file')
+    new = path.with_name(f'{path.name}.{os.getpid()}.new')
     with open(new, 'xb') as file:
         try:
             file.write(data)
@@ -37,7 +40,9 @@ def write_bytes_whole(path, data):
 
 
 def sync_folder(path):
-    """Puts the names in a folder on the disk: without it a power cut may take back that a file was made, renamed or removed."""
+    """Puts the names in a folder on the disk: without it a power cut may take back that a file was
+    made, renamed or removed.
+    """
     folder = os.open(path, os.O_RDONLY)
     try:
         os.fsync(folder)
@@ -46,10 +51,17 @@ def sync_folder(path):
 
 
 def not_among(path, files):
-    """ValueError where a file that is to be written is one of those that are read. Without a path nothing is written."""
+    """ValueError where a file that is to be written is one of those that are read. Without a path
+    nothing is written.
+    """
     for file in files if path is not None else ():
-        if os.path.realpath(path) == os.path.realpath(file) or os.path.exists(path) and os.path.exists(file) and os.path.samefile(path, file):
-            raise ValueError('{} is read, so it is not written: name another file'.format(path))
+        if (
+            os.path.realpath(path) == os.path.realpath(file)
+            or os.path.exists(path)
+            and os.path.exists(file)
+            and os.path.samefile(path, file)
+        ):
+            raise ValueError(f'{path} is read, so it is not written: name another file')
 
 
 def output_named(words):
@@ -57,7 +69,7 @@ def output_named(words):
     if '-o' not in words[:-1]:
         return words, None
     at = words.index('-o')
-    return words[:at] + words[at + 2:], words[at + 1]
+    return words[:at] + words[at + 2 :], words[at + 1]
 
 
 def put_out(lines, path=None):
@@ -76,11 +88,11 @@ def main(words):
         sys.exit('whole.py -o FILE')
     data = sys.stdin.buffer.read()
     if not data:
-        sys.exit('whole.py: nothing came, and {} is as it was'.format(path))
+        sys.exit(f'whole.py: nothing came, and {path} is as it was')
     try:
         write_bytes_whole(path, data)
     except (OSError, ValueError) as error:
-        sys.exit('whole.py: {}'.format(error))
+        sys.exit(f'whole.py: {error}')
 
 
 if __name__ == '__main__':

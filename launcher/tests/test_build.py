@@ -1,4 +1,6 @@
-"""What a build tells of the time that is left, what it asks of the machine, and when it calls a proof stopped."""
+"""What a build tells of the time that is left, what it asks of the machine, and when it calls a
+proof stopped.
+"""
 import time
 import unittest
 from unittest import mock

@@ -9,7 +9,7 @@ from launcher.messages import Stop
 
 LOGIC = 'dac8208d650f15bf'
 TRUSTED = 'native=nat,char,string logic-built=trusted libraries-built=trusted statements=trusted'
-LIBRARY = 'logic=proved functions=137 sum={} {}'.format(LOGIC, TRUSTED)
+LIBRARY = f'logic=proved functions=137 sum={LOGIC} {TRUSTED}'
 PROGRAM = 'logic=proved functions=7 axioms=8 target=x86_64-unknown-linux-gnu cpu=x86-64-v2 sum={} {}'.format(
     LOGIC, TRUSTED
 )
@@ -27,7 +27,7 @@ class Checkout(unittest.TestCase):
             '# comment\n\nlow: itoa\nmiddle: low\neditor: middle low # both\nother: low\n',
         )
         for name in ('low', 'middle', 'other'):
-            self.write('crates/{}/src/lib.rt'.format(name), '// {}\n'.format(name))
+            self.write(f'crates/{name}/src/lib.rt', f'// {name}\n')
         self.write('crates/editor/src/main.rt', '// a program\n')
         self.write('crates/low/specs/Lib.antt', 'one')
 

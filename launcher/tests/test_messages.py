@@ -33,7 +33,7 @@ class Texts(unittest.TestCase):
 
     def test_end_of_a_log(self):
         with tempfile.NamedTemporaryFile('w') as file:
-            file.write(''.join('{}\n'.format(at) for at in range(30)))
+            file.write(''.join(f'{at}\n' for at in range(30)))
             file.flush()
             self.assertEqual('    28\n    29\n', end_of(file.name, 2))
         self.assertIn('can\'t be read', end_of('/nowhere/log'))
@@ -116,7 +116,7 @@ class Looks(unittest.TestCase):
     def test_a_file_that_is_not_there_is_not_given(self):
         with tempfile.TemporaryDirectory() as folder:
             pathlib.Path(folder, 'a').write_text('')
-            self.assertEqual(['--data', 'a={}/a'.format(folder)], look.given(['a', 'b'], folder))
+            self.assertEqual(['--data', f'a={folder}/a'], look.given(['a', 'b'], folder))
 
     def test_how_a_try_ends(self):
         good = 'checked: ended\nrun=ended status={} runners=1 proved=no\n'
@@ -147,7 +147,7 @@ class Toolkits(unittest.TestCase):
 
     def rattle(self, text):
         path = self.kit / 'bin/rattle'
-        path.write_text('#!/bin/sh\necho "{}"\n'.format(text))
+        path.write_text(f'#!/bin/sh\necho "{text}"\n')
         path.chmod(0o755)
 
     def misfits(self, line='kit logic dac8208d650f15bf', folder=None):
@@ -215,9 +215,7 @@ class Releases(unittest.TestCase):
         program.chmod(0o755)
         found = programs.keys.of_file(str(program))
         for name in ('plain-sha256', 'plain-static-sha256'):
-            release = programs.read_release(
-                '{}: {}\nplain-commit: d\nplain-sources: b\n'.format(name, found)
-            )
+            release = programs.read_release(f'{name}: {found}\nplain-commit: d\nplain-sources: b\n')
             self.assertTrue(release.is_plain(found))
             path, said = programs.beside(str(self.home), release)
             self.assertEqual(str(program), path)

@@ -7,8 +7,9 @@ from launcher.crates import Crate, all_below
 from launcher.schedule import CLOSE, FAVOURED, MOST_JOBS, RATES, Running, Schedule, Start
 
 TOP = os.path.dirname(os.path.dirname(os.path.dirname(os.path.abspath(__file__))))
-# Seconds of one job that the proofs took on processors of 2.5 GHz with other proofs beside them. Those of editor_laws, job_laws,
-# edit_session and editor are reckoned. A crate that isn't here has the seconds that the schedule reckons.
+# Seconds of one job that the proofs took on processors of 2.5 GHz with other proofs beside them.
+# Those of editor_laws, job_laws, edit_session and editor are reckoned. A crate that isn't here has
+# the seconds that the schedule reckons.
 KNOWN = {
     'osm_base': 207,
     'osm_outside': 60,
@@ -63,15 +64,19 @@ def crates(**lines_and_below):
 
 
 def tower(height, lines=1000):
-    """Crates that stand on one another, and as many beside them that nothing stands on but the lowest."""
+    """Crates that stand on one another, and as many beside them that nothing stands on but the
+    lowest.
+    """
     found = {'t0': (lines,)}
-    found.update({'t{}'.format(i): (lines, 't{}'.format(i - 1)) for i in range(1, height)})
-    found.update({'s{}'.format(i): (lines // 2, 't0') for i in range(height)})
+    found.update({f't{i}': (lines, f't{i - 1}') for i in range(1, height)})
+    found.update({f's{i}': (lines // 2, 't0') for i in range(height)})
     return crates(**found)
 
 
 def played(schedule):
-    """The proofs in the order in which they begin, by playing the schedule through; each with what was proved then."""
+    """The proofs in the order in which they begin, by playing the schedule through; each with what
+    was proved then.
+    """
     waiting, proved, running, found = list(schedule.crates), set(), [], []
     while waiting or running:
         start = schedule.next(waiting, proved, running)
@@ -87,7 +92,9 @@ def played(schedule):
 
 
 def timed(schedule, seconds):
-    """When each proof begins and ends, by playing the schedule through where a proof takes other seconds than are reckoned."""
+    """When each proof begins and ends, by playing the schedule through where a proof takes other
+    seconds than are reckoned.
+    """
     waiting, proved, running, clock = list(schedule.crates), set(), [], 0.0
     begun, ended = {}, {}
     while waiting or running:
@@ -117,7 +124,9 @@ def timed(schedule, seconds):
 
 
 def left_of(schedule, start, seconds):
-    """What the launcher takes to be left of a proof that has run so long, as `Build.left_of_running` reckons it."""
+    """What the launcher takes to be left of a proof that has run so long, as
+    `Build.left_of_running` reckons it.
+    """
     done = RATES[start.jobs] * seconds
     return max(10.0, build.MORE * done, schedule.seconds[start.name] - done)
 
@@ -189,18 +198,14 @@ class Jobs(unittest.TestCase):
         self.assertIsNone(schedule.next(waiting, set(), running))
 
     def test_jobs_that_run_count_as_processors(self):
-        schedule = Schedule(
-            crates(**{'c{}'.format(at): (1000 + at,) for at in range(40)}), 4, PLENTY
-        )
+        schedule = Schedule(crates(**{f'c{at}': (1000 + at,) for at in range(40)}), 4, PLENTY)
         waiting, running = list(schedule.crates)[2:], [
             Running(Start(it, 2, 0, 1e9, 500.0), 90.0) for it in ('c0', 'c1')
         ]
         self.assertIsNone(schedule.next(waiting, set(), running))
 
     def test_nobody_is_favoured_where_work_is_plenty(self):
-        schedule = Schedule(
-            crates(**{'c{}'.format(at): (1000 + at,) for at in range(40)}), 4, PLENTY
-        )
+        schedule = Schedule(crates(**{f'c{at}': (1000 + at,) for at in range(40)}), 4, PLENTY)
         self.assertEqual(1, schedule.next(list(schedule.crates), set(), []).jobs)
 
     def test_one_processor_one_job(self):

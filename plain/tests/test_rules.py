@@ -9,7 +9,8 @@ from plain.tokens import Refused
 SCOPE = Scope(frozenset({'osm_base', 'anyhow', 'indexmap', 'thiserror'}), frozenset({'put', 'act'}))
 HEAD = 'use rattle_std::prelude::*;\n\n'
 
-# A rule, what is written in Rattle, and what stands in its place in Rust. Both are a whole file without the prelude.
+# A rule, what is written in Rattle, and what stands in its place in Rust. Both are a whole file
+# without the prelude.
 CASES = (
     ('ghost-use', 'ghost use Rattle.std.specs.Prelude.{◌≡◌, ℕ};\nfn f() {}\n', 'fn f() {}\n'),
     (

@@ -1,4 +1,5 @@
-"""The exported workspace: all crates of the repository, what is written again, and what is refused."""
+"""The exported workspace: all crates of the repository, what is written again, and what is refused.
+"""
 import json
 import pathlib
 import re

@@ -1,10 +1,12 @@
-"""calls PROGRAM [OTHER]: calls the program in every way that ends with another status, and compares what comes.
+"""calls PROGRAM [OTHER]: calls the program in every way that ends with another status, and compares
+what comes.
 
-For each call the status and the line on the error stream are known from docs/REFUSALS.md. OTHER is another build of the same
-sources, as the proved one: it has to answer with the same output, the same error stream and the same status, byte for byte. Where
-the launcher keeps a proved program of these sources, that is taken. Two things differ between a proved and a plain build and
-aren't tried here: where memory runs out a plain build may be stopped by the system, and speed. Status 6, a missing tool, is one
-that no call of the built program can have; the session cases have it.
+For each call the status and the line on the error stream are known from docs/REFUSALS.md. OTHER is
+another build of the same sources, as the proved one: it has to answer with the same output, the
+same error stream and the same status, byte for byte. Where the launcher keeps a proved program of
+these sources, that is taken. Two things differ between a proved and a plain build and aren't tried
+here: where memory runs out a plain build may be stopped by the system, and speed. Status 6, a
+missing tool, is one that no call of the built program can have; the session cases have it.
 """
 from __future__ import annotations
 
@@ -76,7 +78,8 @@ CALLS: tuple[tuple[tuple[str, ...], int], ...] = (
     (('bad.script',), 4),
     (('long.script',), 5),
 )
-# Bytes that a process may take, so that a session finds no memory; a plain build may end by SIGABRT in place of status 9.
+# Bytes that a process may take, so that a session finds no memory; a plain build may end by SIGABRT
+# in place of status 9.
 LITTLE_MEMORY = 24_000_000
 
 

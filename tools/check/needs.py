@@ -1,7 +1,9 @@
 """What a step can need, and whether it is there.
 
-A need is a text: `command NAME`, `module NAME` (of Python), `file PATH` (in the repository), `section NAME` (of pyproject.toml),
-or `program` (the plain build, which the step of that name makes)."""
+A need is a text: `command NAME`, `module NAME` (of Python), `file PATH` (in the repository),
+`section NAME` (of pyproject.toml), or `program` (the plain build, which the step of that name
+makes).
+"""
 from __future__ import annotations
 
 import os
@@ -37,7 +39,9 @@ def modules_of(python: str) -> frozenset[str]:
 
 @lru_cache(maxsize=None)
 def python() -> str:
-    """The interpreter that runs the tests: this one, or the system's where that has more of what they need."""
+    """The interpreter that runs the tests: this one, or the system's where that has more of what
+    they need.
+    """
     return max((sys.executable, OTHER), key=lambda it: len(modules_of(it)))
 
 

@@ -1,8 +1,10 @@
-"""plain build | cases | debug | real PROGRAM: makes the plain build in the launcher's folder, and runs the session cases in it.
+"""plain build | cases | debug | real PROGRAM: makes the plain build in the launcher's folder, and
+runs the session cases in it.
 
-`build` prints the path of the program as its last line. `cases` runs every session case in the release build, `debug` in a debug
-build, with overflow checks, together with the unit tests of the crates. `build` comes first. `real` builds the program with the real
-libraries that Debian has installed as sources, and compares it with PROGRAM, which has stand-ins: session cases and calls.
+`build` prints the path of the program as its last line. `cases` runs every session case in the
+release build, `debug` in a debug build, with overflow checks, together with the unit tests of the
+crates. `build` comes first. `real` builds the program with the real libraries that Debian has
+installed as sources, and compares it with PROGRAM, which has stand-ins: session cases and calls.
 """
 from __future__ import annotations
 
@@ -47,7 +49,9 @@ def cargo(*words: str) -> int:
 
 
 def cases() -> int:
-    """Runs every session case in the release build, and holds its lines to those that the proved program prints."""
+    """Runs every session case in the release build, and holds its lines to those that the proved
+    program prints.
+    """
     status = cargo('build', '--release', '--quiet', '--package', 'session_cases')
     if status:
         return status
@@ -55,7 +59,9 @@ def cases() -> int:
 
 
 def held(program: str) -> int:
-    """Holds what a runner of the session cases prints to the lines that the proved one prints: the status."""
+    """Holds what a runner of the session cases prints to the lines that the proved one prints: the
+    status.
+    """
     done = subprocess.run(
         [program], cwd=CASES / 'data', stdin=subprocess.DEVNULL, capture_output=True, text=True
     )
@@ -75,7 +81,9 @@ def debug() -> int:
 
 
 def real() -> int:
-    """Builds the program with the real libraries that are there, and compares it with one that has stand-ins."""
+    """Builds the program with the real libraries that are there, and compares it with one that has
+    stand-ins.
+    """
     choice = workspace.choice_of(f'vendor={REGISTRY}')
     if not choice.real:
         print(f'{REGISTRY} has none of {", ".join(workspace.VERSIONS)}')

@@ -1,6 +1,8 @@
-"""sessions PROGRAM SESSIONS MEETINGS: random sessions over a made-up town, by the program and by the second editor (bench/model).
+"""sessions PROGRAM SESSIONS MEETINGS: random sessions over a made-up town, by the program and by
+the second editor (bench/model).
 
-Both have to write the same text. Each session has 1,000 steps; bench/check/compare makes and compares them.
+Both have to write the same text. Each session has 1,000 steps; bench/check/compare makes and
+compares them.
 """
 from __future__ import annotations
 

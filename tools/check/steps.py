@@ -16,7 +16,8 @@ PROGRAM, PYTHON = '{program}', '{python}'
 BUILD, PROOF = 'plain build', 'rt ci'
 # When a step runs: always, or not by --quick.
 QUICK, FULL = 'quick', 'full'
-# Where a file of tests can't do without a module of Python: an import at its top, or a word that leaves out all of it.
+# Where a file of tests can't do without a module of Python: an import at its top, or a word that
+# leaves out all of it.
 ALL_OF_IT = r'^(?:import|from) {0}\b|^    raise unittest\.SkipTest\(\W*{0}\b'
 # Folders in which no test is looked for.
 PASSED_OVER = ('.*', 'out', '__pycache__', 'node_modules', 'must-fail', 'target')
@@ -24,8 +25,10 @@ PASSED_OVER = ('.*', 'out', '__pycache__', 'node_modules', 'must-fail', 'target'
 
 @dataclass(frozen=True)
 class Step:
-    """A check: what it is called, its command, what it needs, when it runs, the seconds after which it has failed, variables of
-    its environment ('' takes one away), and the folder in which it runs."""
+    """A check: what it is called, its command, what it needs, when it runs, the seconds after which
+    it has failed, variables of its environment ('' takes one away), and the folder in which it
+    runs.
+    """
 
     name: str
     command: tuple[str, ...]
@@ -143,7 +146,9 @@ def test_files(top: pathlib.Path = TOP) -> list[str]:
 
 
 def test_step(path: str) -> Step:
-    """The step of a file of tests: by pytest where it is there, else by unittest. It counts as one check either way."""
+    """The step of a file of tests: by pytest where it is there, else by unittest. It counts as one
+    check either way.
+    """
     if path.startswith(
         'examples' + os.sep
     ):  # these are programs that are given the program, and run in examples/

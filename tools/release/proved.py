@@ -84,7 +84,7 @@ def make(
         first, second = given
         line = toolkit.answer(['rt', 'version']) or 'unknown'
     else:
-        (first, line), (second, _) = [built_in(holder / it) for it in ('one', 'two')]
+        (first, line), (second, _) = (built_in(holder / it) for it in ('one', 'two'))
     for program in (first, second):
         hold_to_sources(program)
     hold_to_agreement(first, second)

@@ -12,8 +12,8 @@ from yoke.conflate.rules import Rules
 from yoke.conflate.shapes import Grid, Thing, apart, metres, overlap
 from yoke.formats.drawing import NEAR
 
-FAR = 10            # times `within` for an id
-SOME = 0.1          # share of an outline below which another outline has nothing to do with it
+FAR = 10  # times `within` for an id
+SOME = 0.1  # share of an outline below which another outline has nothing to do with it
 
 
 @dataclass(frozen=True)
@@ -42,13 +42,18 @@ class Found:
         return self.candidates[0].thing
 
 
-def match(rules: Rules, features: Sequence[Thing], things: Sequence[Thing],
-          known: Optional[Mapping[str, str]] = None) -> List[Found]:
+def match(
+    rules: Rules,
+    features: Sequence[Thing],
+    things: Sequence[Thing],
+    known: Optional[Mapping[str, str]] = None,
+) -> List[Found]:
     """A Found for each feature. `known` are keys of objects by the names of features."""
     lat = max((abs(y) for feature in features for _, y in feature.path), default=0.0)
     grid = Grid(things, rules.within, lat)
-    names = Names(one.tags[key] for one in [*things, *features] for key in rules.like
-                  if key in one.tags)
+    names = Names(
+        one.tags[key] for one in [*things, *features] for key in rules.like if key in one.tags
+    )
     by_id = ids_of(rules, things)
     by_key = {thing.name: thing for thing in things}
     found: List[Found] = []
@@ -57,7 +62,9 @@ def match(rules: Rules, features: Sequence[Thing], things: Sequence[Thing],
         one = Found(feature)
         object_ = by_key.get((known or {}).get(feature.name, ''))
         if object_ is not None:
-            one.candidates = [Candidate(2.0, metres(feature.middle, object_), object_, 'the list of ids')]
+            one.candidates = [
+                Candidate(2.0, metres(feature.middle, object_), object_, 'the list of ids')
+            ]
         else:
             one.candidates = candidates(rules, feature, grid, by_id, names)
         if one.candidates and one.candidates[0].score >= rules.least:
@@ -79,8 +86,13 @@ def ids_of(rules: Rules, things: Sequence[Thing]) -> Dict[Tuple[str, str], List[
     return found
 
 
-def candidates(rules: Rules, feature: Thing, grid: Grid,
-               by_id: Mapping[Tuple[str, str], List[Thing]], names: Names) -> List[Candidate]:
+def candidates(
+    rules: Rules,
+    feature: Thing,
+    grid: Grid,
+    by_id: Mapping[Tuple[str, str], List[Thing]],
+    names: Names,
+) -> List[Candidate]:
     """What a feature may be, the best one first."""
     near = {thing.name: thing for thing in grid.near(feature.middle)}
     if len(feature.path) > 1:
@@ -88,8 +100,9 @@ def candidates(rules: Rules, feature: Thing, grid: Grid,
             near.update((thing.name, thing) for thing in grid.near(place))
     for key in rules.id:
         if key in feature.tags:
-            near.update((thing.name, thing)
-                        for thing in by_id.get((key, plain(feature.tags[key])), ()))
+            near.update(
+                (thing.name, thing) for thing in by_id.get((key, plain(feature.tags[key])), ())
+            )
     found = []
     for thing in near.values():
         far = metres(feature.middle, thing)
@@ -101,8 +114,9 @@ def candidates(rules: Rules, feature: Thing, grid: Grid,
     return sorted(found, key=lambda one: (-one.score, one.metres, one.thing.name))
 
 
-def score(rules: Rules, feature: Thing, thing: Thing, far: float, names: Names
-          ) -> Optional[Tuple[float, str]]:
+def score(
+    rules: Rules, feature: Thing, thing: Thing, far: float, names: Names
+) -> Optional[Tuple[float, str]]:
     """How much a feature and an object are the same, and why; None where they can't be."""
     tags, other = feature.tags, thing.tags
     for key in rules.id:
@@ -127,8 +141,9 @@ def score(rules: Rules, feature: Thing, thing: Thing, far: float, names: Names
     return judged_by(rules, feature, thing, far, names, reasons, place, shared)
 
 
-def equal_keys(rules: Rules, tags: Mapping[str, str], other: Mapping[str, str]
-               ) -> Optional[List[str]]:
+def equal_keys(
+    rules: Rules, tags: Mapping[str, str], other: Mapping[str, str]
+) -> Optional[List[str]]:
     """The keys by which two are alike; None where one that has to be equal isn't."""
     reasons = []
     for key in [*rules.same, *rules.equal]:
@@ -140,9 +155,16 @@ def equal_keys(rules: Rules, tags: Mapping[str, str], other: Mapping[str, str]
     return reasons
 
 
-def judged_by(rules: Rules, feature: Thing, thing: Thing, far: float, names: Names,
-              reasons: List[str], place: float, shared: Optional[float]
-              ) -> Optional[Tuple[float, str]]:
+def judged_by(
+    rules: Rules,
+    feature: Thing,
+    thing: Thing,
+    far: float,
+    names: Names,
+    reasons: List[str],
+    place: float,
+    shared: Optional[float],
+) -> Optional[Tuple[float, str]]:
     """The score of a feature and an object that may be the same."""
     tags, other = feature.tags, thing.tags
     likes = likenesses(rules, tags, other, names)
@@ -164,23 +186,32 @@ def judged_by(rules: Rules, feature: Thing, thing: Thing, far: float, names: Nam
     if likes and alike < rules.unlike and not has_all:
         # another shop of the kind moved in, or both are there: that is for a person
         is_near = far <= rules.within / 2
-        return (max(rules.doubt, min(total, below)), ' '.join(reasons) + ', unlike names') \
-            if is_near else None
+        return (
+            (max(rules.doubt, min(total, below)), ' '.join(reasons) + ', unlike names')
+            if is_near
+            else None
+        )
     if not likes and not has_all and shared is None and far > rules.within / 4:
-        total = min(total, below)       # a kind and a place alone count only near by
+        total = min(total, below)  # a kind and a place alone count only near by
     if shared is not None and shared < rules.overlap:
         total = min(total, below)
-        total = max(total, rules.doubt) if feature.is_area else total       # two outlines at one place
+        total = max(total, rules.doubt) if feature.is_area else total  # two outlines at one place
     elif shared is not None and feature.is_area and not likes:
-        total = max(total, rules.least)     # outlines without names agree by as much as the rule wants
+        total = max(total, rules.least)  # outlines without names agree by as much as the rule wants
     return total, ' '.join(reasons)
 
 
-def likenesses(rules: Rules, tags: Mapping[str, str], other: Mapping[str, str], names: Names
-               ) -> List[float]:
+def likenesses(
+    rules: Rules, tags: Mapping[str, str], other: Mapping[str, str], names: Names
+) -> List[float]:
     """How alike the names of two are; empty where one has none."""
-    return [names.alike(tags[one], other[another]) for one in rules.like if one in tags
-            for another in rules.like if another in other and (one == another or one not in other)]
+    return [
+        names.alike(tags[one], other[another])
+        for one in rules.like
+        if one in tags
+        for another in rules.like
+        if another in other and (one == another or one not in other)
+    ]
 
 
 def find_doubles(rules: Rules, found: Sequence[Found], names: Names, lat: float) -> None:
@@ -189,12 +220,17 @@ def find_doubles(rules: Rules, found: Sequence[Found], names: Names, lat: float)
     grid, by_id = Grid(features, rules.within, lat), ids_of(rules, features)
     for one in found:
         if one.kind == 'new':
-            near = [other for other in candidates(rules, one.feature, grid, by_id, names)
-                    if is_double(rules, one.feature, other, names)]
+            near = [
+                other
+                for other in candidates(rules, one.feature, grid, by_id, names)
+                if is_double(rules, one.feature, other, names)
+            ]
             named = {other.thing.name for other in near} | {one.feature.name}
-            near += [Candidate(1.0, metres(one.feature.middle, other), other, 'the same tags')
-                     for other in grid.near(one.feature.middle)
-                     if other.name not in named and has_same_tags(one.feature, other)]
+            near += [
+                Candidate(1.0, metres(one.feature.middle, other), other, 'the same tags')
+                for other in grid.near(one.feature.middle)
+                if other.name not in named and has_same_tags(one.feature, other)
+            ]
             if near:
                 one.kind, one.candidates = 'ambiguous', near
                 one.why = f'{near[0].thing.name} of the file is as like'
@@ -212,8 +248,11 @@ def is_double(rules: Rules, feature: Thing, other: Candidate, names: Names) -> b
     if is_line(feature) or is_line(other.thing):
         return False
     likes = likenesses(rules, tags, theirs, names)
-    return max(likes, default=0.0) >= rules.unlike if likes else \
-        feature.is_area and other.thing.is_area and tags == theirs
+    return (
+        max(likes, default=0.0) >= rules.unlike
+        if likes
+        else feature.is_area and other.thing.is_area and tags == theirs
+    )
 
 
 def is_line(thing: Thing) -> bool:
@@ -235,8 +274,9 @@ def decide(rules: Rules, one: Found, wanted: Mapping[str, List[Found]]) -> None:
     if not one.candidates:
         return
     best = one.candidates[0].score
-    rivals = [other.candidates[0].score for other in wanted.get(one.best.name, ())
-              if other is not one]
+    rivals = [
+        other.candidates[0].score for other in wanted.get(one.best.name, ()) if other is not one
+    ]
     one.kind = 'ambiguous'
     if best < rules.least:
         one.why = 'not alike enough'

@@ -8,7 +8,7 @@ from typing import Dict, FrozenSet, Iterable, List, Tuple
 
 PUNCTUATION = re.compile(r'[^\w]+')
 STREET = re.compile(r'(stra(ss|ß)e|str)\b\.?')
-LEAST_ALIKE = 0.4       # words less alike than this have nothing in common
+LEAST_ALIKE = 0.4  # words less alike than this have nothing in common
 
 
 @lru_cache(maxsize=200_000)
@@ -25,7 +25,7 @@ def plain(text: str) -> str:
 def pairs(word: str) -> FrozenSet[str]:
     """The pairs of neighbouring letters of a word."""
     word = f' {word} '
-    return frozenset(word[at:at + 2] for at in range(len(word) - 1))
+    return frozenset(word[at : at + 2] for at in range(len(word) - 1))
 
 
 @lru_cache(maxsize=500_000)
@@ -56,8 +56,11 @@ class Names:
             return 1.0
         if (one, other) not in self.known:
             first, second = one.split(), other.split()
-            self.known[one, other] = (self._half(first, second) + self._half(second, first)) / 2 \
-                if first and second else 0.0
+            self.known[one, other] = (
+                (self._half(first, second) + self._half(second, first)) / 2
+                if first and second
+                else 0.0
+            )
         return self.known[one, other]
 
     def _half(self, words: List[str], others: List[str]) -> float:

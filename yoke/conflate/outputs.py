@@ -19,10 +19,23 @@ from yoke.scripts import bound
 from yoke.table import Table
 
 ENDINGS = ('.script', '.opl', '.csv', '.geojson', '.questions')
-COLUMNS = ('feature', 'what', 'decision', 'why', 'candidate', 'score', 'metres', 'name', 'its name',
-           'lon', 'lat')
-SHOWN = 5               # candidates of one feature
-UNFINISHED = 'yoke conflate was stopped while it wrote these files: run it again'   # no line of a script
+COLUMNS = (
+    'feature',
+    'what',
+    'decision',
+    'why',
+    'candidate',
+    'score',
+    'metres',
+    'name',
+    'its name',
+    'lon',
+    'lat',
+)
+SHOWN = 5  # candidates of one feature
+UNFINISHED = (
+    'yoke conflate was stopped while it wrote these files: run it again'  # no line of a script
+)
 FORMULA = ('=', '+', '-', '@', '\t', '\r')
 
 
@@ -33,8 +46,13 @@ class Outcome:
     the map still has such a value, the feature's own is set; where it hasn't, somebody changed it.
     """
 
-    def __init__(self, rules: Rules, found: Sequence[Found], left: List[Tuple[str, str]],
-                 still: Mapping[str, Mapping[str, str]] = MappingProxyType({})):
+    def __init__(
+        self,
+        rules: Rules,
+        found: Sequence[Found],
+        left: List[Tuple[str, str]],
+        still: Mapping[str, Mapping[str, str]] = MappingProxyType({}),
+    ):
         self.rules, self.found, self.left, self.still = rules, found, left, still
         self.tags: Dict[str, Dict[str, str]] = {}
         self.differs: List[Tuple[Found, str]] = []
@@ -78,18 +96,22 @@ class Outcome:
     def counts(self) -> Dict[str, int]:
         """How many features are what."""
         kinds = Counter(one.kind for one in self.found)
-        return {**{kind: kinds[kind] for kind in ('same', 'update', 'new', 'ambiguous', 'skip')},
-                'left out': len(self.left)}
+        return {
+            **{kind: kinds[kind] for kind in ('same', 'update', 'new', 'ambiguous', 'skip')},
+            'left out': len(self.left),
+        }
 
     def report(self) -> Iterator[str]:
         """The same in words, and which tags."""
         yield '{} features: {}'.format(
             sum(self.counts().values()),
-            ', '.join(f'{count} {kind}' for kind, count in self.counts().items()))
-        for title, keys in (('tags to set', Counter(key for tags in self.tags.values()
-                                                    for key in tags)),
-                            ('values that differ and stay', Counter(key for _, key in self.differs)),
-                            ('values that somebody changed', Counter(key for _, key in self.changed))):
+            ', '.join(f'{count} {kind}' for kind, count in self.counts().items()),
+        )
+        for title, keys in (
+            ('tags to set', Counter(key for tags in self.tags.values() for key in tags)),
+            ('values that differ and stay', Counter(key for _, key in self.differs)),
+            ('values that somebody changed', Counter(key for _, key in self.changed)),
+        ):
             shown = ', '.join(f'{key} {count}' for key, count in keys.most_common(12))
             if keys or title != 'values that somebody changed':
                 yield f'{title}: {shown or "none"}'
@@ -120,8 +142,12 @@ def write(name: str, one: Outcome, head: List[str], gone: Sequence[Tuple[str, st
     else:
         pathlib.Path(path).unlink(missing_ok=True)
     day.write_whole(name + '.csv', table(one, gone))
-    day.write_whole(name + '.geojson', json.dumps(
-        {'type': 'FeatureCollection', 'features': list(shapes(one))}, ensure_ascii=False))
+    day.write_whole(
+        name + '.geojson',
+        json.dumps(
+            {'type': 'FeatureCollection', 'features': list(shapes(one))}, ensure_ascii=False
+        ),
+    )
     day.write_whole(name + '.questions', json.dumps(list(questions(one)), ensure_ascii=False))
     day.write_whole(name + '.script', ''.join(line + '\n' for line in [*head, *lines]))
 
@@ -133,18 +159,42 @@ def table(one: Outcome, gone: Sequence[Tuple[str, str, str]]) -> str:
     rows.writerow(COLUMNS)
 
     def row(*fields: Any) -> None:
-        rows.writerow([safe(str(field)) if at not in (9, 10) else field
-                       for at, field in enumerate([*fields, *[''] * (len(COLUMNS) - len(fields))])])
+        rows.writerow(
+            [
+                safe(str(field)) if at not in (9, 10) else field
+                for at, field in enumerate([*fields, *[''] * (len(COLUMNS) - len(fields))])
+            ]
+        )
+
     for each in one.found:
         lon, lat = each.feature.middle
         for found in each.candidates[:SHOWN] if each.kind == 'ambiguous' else ():
-            row(each.feature.name, 'ambiguous', '', each.why, found.thing.name, f'{found.score:.2f}',
-                f'{found.metres:.0f}', each.feature.tags.get('name', ''),
-                found.thing.tags.get('name', ''), f'{lon:.7f}', f'{lat:.7f}')
+            row(
+                each.feature.name,
+                'ambiguous',
+                '',
+                each.why,
+                found.thing.name,
+                f'{found.score:.2f}',
+                f'{found.metres:.0f}',
+                each.feature.tags.get('name', ''),
+                found.thing.tags.get('name', ''),
+                f'{lon:.7f}',
+                f'{lat:.7f}',
+            )
     for what, pairs in (('differs', one.differs), ('changed', one.changed)):
         for each, key in pairs:
-            row(each.feature.name, what, '', key, each.best.name, '', '', each.feature.tags[key],
-                each.best.tags.get(key, ''))
+            row(
+                each.feature.name,
+                what,
+                '',
+                key,
+                each.best.name,
+                '',
+                '',
+                each.feature.tags[key],
+                each.best.tags.get(key, ''),
+            )
     for key, why, value in gone:
         row('', 'gone', '', why, key, '', '', '', value)
     for where, why in one.left:
@@ -161,21 +211,35 @@ def shapes(one: Outcome) -> Iterator[Dict[str, Any]]:
     """Lines from ambiguous features to their candidates."""
     for each in one.found:
         for found in each.candidates[:SHOWN] if each.kind == 'ambiguous' else ():
-            yield {'type': 'Feature',
-                   'geometry': {'type': 'LineString',
-                                'coordinates': [list(each.feature.middle), list(found.thing.path[0])]},
-                   'properties': {'feature': each.feature.name, 'candidate': found.thing.name,
-                                  'score': round(found.score, 2), 'why': found.why}}
+            yield {
+                'type': 'Feature',
+                'geometry': {
+                    'type': 'LineString',
+                    'coordinates': [list(each.feature.middle), list(found.thing.path[0])],
+                },
+                'properties': {
+                    'feature': each.feature.name,
+                    'candidate': found.thing.name,
+                    'score': round(found.score, 2),
+                    'why': found.why,
+                },
+            }
 
 
 def questions(one: Outcome) -> Iterator[Dict[str, Any]]:
     """What `yoke review --questions` asks."""
     for each in one.found:
         if each.kind == 'ambiguous':
-            yield {'feature': each.feature.name, 'why': each.why,
-                   'tags': list(each.feature.tags.items()), 'place': each.feature.middle,
-                   'candidates': [[found.thing.name, round(found.score, 2), round(found.metres, 1)]
-                                  for found in each.candidates[:SHOWN]]}
+            yield {
+                'feature': each.feature.name,
+                'why': each.why,
+                'tags': list(each.feature.tags.items()),
+                'place': each.feature.middle,
+                'candidates': [
+                    [found.thing.name, round(found.score, 2), round(found.metres, 1)]
+                    for found in each.candidates[:SHOWN]
+                ],
+            }
 
 
 def gone_by_tags(rules: Rules, found: Sequence[Found], there: Table) -> List[Tuple[str, str, str]]:
@@ -191,6 +255,7 @@ def gone_by_tags(rules: Rules, found: Sequence[Found], there: Table) -> List[Tup
 
 
 # ---- ids of the source ----
+
 
 def read_ids(text: str) -> Dict[str, str]:
     """The objects of a list of ids; an object that wasn't sent yet has an empty key. ValueError if
@@ -217,8 +282,9 @@ def ids_text(before: Mapping[str, str], found: Sequence[Found], ids: Mapping[str
     return text.getvalue()
 
 
-def gone_by_ids(before: Mapping[str, str], ids: Mapping[str, str], name: str
-                ) -> List[Tuple[str, str, str]]:
+def gone_by_ids(
+    before: Mapping[str, str], ids: Mapping[str, str], name: str
+) -> List[Tuple[str, str, str]]:
     """Objects of the list whose id isn't in the file any more."""
     there = set(ids.values())
     return [(key, name, number) for number, key in before.items() if key and number not in there]

@@ -8,10 +8,10 @@ from collections import defaultdict
 from dataclasses import dataclass
 from typing import Any, Dict, List, Sequence, Tuple
 
-LAT_METRES, LON_METRES = 110_574.0, 111_320.0       # of a degree; of longitude at the equator
-MOST_CELLS = 400        # of one shape; a larger one is compared with each feature
-RASTER = 24             # points along a side of the raster
-SAMPLES = 40            # places of a line that are compared
+LAT_METRES, LON_METRES = 110_574.0, 111_320.0  # of a degree; of longitude at the equator
+MOST_CELLS = 400  # of one shape; a larger one is compared with each feature
+RASTER = 24  # points along a side of the raster
+SAMPLES = 40  # places of a line that are compared
 
 Point = Tuple[float, float]
 
@@ -77,7 +77,7 @@ def metres(place: Point, thing: Thing) -> float:
 def shapely() -> Any:
     """The module shapely.geometry; None if it isn't installed."""
     try:
-        import shapely.geometry as found        # pylint: disable=import-outside-toplevel
+        import shapely.geometry as found  # pylint: disable=import-outside-toplevel
     except ImportError:
         return None
     return found
@@ -104,9 +104,14 @@ def apart(one: Sequence[Point], other: Sequence[Point]) -> float:
     that is more than a quarter of one of them: such short lines may follow each other.
     """
     first, second = local(one, one[0]), local(other, one[0])
-    ends = 0.0 if one[0] == one[-1] and other[0] == other[-1] else min(
-        max(math.dist(first[0], begin), math.dist(first[-1], end))
-        for begin, end in ((second[0], second[-1]), (second[-1], second[0])))
+    ends = (
+        0.0
+        if one[0] == one[-1] and other[0] == other[-1]
+        else min(
+            max(math.dist(first[0], begin), math.dist(first[-1], end))
+            for begin, end in ((second[0], second[-1]), (second[-1], second[0]))
+        )
+    )
     found = max(ends, _farthest(first, second), _farthest(second, first))
     shorter = min(sum(map(math.dist, line, line[1:])) for line in (first, second))
     return found if found <= shorter / 4 else math.inf
@@ -115,7 +120,9 @@ def apart(one: Sequence[Point], other: Sequence[Point]) -> float:
 def _farthest(line: Sequence[Point], other: Sequence[Point]) -> float:
     """How far the corners of a line, and the middles between them, are from another line at most."""
     middles = [((ax + bx) / 2, (ay + by) / 2) for (ax, ay), (bx, by) in zip(line, line[1:])]
-    return max(from_origin([(x - px, y - py) for x, y in other], False) for px, py in [*line, *middles])
+    return max(
+        from_origin([(x - px, y - py) for x, y in other], False) for px, py in [*line, *middles]
+    )
 
 
 def of_outlines(first: Sequence[Point], second: Sequence[Point]) -> float:
@@ -145,8 +152,9 @@ def by_raster(first: Sequence[Point], second: Sequence[Point]) -> float:
 def share_near(line: Sequence[Point], other: Sequence[Point], within: float) -> float:
     """The share of a line that lies within so many metres of another one."""
     places = sampled(line)
-    near = sum(from_origin([(x - px, y - py) for x, y in other], False) <= within
-               for px, py in places)
+    near = sum(
+        from_origin([(x - px, y - py) for x, y in other], False) <= within for px, py in places
+    )
     return near / len(places)
 
 
@@ -177,7 +185,9 @@ class Grid:
         self.columns = max(1, math.floor(360 / wide))
         self.wide = 360 / self.columns
         self.cells: Dict[Tuple[int, int], List[Thing]] = defaultdict(list)
-        self.large: List[Tuple[Thing, int, int, int, int]] = []     # with west, east, south, north in cells
+        self.large: List[
+            Tuple[Thing, int, int, int, int]
+        ] = []  # with west, east, south, north in cells
         for thing in things:
             self._put(thing)
 
@@ -202,8 +212,15 @@ class Grid:
     def near(self, place: Point) -> List[Thing]:
         """What may be within the search of a place."""
         x, y = self._x(place[0]), self._y(place[1])
-        found = {id(thing): thing for dx in (-1, 0, 1) for dy in (-1, 0, 1)
-                 for thing in self.cells.get(((x + dx) % self.columns, y + dy), ())}
-        large = [thing for thing, west, east, south, north in self.large
-                 if south - 1 <= y <= north + 1 and (x - west + 1) % self.columns <= east - west + 2]
+        found = {
+            id(thing): thing
+            for dx in (-1, 0, 1)
+            for dy in (-1, 0, 1)
+            for thing in self.cells.get(((x + dx) % self.columns, y + dy), ())
+        }
+        large = [
+            thing
+            for thing, west, east, south, north in self.large
+            if south - 1 <= y <= north + 1 and (x - west + 1) % self.columns <= east - west + 2
+        ]
         return [*found.values(), *large]

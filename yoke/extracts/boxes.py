@@ -38,7 +38,7 @@ def is_crossing(sides: List[str]) -> bool:
 def area(box: Box) -> Decimal:
     """Square degrees."""
     west, south, east, north = box
-    return Decimal((east - west) * (north - south)) / UNITS ** 2
+    return Decimal((east - west) * (north - south)) / UNITS**2
 
 
 def halves(box: Box) -> Tuple[Box, Box]:
@@ -62,8 +62,11 @@ def geojson(boxes: List[Box]) -> Dict[str, Any]:
     for box in boxes:
         west, south, east, north = (float(Decimal(side) / UNITS) for side in box)
         rings.append([[[west, south], [east, south], [east, north], [west, north], [west, south]]])
-    return {'type': 'Feature', 'properties': {},
-            'geometry': {'type': 'MultiPolygon', 'coordinates': rings}}
+    return {
+        'type': 'Feature',
+        'properties': {},
+        'geometry': {'type': 'MultiPolygon', 'coordinates': rings},
+    }
 
 
 def holds(box: Box, thing: opl.Object) -> bool:

@@ -29,8 +29,12 @@ def information(source: str) -> Dict[str, Any]:
     """What the header of a file says; Trouble if osmium can't read it."""
     if not pathlib.Path(source).is_file():
         raise Trouble(f'there is no file {source}')
-    done = subprocess.run([program(), 'fileinfo', '--json', files.named(source)], check=False,
-                          stdout=subprocess.PIPE, stderr=subprocess.PIPE)
+    done = subprocess.run(
+        [program(), 'fileinfo', '--json', files.named(source)],
+        check=False,
+        stdout=subprocess.PIPE,
+        stderr=subprocess.PIPE,
+    )
     try:
         found = json.loads(done.stdout.decode('utf-8')) if done.returncode == 0 else None
     except ValueError:
@@ -51,22 +55,29 @@ def check_source(source: str, wanted: List[Box], beyond: bool) -> Optional[str]:
     if the boxes reach beyond its bounds, so that the extract wouldn't be whole."""
     head = information(source).get('header') or {}
     if head.get('with_history'):
-        raise Refused(f'{source} has old versions too: make a file of one moment of it '
-                      '(osmium time-filter)')
+        raise Refused(
+            f'{source} has old versions too: make a file of one moment of it '
+            '(osmium time-filter)'
+        )
     bounds = [tuple(int(side * UNITS) for side in box) for box in head.get('boxes') or []]
     for box in wanted if bounds and not beyond else []:
-        if not any(there[0] <= box[0] and there[1] <= box[1] and there[2] >= box[2]
-                   and there[3] >= box[3] for there in bounds):
-            raise Refused(f'the box reaches beyond {source}, which has '
-                          f'{",".join(map(drawing.degrees, bounds[0]))}: take another file, or '
-                          '--beyond for what is in it')
+        if not any(
+            there[0] <= box[0] and there[1] <= box[1] and there[2] >= box[2] and there[3] >= box[3]
+            for there in bounds
+        ):
+            raise Refused(
+                f'the box reaches beyond {source}, which has '
+                f'{",".join(map(drawing.degrees, bounds[0]))}: take another file, or '
+                '--beyond for what is in it'
+            )
     option = head.get('option') or {}
     stamps = [option.get(name) for name in ('osmosis_replication_timestamp', 'timestamp')]
     return next((stamp for stamp in stamps if header.is_stamp(stamp)), None)
 
 
-def cut(source: str, wanted: List[Box], polygon: Optional[str], strategy: str,
-        parts: Parts) -> pathlib.Path:
+def cut(
+    source: str, wanted: List[Box], polygon: Optional[str], strategy: str, parts: Parts
+) -> pathlib.Path:
     """Cuts boxes or a polygon out of a file; answers with the path of the OPL that comes."""
     place = parts.folder / 'cut.new'
     if polygon:
@@ -79,18 +90,35 @@ def cut(source: str, wanted: List[Box], polygon: Optional[str], strategy: str,
         where = ['--polygon', str(shape)]
     is_seen = sys.stderr.isatty()
     done = subprocess.run(
-        [program(), 'extract', '--progress' if is_seen else '--no-progress', '--strategy', strategy,
-         *where, files.named(source), '--output-format', 'opl', '--overwrite', '--output', str(place)],
-        check=False, stdout=subprocess.DEVNULL, stderr=None if is_seen else subprocess.PIPE)
+        [
+            program(),
+            'extract',
+            '--progress' if is_seen else '--no-progress',
+            '--strategy',
+            strategy,
+            *where,
+            files.named(source),
+            '--output-format',
+            'opl',
+            '--overwrite',
+            '--output',
+            str(place),
+        ],
+        check=False,
+        stdout=subprocess.DEVNULL,
+        stderr=None if is_seen else subprocess.PIPE,
+    )
     if done.returncode != 0:
         raise Trouble(f'osmium doesn\'t cut {source}: {said(done.stderr)}')
     return place
 
 
-def copy(place: pathlib.Path, target: str, moment: Optional[str], source: str
-         ) -> Tuple[Dict[str, int], str]:
-    """Writes an extract of what osmium made, with its first line. Answers with the number of objects
-    of each kind, and with the newest time of one."""
+def copy(
+    place: pathlib.Path, target: str, moment: Optional[str], source: str
+) -> Tuple[Dict[str, int], str]:
+    """Writes an extract of what osmium made, with its first line. Answers with the number of
+    objects of each kind, and with the newest time of one.
+    """
     counts, newest = {'n': 0, 'w': 0, 'r': 0}, ['']
 
     def lines() -> Iterator[str]:
@@ -101,12 +129,15 @@ def copy(place: pathlib.Path, target: str, moment: Optional[str], source: str
                     continue
                 fields = line.split(' ', 5)
                 if fields[1] in ('v', 'v0'):
-                    raise Refused(f'{fields[0]} has no version: {source} was made without '
-                                  'metadata, so it can\'t be edited')
+                    raise Refused(
+                        f'{fields[0]} has no version: {source} was made without '
+                        'metadata, so it can\'t be edited'
+                    )
                 counts[line[0]] += 1
                 newest[0] = max(newest[0], fields[4][1:])
                 yield line
         if not any(counts.values()):
             raise Refused(f'nothing of {source} lies there')
+
     write_new(target, lines())
     return counts, newest[0]

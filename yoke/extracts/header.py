@@ -10,13 +10,15 @@ import re
 from typing import Optional
 
 FORM = re.compile('# as of ([0-9]{4}-[0-9]{2}-[0-9]{2}T[0-9]{2}:[0-9]{2}:[0-9]{2}Z), from (.*)')
-MOST = 4096         # bytes in which the line is looked for
+MOST = 4096  # bytes in which the line is looked for
 
 
 def line(moment: Optional[str], source: str) -> str:
     """The first line of an extract, without its line feed; `moment` is None if nobody knows it."""
     source = ' '.join(source.split())
-    return f'# as of {moment}, from {source}' if moment else f'# of an unknown moment, from {source}'
+    return (
+        f'# as of {moment}, from {source}' if moment else f'# of an unknown moment, from {source}'
+    )
 
 
 def moment_of(path: str) -> Optional[str]:

@@ -16,11 +16,11 @@ from yoke.extracts.whole import Whole
 from yoke.formats.drawing import Box
 from yoke.trouble import NoAnswer, Refused, ServerRefused
 
-MOST_CALLS = 200        # of one box; a larger one is better cut out of a file
+MOST_CALLS = 200  # of one box; a larger one is better cut out of a file
 AREA = Decimal('0.25')  # square degrees of a call, if the server doesn't say
-SMALLEST = 1000         # units of 10^-7 degree: a box this narrow isn't cut further
-ROUNDS = 3              # how often objects are asked for that are missing
-CUT = '# cut\n'         # what is kept of a part that had too many nodes
+SMALLEST = 1000  # units of 10^-7 degree: a box this narrow isn't cut further
+ROUNDS = 3  # how often objects are asked for that are missing
+CUT = '# cut\n'  # what is kept of a part that had too many nodes
 TOO_MUCH = ('too many nodes', 'bbox size', 'too large')
 
 
@@ -38,10 +38,16 @@ class Fetched:
 class BoxDownload:
     """The download of boxes into parts."""
 
-    def __init__(self, server: api.Server, parts: Parts, note: Callable[[str], None],
-                 most: int = MOST_CALLS, clock: Callable[[], float] = time.time):
+    def __init__(
+        self,
+        server: api.Server,
+        parts: Parts,
+        note: Callable[[str], None],
+        most: int = MOST_CALLS,
+        clock: Callable[[], float] = time.time,
+    ):
         self.server, self.parts, self.note, self.most, self.clock = server, parts, note, most, clock
-        self.whole, self.moments, self.calls = Whole(), [], 0   # type: Whole, List[str], int
+        self.whole, self.moments, self.calls = Whole(), [], 0  # type: Whole, List[str], int
 
     def run(self, wanted: List[Box]) -> Fetched:
         """All objects of the boxes, or Refused if it would take too many calls."""
@@ -80,8 +86,10 @@ class BoxDownload:
             raise self._too_many()
 
     def _too_many(self) -> Refused:
-        return Refused(f'the box wants more than {self.most} calls: take a file of the region '
-                       'and --from FILE, or allow more by --max-calls')
+        return Refused(
+            f'the box wants more than {self.most} calls: take a file of the region '
+            'and --from FILE, or allow more by --max-calls'
+        )
 
     def _part(self, box: Box, waiting: int) -> str:
         """The text of a part: kept before, or asked for now and kept; CUT if the box is too full."""
@@ -111,7 +119,8 @@ class BoxDownload:
             text = self.server.look('/map?bbox=' + boxes.words(box))
         except ServerRefused as refused:
             is_full = refused.status in (400, 413) and any(
-                words in refused.text for words in TOO_MUCH)
+                words in refused.text for words in TOO_MUCH
+            )
             if not is_full or min(box[2] - box[0], box[3] - box[1]) <= SMALLEST:
                 raise
             return None
@@ -135,14 +144,19 @@ class BoxDownload:
                 self._renew(still)
         left = self.whole.missing('w')
         if left:
-            raise NoAnswer(f'{min(left, key=opl.rank)} and {len(left) - 1} more nodes of ways '
-                           'don\'t come from the server: begin again with --anew')
+            raise NoAnswer(
+                f'{min(left, key=opl.rank)} and {len(left) - 1} more nodes of ways '
+                'don\'t come from the server: begin again with --anew'
+            )
         return count
 
     def _renew(self, missing: Set[str]) -> None:
         """Asks for the ways that use nodes which are gone: somebody changed them meanwhile."""
-        ways = [key for key, (_, line) in self.whole.lines.items() if key[0] == 'w'
-                and not missing.isdisjoint(line.rsplit(' ', 1)[1][1:].split(','))]
+        ways = [
+            key
+            for key, (_, line) in self.whole.lines.items()
+            if key[0] == 'w' and not missing.isdisjoint(line.rsplit(' ', 1)[1][1:].split(','))
+        ]
         for thing in self.server.things(ways, lambda key: None):
             if thing.deleted:
                 self.whole.lines.pop(thing.key, None)

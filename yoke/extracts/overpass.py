@@ -14,7 +14,7 @@ from yoke.extracts.parts import Parts
 from yoke.extracts.whole import Whole
 from yoke.trouble import NoAnswer, Refused, ServerRefused, Trouble
 
-WAITS = (5, 30, 60)         # seconds before a busy server is asked again, if it doesn't say
+WAITS = (5, 30, 60)  # seconds before a busy server is asked again, if it doesn't say
 BUSY = (429, 503, 504)
 BBOX = '{{bbox}}'
 IGNORED = ('note', 'meta', 'bounds')
@@ -73,7 +73,9 @@ def fetch(address: str, query: str, parts: Parts, note: Callable[[str], None]) -
 
 def plain(data: bytes) -> str:
     """The text of a page of HTML."""
-    text = re.sub('<(style|script)[^>]*>.*?</\\1>', ' ', data.decode('utf-8', 'replace'), flags=re.S)
+    text = re.sub(
+        '<(style|script)[^>]*>.*?</\\1>', ' ', data.decode('utf-8', 'replace'), flags=re.S
+    )
     return str(words.cut(' '.join(re.sub('<[^>]*>', ' ', text).split()), 300))
 
 
@@ -113,23 +115,31 @@ def take(element: ElementTree.Element, whole: Whole) -> None:
     """Takes an element of an answer in."""
     if element.tag == 'remark':
         said = words.cut(' '.join((element.text or '').split()), 200)
-        raise NoAnswer(f'Overpass cut its answer off: {said}; ask for less, or allow more '
-                       'by [timeout:..] and [maxsize:..]')
+        raise NoAnswer(
+            f'Overpass cut its answer off: {said}; ask for less, or allow more '
+            'by [timeout:..] and [maxsize:..]'
+        )
     if element.tag in IGNORED:
         return
     if element.tag not in opl.LETTERS:
-        raise Refused(f'the answer has <{words.cut(element.tag, 40)}>, which is no object: '
-                      'end the query in `out meta;`')
+        raise Refused(
+            f'the answer has <{words.cut(element.tag, 40)}>, which is no object: '
+            'end the query in `out meta;`'
+        )
     try:
         thing = osc.thing(element)
     except osc.NoXml as fault:
         raise NoAnswer(f'the answer has an object that is none: {fault}') from None
     if not thing.version:
-        raise Refused(f'{thing.key} has no version, so it can\'t be edited: '
-                      'end the query in `out meta;`')
-    has_body = thing.lon is not None if thing.key[0] == 'n' else bool(thing.nodes) or \
-        thing.key[0] == 'r'
+        raise Refused(
+            f'{thing.key} has no version, so it can\'t be edited: ' 'end the query in `out meta;`'
+        )
+    has_body = (
+        thing.lon is not None if thing.key[0] == 'n' else bool(thing.nodes) or thing.key[0] == 'r'
+    )
     if not has_body:
-        raise Refused(f'{thing.key} came without its {"place" if thing.key[0] == "n" else "nodes"}:'
-                      ' write `out meta;`, and not `out tags` or `out ids`')
+        raise Refused(
+            f'{thing.key} came without its {"place" if thing.key[0] == "n" else "nodes"}:'
+            ' write `out meta;`, and not `out tags` or `out ids`'
+        )
     whole.add(thing)

@@ -17,7 +17,7 @@ from yoke import day
 from yoke.trouble import Busy, Refused
 
 REQUEST = 'request'
-OLDEST = 24 * 3600      # seconds after which a part is too old to go on with
+OLDEST = 24 * 3600  # seconds after which a part is too old to go on with
 
 
 class Parts:
@@ -57,12 +57,15 @@ class Parts:
         except ValueError:
             before = None
         if before != request:
-            raise Refused(f'{self.folder} has parts of another request: name another --to, '
-                          'or begin again with --anew')
+            raise Refused(
+                f'{self.folder} has parts of another request: name another --to, '
+                'or begin again with --anew'
+            )
         oldest = min((part.stat().st_mtime for part in self.all()), default=time.time())
         if time.time() - oldest > OLDEST:
-            raise Refused(f'the parts in {self.folder} are more than a day old: '
-                          'begin again with --anew')
+            raise Refused(
+                f'the parts in {self.folder} are more than a day old: ' 'begin again with --anew'
+            )
 
     def _clear(self) -> None:
         for path in self.folder.iterdir():
@@ -94,7 +97,8 @@ class Parts:
 def check_target(name: str) -> None:
     """Refused if the name isn't that of an OPL file, or if anything has it already."""
     if not name.endswith('.opl'):
-        raise Refused(f'{name} is no name for an extract: get writes OPL, so name a file that '
-                      'ends in .opl')
+        raise Refused(
+            f'{name} is no name for an extract: get writes OPL, so name a file that ' 'ends in .opl'
+        )
     if os.path.lexists(name):
         raise Refused(f'{name} is there already: name another file, or remove it first')

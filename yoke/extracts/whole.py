@@ -9,7 +9,8 @@ from yoke.files import write_new
 
 
 class Whole:
-    """Objects by key, each as its version and its line of OPL, which takes less memory than an object.
+    """Objects by key, each as its version and its line of OPL, which takes less memory than an
+    object.
 
     `changed` has the keys of objects that came in different versions: somebody changed them
     between two calls.
@@ -57,8 +58,10 @@ class Whole:
     def counts(self) -> str:
         """The same in words."""
         kinds = self.numbers()
-        return ', '.join(f'{kinds.get(letter, 0)} {name}' for letter, name in (
-            ('n', 'nodes'), ('w', 'ways'), ('r', 'relations')))
+        return ', '.join(
+            f'{kinds.get(letter, 0)} {name}'
+            for letter, name in (('n', 'nodes'), ('w', 'ways'), ('r', 'relations'))
+        )
 
     def newest(self) -> Optional[str]:
         """The newest time of an object."""

@@ -1,4 +1,6 @@
-"""Which columns of a table become tags: those that rules or `--columns` name, or that a person has seen and confirmed."""
+"""Which columns of a table become tags: those that rules or `--columns` name, or that a person has
+seen and confirmed.
+"""
 import sys
 from dataclasses import replace
 from typing import Callable, Iterable, List, Mapping as MappingOf, Optional, Sequence
@@ -8,7 +10,7 @@ from yoke.formats.suspicions import Accepted, Suspicion, is_metadata, listed, sa
 from yoke.sides import plain
 from yoke.trouble import Refused, Usage
 
-MOST = 40       # columns in a list
+MOST = 40  # columns in a list
 
 Ask = Callable[[str], bool]
 
@@ -37,13 +39,21 @@ def word_of(names: Iterable[str]) -> str:
     return ','.join('"{}"'.format(name.replace('"', '""')) for name in names)
 
 
-def mapping_of(rules: Optional[Mapping], given: Optional[Sequence[str]], names: Sequence[str], used: Iterable[str],
-               columns: MappingOf[str, Sequence[str]], accepted: Accepted, ask: Ask = asked, way: Callable[[Sequence[str]], str] = options) -> Mapping:
+def mapping_of(
+    rules: Optional[Mapping],
+    given: Optional[Sequence[str]],
+    names: Sequence[str],
+    used: Iterable[str],
+    columns: MappingOf[str, Sequence[str]],
+    accepted: Accepted,
+    ask: Ask = asked,
+    way: Callable[[Sequence[str]], str] = options,
+) -> Mapping:
     """The rules by which columns become tags, all of which the user named or confirmed.
 
-    `names` are those of the columns, `used` those that mean something else, such as the key of an object; `columns` has their
-    values. `given` are the words of `--columns`. Usage where a name is none, Refused where the user has to name them first,
-    in the way that `way` tells.
+    `names` are those of the columns, `used` those that mean something else, such as the key of an
+    object; `columns` has their values. `given` are the words of `--columns`. Usage where a name is
+    none, Refused where the user has to name them first, in the way that `way` tells.
     """
     if rules is not None:
         check_rules(rules, names)
@@ -54,7 +64,11 @@ def mapping_of(rules: Optional[Mapping], given: Optional[Sequence[str]], names: 
         return replace(rules or Mapping(), keeps_others=True, others=frozenset(wanted))
     if rules is not None and not rules.keeps_others:
         return rules
-    left = [name for name in names if name and name not in named and name not in used and not is_metadata(name)]
+    left = [
+        name
+        for name in names
+        if name and name not in named and name not in used and not is_metadata(name)
+    ]
     chosen = replace(rules or Mapping(), others=frozenset(left))
     if not left or accepted.takes(Suspicion('columns', '', '')):
         return chosen
@@ -65,8 +79,10 @@ def mapping_of(rules: Optional[Mapping], given: Optional[Sequence[str]], names: 
     if ask('become tags. Are all of them tags?'):
         return chosen
     filled = [name for name in left if any(text.strip() for text in columns.get(name, ()))] or left
-    raise Refused(f'nothing is done: say which columns are tags, such as {way(filled)}; --accept columns takes all of these',
-                  () if is_seen else lines)
+    raise Refused(
+        f'nothing is done: say which columns are tags, such as {way(filled)}; --accept columns takes all of these',
+        () if is_seen else lines,
+    )
 
 
 def never_asked(question: str) -> bool:
@@ -77,7 +93,9 @@ def never_asked(question: str) -> bool:
 def listing(names: Sequence[str], columns: MappingOf[str, Sequence[str]]) -> List[str]:
     """A line for each column, with a sample of its values."""
     width = min(max(len(plain(name)) for name in names), 30)
-    lines = [f'column {plain(name):{width}}  {samples(columns.get(name, ()))}' for name in names[:MOST]]
+    lines = [
+        f'column {plain(name):{width}}  {samples(columns.get(name, ()))}' for name in names[:MOST]
+    ]
     return lines + ([f'and {len(names) - MOST} more columns'] if len(names) > MOST else [])
 
 
@@ -107,4 +125,6 @@ def unknown(name: str, names: Sequence[str]) -> str:
     """What to say of a column that isn't there."""
     near = nearest(name, names)
     shown: List[str] = [plain(one) for one in names[:MOST]]
-    return f'there is no column {plain(name)}: ' + (f'did you mean {plain(near)}?' if near else f'it has {", ".join(shown)}')
+    return f'there is no column {plain(name)}: ' + (
+        f'did you mean {plain(near)}?' if near else f'it has {", ".join(shown)}'
+    )

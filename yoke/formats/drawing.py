@@ -1,7 +1,8 @@
-"""Features as new objects for an `import`: each comes whole or not at all, and corners at one place are one node.
+"""Features as new objects for an `import`: each comes whole or not at all, and corners at one place
+are one node.
 
-Places are pairs of longitude and latitude in whole numbers of 10^-7 degree, the finest that the map has; a place with more
-digits is rounded to the nearest.
+Places are pairs of longitude and latitude in whole numbers of 10^-7 degree, the finest that the map
+has; a place with more digits is rounded to the nearest.
 
 | geometry | becomes |
 |---|---|
@@ -11,8 +12,9 @@ digits is rounded to the nearest.
 | Polygon of one ring | a closed way |
 | Polygon with holes, MultiPolygon | a relation `type=multipolygon` with the tags, and a way without tags for each ring, as `outer` and `inner` |
 
-A MultiPoint, MultiPolygon or MultiLineString of one part is what the part is. Rings are closed where they aren't, and keep
-their direction and their first corner. A place that stands twice side by side is taken once.
+A MultiPoint, MultiPolygon or MultiLineString of one part is what the part is. Rings are closed
+where they aren't, and keep their direction and their first corner. A place that stands twice side
+by side is taken once.
 """
 import contextlib
 import math
@@ -28,19 +30,21 @@ from yoke.formats.mapping import Left, Mapping
 from yoke.table import Table
 from yoke.trouble import Refused
 
-UNITS = 10 ** 7         # of a place in a degree
-MOST_NODES = 2000       # of a way
-MOST_MEMBERS = 32000    # of a relation
+UNITS = 10**7  # of a place in a degree
+MOST_NODES = 2000  # of a way
+MOST_MEMBERS = 32000  # of a relation
 WORLD = (-180 * UNITS, -90 * UNITS, 180 * UNITS, 90 * UNITS)
-NEAR = 1.0              # metres within which an object with the same tags is the same
-METRES = 111_319.49     # in a degree of latitude
-SESSION = '='           # before the key of a new object of the session, which a drawing has too
+NEAR = 1.0  # metres within which an object with the same tags is the same
+METRES = 111_319.49  # in a degree of latitude
+SESSION = '='  # before the key of a new object of the session, which a drawing has too
 SINGLE = {'MultiPoint': 'Point', 'MultiLineString': 'LineString', 'MultiPolygon': 'Polygon'}
 
 Place = Tuple[int, int]
-Shape = Tuple[str, str, Tuple]      # the kind of a geometry, its places, and the tags: what is alike in all of them is the same
-Box = Tuple[int, int, int, int]     # west, south, east, north
-Frame = Tuple[int, ...]             # a box, or a box and a place in it: longitudes and latitudes by turns
+Shape = Tuple[
+    str, str, Tuple
+]  # the kind of a geometry, its places, and the tags: what is alike in all of them is the same
+Box = Tuple[int, int, int, int]  # west, south, east, north
+Frame = Tuple[int, ...]  # a box, or a box and a place in it: longitudes and latitudes by turns
 Tags = Tuple[Tuple[str, str], ...]  # sorted
 
 
@@ -48,12 +52,13 @@ Tags = Tuple[Tuple[str, str], ...]  # sorted
 class Drawing:
     """New objects, whose keys mean something in this drawing alone.
 
-    `within` is the box in which all places lie; `latitude_first` tells that the file has latitudes before longitudes.
-    `nodes_there` are the keys of nodes that the session has, by their places; corners there are these nodes. `there` are the
-    keys of objects that the session has, by their `Shape`: what is the same is left out; so is what `near` finds, and what
-    `earlier` finds among the features of the file before it. `known`
-    says of a feature why it was taken before, or nothing, and `taken_places` why nothing may be drawn at a place. `left` has
-    what was left out: where it stands, and why. `notes` counts what else a reader ought to know.
+    `within` is the box in which all places lie; `latitude_first` tells that the file has latitudes
+    before longitudes. `nodes_there` are the keys of nodes that the session has, by their places;
+    corners there are these nodes. `there` are the keys of objects that the session has, by their
+    `Shape`: what is the same is left out; so is what `near` finds, and what `earlier` finds among
+    the features of the file before it. `known` says of a feature why it was taken before, or
+    nothing, and `taken_places` why nothing may be drawn at a place. `left` has what was left out:
+    where it stands, and why. `notes` counts what else a reader ought to know.
     """
 
     mapping: Mapping = field(default_factory=Mapping)
@@ -68,14 +73,14 @@ class Drawing:
     read: int = 0
     left: List[Tuple[str, str]] = field(default_factory=list)
     notes: 'Counter[str]' = field(default_factory=Counter)
-    tags: List[Dict[str, str]] = field(default_factory=list)        # those of each feature that was taken
+    tags: List[Dict[str, str]] = field(default_factory=list)  # those of each feature that was taken
     nodes: Dict[str, Tuple[Place, Dict[str, str]]] = field(default_factory=dict)
     ways: Dict[str, Tuple[List[str], Dict[str, str]]] = field(default_factory=dict)
     relations: Dict[str, Tuple[List[Tuple[str, str]], Dict[str, str]]] = field(default_factory=dict)
     made: List['Made'] = field(default_factory=list)
     _corners: Dict[Place, str] = field(default_factory=dict)
     _known: Dict[Shape, str] = field(default_factory=dict)
-    _used: List[str] = field(default_factory=list)                  # the corners of the feature that is being drawn
+    _used: List[str] = field(default_factory=list)  # the corners of the feature that is being drawn
 
     def add(self, feature: Feature):
         """Takes a feature in whole, or leaves it out and keeps why."""
@@ -100,7 +105,9 @@ class Drawing:
             self.tags.append(tags)
 
     def _keep_earlier(self, feature: Feature) -> None:
-        """Keeps where a feature lies that was taken before: what is the same as it isn't made either."""
+        """Keeps where a feature lies that was taken before: what is the same as it isn't made
+        either.
+        """
         with contextlib.suppress(Left):
             tags = self.mapping.tags(feature.properties, Counter())
             if self.earlier:
@@ -109,10 +116,18 @@ class Drawing:
     def _add_once(self, feature: Feature, kind: str, shape: Any, tags: Dict[str, str]) -> None:
         same = shape_of(kind, shape, tags)
         if same in self._known:
-            raise Left('it is the same as {}'.format(self._known[same]))
-        parts = [shape_of('LineString', line, tags) for line in shape] if kind == 'MultiLineString' else [same]
+            raise Left(f'it is the same as {self._known[same]}')
+        parts = (
+            [shape_of('LineString', line, tags) for line in shape]
+            if kind == 'MultiLineString'
+            else [same]
+        )
         if all(part in self.there for part in parts):
-            raise Left('the session has it already, as {}'.format(','.join(self.there[part] for part in parts)))
+            raise Left(
+                'the session has it already, as {}'.format(
+                    ','.join(self.there[part] for part in parts)
+                )
+            )
         found = self.near.find(kind, shape, tags) if self.near else None
         if found:
             raise Left('the session has it already, {:.1f} m away, as {}'.format(*found))
@@ -125,7 +140,12 @@ class Drawing:
             if place in self.taken_places:
                 raise Left(self.taken_places[place])
         self._used = []
-        keys = {'Point': self._point, 'LineString': self._line, 'MultiLineString': self._lines, 'Polygon': self._area}[kind](shape, tags)
+        keys = {
+            'Point': self._point,
+            'LineString': self._line,
+            'MultiLineString': self._lines,
+            'Polygon': self._area,
+        }[kind](shape, tags)
         self._known[same] = feature.where
         self.made.append(Made(feature, tuple(keys.split(',')), tuple(dict.fromkeys(self._used))))
 
@@ -146,23 +166,42 @@ class Drawing:
             return kind, [self._rings(found)]
         if kind == 'MultiPolygon':
             return 'Polygon', [self._rings(polygon) for polygon in _list(found)]
-        raise Left('it has several points, and an object of the map is at one' if kind == 'MultiPoint' else 'the geometry {} is none that is taken'.format(kind[:40]))
+        raise Left(
+            'it has several points, and an object of the map is at one'
+            if kind == 'MultiPoint'
+            else f'the geometry {kind[:40]} is none that is taken'
+        )
 
     def _place(self, position) -> Place:
         numbers = position[:2] if isinstance(position, list) else []
-        if len(numbers) < 2 or any(isinstance(one, bool) or not isinstance(one, (int, Decimal)) or not Decimal(one).is_finite() for one in numbers):
-            raise Left('a place is none: {}'.format(str(position)[:40]))
+        if len(numbers) < 2 or any(
+            isinstance(one, bool)
+            or not isinstance(one, (int, Decimal))
+            or not Decimal(one).is_finite()
+            for one in numbers
+        ):
+            raise Left(f'a place is none: {str(position)[:40]}')
         if any(abs(one) > 1000 for one in numbers):
             raise Left('it lies off the map, at {} and {}: are these degrees?'.format(*numbers))
-        lon, lat = (int((Decimal(one) * UNITS).to_integral_value()) for one in (numbers[::-1] if self.latitude_first else numbers))
+        lon, lat = (
+            int((Decimal(one) * UNITS).to_integral_value())
+            for one in (numbers[::-1] if self.latitude_first else numbers)
+        )
         if not _is_in(lon, lat, self.within):
             raise Left(self._outside(lon, lat))
         return lon, lat
 
     def _outside(self, lon: int, lat: int) -> str:
         text = 'it lies {}, at longitude {} and latitude {}'.format(
-            'outside the bounds' if _is_in(lon, lat, WORLD) else 'off the map', degrees(lon), degrees(lat))
-        return text + (': exchanged they would lie in them' if self.within != WORLD and _is_in(lat, lon, self.within) else '')
+            'outside the bounds' if _is_in(lon, lat, WORLD) else 'off the map',
+            degrees(lon),
+            degrees(lat),
+        )
+        return text + (
+            ': exchanged they would lie in them'
+            if self.within != WORLD and _is_in(lat, lon, self.within)
+            else ''
+        )
 
     def _path(self, positions) -> List[Place]:
         places = [self._place(position) for position in _list(positions)]
@@ -184,7 +223,7 @@ class Drawing:
     # ---- objects ----
 
     def _key(self, letter: str) -> str:
-        return '{}-{}'.format(letter, len(self.nodes) + len(self.ways) + len(self.relations) + 1)
+        return f'{letter}-{len(self.nodes) + len(self.ways) + len(self.relations) + 1}'
 
     def _point(self, place: Place, tags: Dict[str, str]) -> str:
         """A node; where an untagged corner lies, that corner."""
@@ -229,8 +268,16 @@ class Drawing:
         if 'type' in tags:
             raise Left('the tag type={} is in the way of type=multipolygon'.format(tags['type']))
         if sum(map(len, polygons)) > MOST_MEMBERS:
-            raise Left('it has {} rings, and a relation takes {} members'.format(sum(map(len, polygons)), MOST_MEMBERS))
-        members = [(self._line(ring, {}), 'inner' if at else 'outer') for rings in polygons for at, ring in enumerate(rings)]
+            raise Left(
+                'it has {} rings, and a relation takes {} members'.format(
+                    sum(map(len, polygons)), MOST_MEMBERS
+                )
+            )
+        members = [
+            (self._line(ring, {}), 'inner' if at else 'outer')
+            for rings in polygons
+            for at, ring in enumerate(rings)
+        ]
         key = self._key('r')
         self.relations[key] = members, {'type': 'multipolygon', **tags}
         return key
@@ -243,27 +290,33 @@ class Drawing:
         return self.read - len(self.left)
 
     def lines(self) -> Iterator[str]:
-        """The lines of a file for `import`: nodes, ways, relations, each with the keys of this drawing.
+        """The lines of a file for `import`: nodes, ways, relations, each with the keys of this
+        drawing.
 
-        Refused where a corner is a new object of the session, which such a file can't name: `steps` can.
+        Refused where a corner is a new object of the session, which such a file can't name: `steps`
+        can.
         """
         if self.refers_to_new():
-            raise Refused('corners are nodes of the session that no server has yet, and a file can\'t name these: send them first')
+            raise Refused(
+                'corners are nodes of the session that no server has yet, and a file can\'t name these: send them first'
+            )
         for key, (place, tags) in self.nodes.items():
             yield '{} T{} x{} y{}'.format(key, opl.tags(tags), *map(degrees, place))
         for key, (nodes, tags) in self.ways.items():
             yield '{} T{} N{}'.format(key, opl.tags(tags), ','.join(nodes))
         for key, (members, tags) in self.relations.items():
-            yield '{} T{} M{}'.format(key, opl.tags(tags), opl.members(members))
+            yield f'{key} T{opl.tags(tags)} M{opl.members(members)}'
 
     def refers_to_new(self) -> bool:
         """Whether a corner is a new object of the session."""
         return any(node.startswith(SESSION) for nodes, _ in self.ways.values() for node in nodes)
 
     def keys(self, next_new: int) -> Dict[str, str]:
-        """The keys that the objects get in a session, by those that they have here; `next_new` is the session's next number."""
+        """The keys that the objects get in a session, by those that they have here; `next_new` is
+        the session's next number.
+        """
         found = [*self.nodes, *self.ways, *self.relations]
-        return {key: '{}-{}'.format(key[0], number) for number, key in enumerate(found, next_new)}
+        return {key: f'{key[0]}-{number}' for number, key in enumerate(found, next_new)}
 
     def steps(self, next_new: int) -> Iterator[str]:
         """The lines of a script that makes the objects in a session, in one group."""
@@ -272,24 +325,36 @@ class Drawing:
         for place, tags in self.nodes.values():
             yield 'node x{} y{} T{}'.format(*map(degrees, place), opl.tags(tags))
         for nodes, tags in self.ways.values():
-            yield 'way T{} N{}'.format(opl.tags(tags), ','.join(named(node, keys) for node in nodes))
+            yield 'way T{} N{}'.format(
+                opl.tags(tags), ','.join(named(node, keys) for node in nodes)
+            )
         for members, tags in self.relations.values():
-            yield 'relation T{} M{}'.format(opl.tags(tags), opl.members([(named(key, keys), role) for key, role in members]))
+            yield 'relation T{} M{}'.format(
+                opl.tags(tags), opl.members([(named(key, keys), role) for key, role in members])
+            )
         yield 'end'
 
     def report(self) -> Iterator[str]:
-        """What was taken and made, what else there is to know, and of each feature that was left out why."""
-        yield 'features: {} read, {} taken, {} left out'.format(self.read, self.taken, len(self.left))
-        yield 'objects: {} nodes, {} ways, {} relations'.format(len(self.nodes), len(self.ways), len(self.relations))
+        """What was taken and made, what else there is to know, and of each feature that was left
+        out why.
+        """
+        yield 'features: {} read, {} taken, {} left out'.format(
+            self.read, self.taken, len(self.left)
+        )
+        yield 'objects: {} nodes, {} ways, {} relations'.format(
+            len(self.nodes), len(self.ways), len(self.relations)
+        )
         for note, count in self.notes.items():
-            yield 'note: {}: {}'.format(note, count)
+            yield f'note: {note}: {count}'
         for where, why in self.left:
-            yield 'left out: {}: {}'.format(where, why)
+            yield f'left out: {where}: {why}'
 
 
 @dataclass(frozen=True)
 class Made:
-    """What a feature became: the keys of its objects with tags, and those of its corners, as they are in the drawing."""
+    """What a feature became: the keys of its objects with tags, and those of its corners, as they
+    are in the drawing.
+    """
 
     feature: Feature
     keys: Tuple[str, ...]
@@ -297,13 +362,15 @@ class Made:
 
 
 def of_session(key: Optional[str]) -> Optional[str]:
-    """The key of a node of the session, marked where it is new there, since a drawing has keys like it."""
+    """The key of a node of the session, marked where it is new there, since a drawing has keys like
+    it.
+    """
     return SESSION + key if key and key[1] == '-' else key
 
 
 def named(key: str, keys: MappingOf[str, str]) -> str:
     """The key that an object of a drawing has in the session."""
-    return key[len(SESSION):] if key.startswith(SESSION) else keys.get(key, key)
+    return key[len(SESSION) :] if key.startswith(SESSION) else keys.get(key, key)
 
 
 def places_in(shape: Any) -> Iterator[Place]:
@@ -325,7 +392,11 @@ class Near:
             if thing is None or not thing.tags or key[0] == 'r':
                 continue
             if key[0] == 'w':
-                nodes = [found.mine(node) for node in thing.nodes] if thing.nodes[:1] == thing.nodes[-1:] else []
+                nodes = (
+                    [found.mine(node) for node in thing.nodes]
+                    if thing.nodes[:1] == thing.nodes[-1:]
+                    else []
+                )
                 places = [place_of(node) for node in nodes if node]
             else:
                 places = [place_of(thing)]
@@ -335,23 +406,30 @@ class Near:
                 self.cells[_cell(box)].append((box, key, thing.tags))
 
     def find(self, kind: str, shape: Any, tags: MappingOf[str, str]) -> Optional[Tuple[float, str]]:
-        """An object that has these tags and others, at a point or an area but a metre away, and how many metres that is."""
+        """An object that has these tags and others, at a point or an area but a metre away, and how
+        many metres that is.
+        """
         if kind not in ('Point', 'Polygon'):
             return None
         box = box_round(list(places_in(shape)))
         for cell in _cells(box):
             for other, key, theirs in self.cells.get(cell, ()):
                 away = _away(box, other)
-                if away <= NEAR and (key[0] == 'n') == (kind == 'Point') and all(theirs.get(name) == value for name, value in tags.items()):
+                if (
+                    away <= NEAR
+                    and (key[0] == 'n') == (kind == 'Point')
+                    and all(theirs.get(name) == value for name, value in tags.items())
+                ):
                     return away, key
         return None
 
 
 class Earlier:
-    """Features of a file by where they lie, with their tags: what has the same tags a metre away is the same.
+    """Features of a file by where they lie, with their tags: what has the same tags a metre away is
+    the same.
 
-    Two areas in one box may lie side by side in it, as two triangles, so the middle of their corners has to agree too. Of lines
-    each place of one has to lie by the other.
+    Two areas in one box may lie side by side in it, as two triangles, so the middle of their
+    corners has to agree too. Of lines each place of one has to lie by the other.
     """
 
     def __init__(self) -> None:
@@ -369,22 +447,30 @@ class Earlier:
             self.cells[kind, same, _cell(frame)].append((frame, where))
 
     def find(self, kind: str, shape: Any, tags: MappingOf[str, str]) -> Optional[Tuple[float, str]]:
-        """How many metres away a feature with these tags is, a metre at most, and where it stands; of several lines the
-        farthest, if each of them has one.
+        """How many metres away a feature with these tags is, a metre at most, and where it stands;
+        of several lines the farthest, if each of them has one.
         """
         same = tuple(sorted(tags.items()))
         if kind not in ('Point', 'Polygon'):
             doubles = [self._line(line, same) for line in _lines_of(kind, shape)]
             return max((one for one in doubles if one), default=None) if all(doubles) else None
         frame = _frame(shape)
-        found = ((_away(frame, other), where) for cell in _cells(frame) for other, where in self.cells.get((kind, same, cell), ()))
+        found = (
+            (_away(frame, other), where)
+            for cell in _cells(frame)
+            for other, where in self.cells.get((kind, same, cell), ())
+        )
         return min((one for one in found if one[0] <= NEAR), default=None)
-
 
     def _line(self, line: List[Place], same: Tags) -> Optional[Tuple[float, str]]:
         """How many metres away a line with these tags is, a metre at most, and where it stands."""
         box, path = box_round(line), _in_degrees(line)
-        near = (one for cell in _cells(box) for one in self.lines.get((same, cell), ()) if _away(box, one[0]) <= NEAR)
+        near = (
+            one
+            for cell in _cells(box)
+            for one in self.lines.get((same, cell), ())
+            if _away(box, one[0]) <= NEAR
+        )
         found = ((apart(path, _in_degrees(other)), where) for _, other, where in near)
         return min((one for one in found if one[0] <= NEAR), default=None)
 
@@ -412,7 +498,9 @@ def box_round(places: List[Place]) -> Box:
 
 
 def _cell(box: Frame) -> Place:
-    """The cell in which the middle of a box lies: its sides are longer than NEAR up to 85 degrees of latitude."""
+    """The cell in which the middle of a box lies: its sides are longer than NEAR up to 85 degrees
+    of latitude.
+    """
     high = int(NEAR / METRES * UNITS) + 1
     return (box[0] + box[2]) // 2 // (12 * high), (box[1] + box[3]) // 2 // high
 
@@ -424,18 +512,27 @@ def _cells(box: Frame) -> Iterator[Place]:
 
 
 def _away(box: Frame, other: Frame) -> float:
-    """How far two boxes or frames are from each other, in metres: the most of what their sides are, longitudes and latitudes by turns."""
+    """How far two boxes or frames are from each other, in metres: the most of what their sides are,
+    longitudes and latitudes by turns.
+    """
     scales = (math.cos(math.radians(box[1] / UNITS)), 1.0)
-    return max(abs(one - two) / UNITS * METRES * scales[at % 2] for at, (one, two) in enumerate(zip(box, other)))
+    return max(
+        abs(one - two) / UNITS * METRES * scales[at % 2]
+        for at, (one, two) in enumerate(zip(box, other))
+    )
 
 
 def shape_of(kind: str, places, tags: MappingOf[str, str]) -> Shape:
-    """A geometry and its tags as something to compare. Places are one, a list, or lists of lists, as the kind has them."""
+    """A geometry and its tags as something to compare. Places are one, a list, or lists of lists,
+    as the kind has them.
+    """
     return kind, repr(places), tuple(sorted(tags.items()))
 
 
 def shapes_of(found: Table) -> Dict[Shape, str]:
-    """The keys of a session's objects by their shapes, where they are such as an import makes, and have tags."""
+    """The keys of a session's objects by their shapes, where they are such as an import makes, and
+    have tags.
+    """
     paths, shapes = {}, {}
     for key, known in found.things.items():
         thing = known.mine
@@ -467,17 +564,34 @@ def _forms(thing: opl.Object, paths: MappingOf[str, List[Place]]) -> Iterator[Tu
 
 def _without_type(thing: opl.Object) -> Dict[str, str]:
     """The tags, of a multipolygon those that its feature had."""
-    return {key: value for key, value in thing.tags.items() if (key, value) != ('type', 'multipolygon')} if thing.key[0] == 'r' else thing.tags
+    return (
+        {
+            key: value
+            for key, value in thing.tags.items()
+            if (key, value) != ('type', 'multipolygon')
+        }
+        if thing.key[0] == 'r'
+        else thing.tags
+    )
 
 
 def box_of(text: str) -> Box:
-    """A box of west, south, east and north in degrees, with commas between them, in units of 10^-7; ValueError where it is none."""
+    """A box of west, south, east and north in degrees, with commas between them, in units of 10^-7;
+    ValueError where it is none.
+    """
     try:
-        west, south, east, north = (int((Decimal(side.strip()) * UNITS).to_integral_value()) for side in text.split(','))
+        west, south, east, north = (
+            int((Decimal(side.strip()) * UNITS).to_integral_value()) for side in text.split(',')
+        )
     except (ValueError, ArithmeticError):
-        raise ValueError('{} is no box: WEST,SOUTH,EAST,NORTH in degrees'.format(text)) from None
-    if not (_is_in(west, south, WORLD) and _is_in(east, north, WORLD) and west <= east and south <= north):
-        raise ValueError('{} is no box on the map: WEST,SOUTH,EAST,NORTH in degrees'.format(text))
+        raise ValueError(f'{text} is no box: WEST,SOUTH,EAST,NORTH in degrees') from None
+    if not (
+        _is_in(west, south, WORLD)
+        and _is_in(east, north, WORLD)
+        and west <= east
+        and south <= north
+    ):
+        raise ValueError(f'{text} is no box on the map: WEST,SOUTH,EAST,NORTH in degrees')
     return west, south, east, north
 
 
@@ -503,5 +617,5 @@ def _list(found) -> list:
 
 def _fitting(path: List[Place]) -> List[Place]:
     if len(path) > MOST_NODES:
-        raise Left('a line of {} places, and a way takes {}'.format(len(path), MOST_NODES))
+        raise Left(f'a line of {len(path)} places, and a way takes {MOST_NODES}')
     return path

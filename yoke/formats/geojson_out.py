@@ -9,43 +9,72 @@ from yoke.table import Table
 def document(table: Table) -> str:
     """A FeatureCollection of all objects that were edited or are in conflict, by rank, one a line.
 
-    The properties of each are `key`, `what` (`new`, `changed`, `deleted` or `conflict`), `parts` (which of tags, place,
-    nodes and members were changed here), `conflict` (why, or null), `version` and `user` of the base, and the tags
-    `before`, `after` and `theirs`, null where there is no such side. An object that was moved has the place `from` too.
-    The geometry is that of what the object is here, else that of its base, else of theirs.
+    The properties of each are `key`, `what` (`new`, `changed`, `deleted` or `conflict`), `parts`
+    (which of tags, place, nodes and members were changed here), `conflict` (why, or null),
+    `version` and `user` of the base, and the tags `before`, `after` and `theirs`, null where there
+    is no such side. An object that was moved has the place `from` too. The geometry is that of what
+    the object is here, else that of its base, else of theirs.
     """
-    features = [_feature(table, known) for known in table.things.values() if known.edit or known.conflict != 'none']
+    features = [
+        _feature(table, known)
+        for known in table.things.values()
+        if known.edit or known.conflict != 'none'
+    ]
     lines = ',\n'.join(json.dumps(feature, ensure_ascii=False) for feature in features)
-    return '{"type": "FeatureCollection", "generator": "yoke", "features": [\n' + lines + ('\n' if lines else '') + ']}\n'
+    return (
+        '{"type": "FeatureCollection", "generator": "yoke", "features": [\n'
+        + lines
+        + ('\n' if lines else '')
+        + ']}\n'
+    )
 
 
 def _feature(table: Table, known: saved.Known) -> Dict[str, Any]:
-    before, after, theirs = known.there, known.mine, known.theirs if known.theirs and not known.theirs.deleted else None
+    before, after, theirs = (
+        known.there,
+        known.mine,
+        known.theirs if known.theirs and not known.theirs.deleted else None,
+    )
     shown = after or before or theirs
     properties: Dict[str, Any] = {
-        'key': known.key, 'what': known.edit or 'conflict', 'parts': _parts(before, after),
+        'key': known.key,
+        'what': known.edit or 'conflict',
+        'parts': _parts(before, after),
         'conflict': None if known.conflict == 'none' else known.conflict,
-        'version': known.base.version if known.base else None, 'user': (known.base.user or None) if known.base else None,
-        'before': before and before.tags, 'after': after and after.tags, 'theirs': theirs and theirs.tags}
+        'version': known.base.version if known.base else None,
+        'user': (known.base.user or None) if known.base else None,
+        'before': before and before.tags,
+        'after': after and after.tags,
+        'theirs': theirs and theirs.tags,
+    }
     if 'place' in properties['parts']:
         assert before is not None
         properties['from'] = _place(before)
-    return {'type': 'Feature', 'id': known.key, 'geometry': geometry(table, shown) if shown else None, 'properties': properties}
+    return {
+        'type': 'Feature',
+        'id': known.key,
+        'geometry': geometry(table, shown) if shown else None,
+        'properties': properties,
+    }
 
 
 def _parts(before: Optional[opl.Object], after: Optional[opl.Object]) -> List[str]:
     if not before or not after:
         return []
-    sides: Dict[str, Any] = {'tags': (before.tags, after.tags), 'place': ((before.lon, before.lat), (after.lon, after.lat)),
-             'nodes': (before.nodes, after.nodes), 'members': (before.members, after.members)}
+    sides: Dict[str, Any] = {
+        'tags': (before.tags, after.tags),
+        'place': ((before.lon, before.lat), (after.lon, after.lat)),
+        'nodes': (before.nodes, after.nodes),
+        'members': (before.members, after.members),
+    }
     return [part for part, (one, other) in sides.items() if one != other]
 
 
 def geometry(table: Table, thing: opl.Object) -> Optional[Dict[str, Any]]:
     """The geometry of an object by the places that are known; None where none is.
 
-    A way is a line through its nodes, or one point where only one is known; a relation is the geometries of its members
-    that are no relations.
+    A way is a line through its nodes, or one point where only one is known; a relation is the
+    geometries of its members that are no relations.
     """
     if thing.key[0] == 'n':
         return {'type': 'Point', 'coordinates': _place(thing)}

@@ -20,23 +20,35 @@ A file of rules has a line for each tag:
 - A line `*` keeps each property that no rule names, under its own name. Without rules all are kept so.
 - Lines that are empty or begin with `#` are skipped.
 
-A property whose name begins with `@` is metadata, as Overpass writes it, and never becomes a tag under its own name.
+A property whose name begins with `@` is metadata, as Overpass writes it, and never becomes a tag
+under its own name.
 
-Of values blanks at the ends are trimmed; true and false are `yes` and `no`; null and empty texts set no tag; lists and
-objects set none either, and are counted.
+Of values blanks at the ends are trimmed; true and false are `yes` and `no`; null and empty texts
+set no tag; lists and objects set none either, and are counted.
 """
 import difflib
 import re
 from collections import Counter
 from dataclasses import dataclass
 from decimal import Decimal
-from typing import Any, Dict, FrozenSet, Iterable, List, Mapping as MappingOf, Optional, Set, Tuple, Union
+from typing import (
+    Any,
+    Dict,
+    FrozenSet,
+    Iterable,
+    List,
+    Mapping as MappingOf,
+    Optional,
+    Set,
+    Tuple,
+    Union,
+)
 
 from yoke import opl
 
 PART = re.compile('{{|}}|{([^{}]*)}|[{}]')
 CONTROL = re.compile('[\x00-\x1f\x7f-\x9f\ud800-\udfff\ufffe\uffff]')
-METADATA = '@'          # with which the name of a property begins that is never a tag
+METADATA = '@'  # with which the name of a property begins that is never a tag
 REQUIRED = re.compile('required((?:[ \t]+(?:{[^{}]+}|[^{}= \t]+))+)')
 Properties = MappingOf[str, Any]
 
@@ -76,8 +88,12 @@ class Rule:
 
     def value(self, properties: Properties, notes: 'Counter[str]') -> str:
         """The value; empty where the tag isn't set."""
-        texts = [part if isinstance(part, str) else part.text(properties, notes) for part in self.parts]
-        first = next((text for text, part in zip(texts, self.parts) if isinstance(part, Property)), 'x')
+        texts = [
+            part if isinstance(part, str) else part.text(properties, notes) for part in self.parts
+        ]
+        first = next(
+            (text for text, part in zip(texts, self.parts) if isinstance(part, Property)), 'x'
+        )
         return ''.join(texts).strip() if first else ''
 
 
@@ -85,7 +101,8 @@ class Rule:
 class Mapping:
     """The rules of a file; `keeps_others` where properties that no rule names are kept.
 
-    `others` are the names of those that are kept, None for all. `required` are names of properties in braces, and keys.
+    `others` are the names of those that are kept, None for all. `required` are names of properties
+    in braces, and keys.
     """
 
     rules: Tuple[Rule, ...] = ()
@@ -94,22 +111,30 @@ class Mapping:
     required: Tuple[str, ...] = ()
 
     def tags(self, properties: Properties, notes: 'Counter[str]') -> Dict[str, str]:
-        """The tags of a feature; Left where one of them is none that the map takes, or what is required is missing.
+        """The tags of a feature; Left where one of them is none that the map takes, or what is
+        required is missing.
 
         `notes` counts what sets no tag.
         """
         named = self.named()
         pairs = [(rule.key, rule.value(properties, notes)) for rule in self.rules]
         if self.keeps_others:
-            pairs += [(name.strip(), scalar(value, name, notes)) for name, value in properties.items()
-                      if name not in named and self.keeps(name)]
+            pairs += [
+                (name.strip(), scalar(value, name, notes))
+                for name, value in properties.items()
+                if name not in named and self.keeps(name)
+            ]
         tags: Dict[str, str] = {}
         for key, value in pairs:
             if value:
                 check(key, value, tags)
                 tags[key] = value
         for name in self.required:
-            found = scalar(properties.get(name[1:-1]), name, Counter()) if name[0] == '{' else tags.get(name)
+            found = (
+                scalar(properties.get(name[1:-1]), name, Counter())
+                if name[0] == '{'
+                else tags.get(name)
+            )
             if not found:
                 raise Left(f'{name.strip("{}")} is missing, and it is required')
         return tags
@@ -127,7 +152,9 @@ class Mapping:
         return name in self.named() or self.keeps_others and self.keeps(name)
 
     def unknown(self, names: Iterable[str]) -> Optional[Tuple[str, str]]:
-        """A property that a rule or `required` names and a file doesn't have, and the nearest that it has, or an empty text."""
+        """A property that a rule or `required` names and a file doesn't have, and the nearest that
+        it has, or an empty text.
+        """
         there = list(names)
         wanted = [name for rule in self.rules for name in rule.properties]
         wanted += [name[1:-1] for name in self.required if name[0] == '{']
@@ -150,10 +177,14 @@ def check(key: str, value: str, tags: MappingOf[str, str]) -> None:
         raise Left(f'the tag {key} would stand twice')
     for what, text in (('key', key), ('value', value)):
         if len(text) > opl.LONGEST:
-            raise Left(f'{key[:40]}: the {what} has {len(text)} characters, and the map takes {opl.LONGEST}')
+            raise Left(
+                f'{key[:40]}: the {what} has {len(text)} characters, and the map takes {opl.LONGEST}'
+            )
         found = CONTROL.search(text)
         if found:
-            raise Left(f'{CONTROL.sub("?", key[:40])}: the {what} has the control character U+{ord(found[0]):04X}')
+            raise Left(
+                f'{CONTROL.sub("?", key[:40])}: the {what} has the control character U+{ord(found[0]):04X}'
+            )
 
 
 def scalar(value: Any, name: str, notes: 'Counter[str]') -> str:
@@ -180,6 +211,7 @@ def number(value: Decimal) -> str:
 
 # ---- the file ----
 
+
 def read(text: str) -> Mapping:
     """The rules of a file; ValueError, with the line, where one is none."""
     rules: List[Rule] = []
@@ -191,12 +223,20 @@ def read(text: str) -> Mapping:
         if line == '*':
             keeps_others = True
         elif words:
-            required += [(line_number, word) for word in re.findall('{[^{}]+}|[^{}= \t]+', words[1])]
+            required += [
+                (line_number, word) for word in re.findall('{[^{}]+}|[^{}= \t]+', words[1])
+            ]
         elif line and line[0] != '#':
             key, equals, value = map(str.strip, line.partition('='))
             if not key or not equals or not value or key in [rule.key for rule in rules]:
-                raise ValueError('line {}: {}'.format(line_number, f'the tag {key} has a rule already' if key and equals and value
-                                                      else 'KEY = VALUE is wanted'))
+                raise ValueError(
+                    'line {}: {}'.format(
+                        line_number,
+                        f'the tag {key} has a rule already'
+                        if key and equals and value
+                        else 'KEY = VALUE is wanted',
+                    )
+                )
             rules.append(rule_of(key, value, f'line {line_number}: '))
     if not rules and not keeps_others:
         raise ValueError('it has no rule')
@@ -204,8 +244,10 @@ def read(text: str) -> Mapping:
         keys = [rule.key for rule in rules]
         if word[0] != '{' and word not in keys:
             near = nearest(word, keys)
-            raise ValueError(f'line {line_number}: {word} is required, and no rule sets it'
-                             + (f': did you mean {near}?' if near else ''))
+            raise ValueError(
+                f'line {line_number}: {word} is required, and no rule sets it'
+                + (f': did you mean {near}?' if near else '')
+            )
     return Mapping(tuple(rules), keeps_others, None, tuple(word for _, word in required))
 
 
@@ -220,7 +262,7 @@ def _parts(text: str, where: str) -> List[Union[str, Property]]:
     parts: List[Union[str, Property]] = []
     at = 0
     for found in PART.finditer(text):
-        parts.append(text[at:found.start()])
+        parts.append(text[at : found.start()])
         if found[0] in ('{{', '}}'):
             parts.append(found[0][0])
         elif found[1]:

@@ -1,7 +1,8 @@
 """Finds the objects that the rows of a table mean, by their tags and by how near they lie.
 
-A row means an object if each condition holds: a tag of the object is what the row has. A condition is `KEY=VALUE`, where
-VALUE is put together of texts and columns as in a rule (`formats/mapping.py`), or `KEY=*` for any value.
+A row means an object if each condition holds: a tag of the object is what the row has. A condition
+is `KEY=VALUE`, where VALUE is put together of texts and columns as in a rule
+(`formats/mapping.py`), or `KEY=*` for any value.
 """
 import math
 import unicodedata
@@ -18,15 +19,17 @@ from yoke.table import Table
 from yoke.trouble import Usage
 
 ANY = '*'
-Point = Tuple[float, float]     # longitude and latitude in degrees
+Point = Tuple[float, float]  # longitude and latitude in degrees
 
 
 @dataclass(frozen=True)
 class Search:
-    """What rows and objects have to have in common: conditions, and how many metres apart they may lie, or None."""
+    """What rows and objects have to have in common: conditions, and how many metres apart they may
+    lie, or None.
+    """
 
     rules: Tuple[Rule, ...] = ()
-    present: Tuple[str, ...] = ()       # keys of tags that have to be there, whatever their values
+    present: Tuple[str, ...] = ()  # keys of tags that have to be there, whatever their values
     metres: Optional[float] = None
 
     @property
@@ -41,13 +44,17 @@ class Search:
 
     def query(self, among: str = '') -> str:
         """The query that finds all objects that a row may mean."""
-        parts = ['T{}=*'.format(opl.quote(key)) for key in self.keys]
-        return ' and '.join(parts + (['( {} )'.format(among)] if among else [])) or 'node or way or relation'
+        parts = [f'T{opl.quote(key)}=*' for key in self.keys]
+        return (
+            ' and '.join(parts + ([f'( {among} )'] if among else [])) or 'node or way or relation'
+        )
 
 
 @dataclass(frozen=True)
 class Found:
-    """The objects that a row means, by rank, and of a row that means none those that are only spelt otherwise."""
+    """The objects that a row means, by rank, and of a row that means none those that are only spelt
+    otherwise.
+    """
 
     keys: List[str]
     near: List[str] = field(default_factory=list)
@@ -61,7 +68,9 @@ def search_of(conditions: Iterable[str], metres: Optional[float]) -> Search:
     for text in conditions:
         key, sign, value = map(str.strip, text.partition('='))
         if not key or not sign or not value or key in [rule.key for rule in rules] + present:
-            raise Usage(f'--where wants KEY=VALUE, such as addr:street={{Street}}, each key once, and not {text}')
+            raise Usage(
+                f'--where wants KEY=VALUE, such as addr:street={{Street}}, each key once, and not {text}'
+            )
         try:
             if value == ANY:
                 present.append(key)
@@ -95,12 +104,17 @@ class Index:
         for rule in self.search.rules:
             value = rule.value(fields, Counter())
             if not value:
-                return Found([], problem=f'{" and ".join(rule.properties) or rule.key} is empty, which --where needs')
+                return Found(
+                    [],
+                    problem=f'{" and ".join(rule.properties) or rule.key} is empty, which --where needs',
+                )
             wanted.append(value)
         if self.search.metres is not None and place is None:
             return Found([], problem='it has no longitude and latitude, which --within needs')
         keys = self._near(self.exact.get(tuple(wanted), []), place)
-        return Found(keys, [] if keys else self._near(self.folded.get(tuple(map(fold, wanted)), []), place))
+        return Found(
+            keys, [] if keys else self._near(self.folded.get(tuple(map(fold, wanted)), []), place)
+        )
 
     def _near(self, keys: Sequence[str], place: Optional[Point]) -> List[str]:
         if self.search.metres is None or place is None:
@@ -109,12 +123,16 @@ class Index:
 
 
 def fold(text: str) -> str:
-    """A text without what spellings differ in: case, accents, blanks, hyphens and dots; `str` for `straße`."""
+    """A text without what spellings differ in: case, accents, blanks, hyphens and dots; `str` for
+    `straße`.
+    """
     plain = unicodedata.normalize('NFKD', text.casefold().replace('ß', 'ss'))
     return ''.join(char for char in plain if char.isalnum()).replace('strasse', 'str')
 
 
-def place_of_row(fields: MappingOf[str, str], columns: Optional[Tuple[str, str]], sign: str) -> Optional[Point]:
+def place_of_row(
+    fields: MappingOf[str, str], columns: Optional[Tuple[str, str]], sign: str
+) -> Optional[Point]:
     """The longitude and latitude of a row; None where it has none."""
     if columns is None:
         return None
@@ -127,8 +145,11 @@ def place_of_row(fields: MappingOf[str, str], columns: Optional[Tuple[str, str]]
 
 # ---- distances ----
 
+
 def distance(table: Table, key: str, place: Point) -> float:
-    """How many metres an object is away from a place; 0 inside of an area, infinite where it has no place."""
+    """How many metres an object is away from a place; 0 inside of an area, infinite where it has no
+    place.
+    """
     lines = _lines(table, key, set())
     return min((_to_line(line, place) for line in lines), default=math.inf)
 
@@ -139,10 +160,18 @@ def _lines(table: Table, key: str, seen: 'set[str]') -> List[List[Point]]:
     if thing is None or key in seen:
         return []
     if key[0] == 'n':
-        return [] if thing.lon is None or thing.lat is None else [[(float(thing.lon), float(thing.lat))]]
+        return (
+            []
+            if thing.lon is None or thing.lat is None
+            else [[(float(thing.lon), float(thing.lat))]]
+        )
     if key[0] == 'w':
         nodes = [table.mine(node) for node in thing.nodes]
-        line = [(float(node.lon), float(node.lat)) for node in nodes if node and node.lon is not None and node.lat is not None]
+        line = [
+            (float(node.lon), float(node.lat))
+            for node in nodes
+            if node and node.lon is not None and node.lat is not None
+        ]
         return [line] if line else []
     return [line for member, _ in thing.members for line in _lines(table, member, seen | {key})]
 
@@ -153,7 +182,10 @@ def _to_line(line: Sequence[Point], place: Point) -> float:
     flat = [((lon - place[0]) * scale * METRES, (lat - place[1]) * METRES) for lon, lat in line]
     if len(flat) > 3 and flat[0] == flat[-1] and _is_inside(flat):
         return 0.0
-    return min((_to_segment(one, other) for one, other in zip(flat, flat[1:])), default=math.hypot(*flat[0]))
+    return min(
+        (_to_segment(one, other) for one, other in zip(flat, flat[1:])),
+        default=math.hypot(*flat[0]),
+    )
 
 
 def _to_segment(one: Point, other: Point) -> float:

@@ -1,4 +1,6 @@
-"""What the rows of a table do over a session: which object each means, which are left alone and why, and what is overwritten."""
+"""What the rows of a table do over a session: which object each means, which are left alone and
+why, and what is overwritten.
+"""
 import csv
 import io
 from collections import Counter
@@ -15,8 +17,11 @@ from yoke.formats.tag_table import Row, Sheet, changed_since, each_once
 from yoke.sides import plain
 from yoke.table import Table
 
-SHOWN = 10                  # rows of a list that are printed
-LINE, FOUND = 'yoke:line', 'yoke:found'     # columns that a list begins with: by them it is known as yoke's own
+SHOWN = 10  # rows of a list that are printed
+LINE, FOUND = (
+    'yoke:line',
+    'yoke:found',
+)  # columns that a list begins with: by them it is known as yoke's own
 LISTS = ('one', 'none', 'several', 'changed')
 
 
@@ -24,9 +29,9 @@ LISTS = ('one', 'none', 'several', 'changed')
 class Plan:
     """Rows by what becomes of them.
 
-    `rows` are those that may become edits, also those with a problem. The lists are pairs of a row and what is to be said
-    of it: rows that mean one object, none, or several, and rows whose object has another value than the one that was
-    expected.
+    `rows` are those that may become edits, also those with a problem. The lists are pairs of a row
+    and what is to be said of it: rows that mean one object, none, or several, and rows whose object
+    has another value than the one that was expected.
     """
 
     rows: List[Row] = field(default_factory=list)
@@ -45,10 +50,16 @@ def of_sheet(sheet: Sheet, mapping: Mapping, others: Sequence[str]) -> List[Susp
     """What is suspicious in the values of a table from which tags come, and of some other columns."""
     names = [name for name in sheet.names if name and (name in others or mapping.uses(name))]
     values = {name: sheet.column(name) for name in names}
-    return [*suspicions.of_columns(values), *suspicions.of_rows(sheet.names, sheet.rows), *suspicions.of_shift(sheet.names, sheet.rows, names)]
+    return [
+        *suspicions.of_columns(values),
+        *suspicions.of_rows(sheet.names, sheet.rows),
+        *suspicions.of_shift(sheet.names, sheet.rows, names),
+    ]
 
 
-def matched(rows: Sequence[Row], index: Index, columns: Optional[Tuple[str, str]], sign: str) -> Plan:
+def matched(
+    rows: Sequence[Row], index: Index, columns: Optional[Tuple[str, str]], sign: str
+) -> Plan:
     """The plan of rows whose objects a search finds; `columns` are those of longitude and latitude."""
     plan = Plan()
     for row in rows:
@@ -64,15 +75,19 @@ def matched(rows: Sequence[Row], index: Index, columns: Optional[Tuple[str, str]
         elif found.keys:
             plan.several.append((row, ' '.join(found.keys)))
         else:
-            plan.none.append((row, f'spelt otherwise: {" ".join(found.near)}' if found.near else ''))
+            plan.none.append(
+                (row, f'spelt otherwise: {" ".join(found.near)}' if found.near else '')
+            )
     plan.rows = each_once(plan.rows)
     return plan
 
 
 def guarded(plan: Plan, table: Table) -> Plan:
-    """The plan without the rows whose objects have another value by now than the one that the row expects.
+    """The plan without the rows whose objects have another value by now than the one that the row
+    expects.
 
-    A row whose object has all that it sets isn't one of them, and sets nothing: the same table goes through twice.
+    A row whose object has all that it sets isn't one of them, and sets nothing: the same table goes
+    through twice.
     """
     rows = []
     for row in plan.rows:
@@ -89,7 +104,13 @@ def guarded(plan: Plan, table: Table) -> Plan:
 
 def spared(plan: Plan, choices: Choices) -> Plan:
     """The plan without the tags that would undo a choice."""
-    return replace(plan, rows=[row if row.problem else replace(row, tags=choices.without(row.key, row.tags)) for row in plan.rows])
+    return replace(
+        plan,
+        rows=[
+            row if row.problem else replace(row, tags=choices.without(row.key, row.tags))
+            for row in plan.rows
+        ],
+    )
 
 
 def shifted(plan: Plan, table: Table) -> Iterator[Suspicion]:
@@ -98,7 +119,9 @@ def shifted(plan: Plan, table: Table) -> Iterator[Suspicion]:
     for row in plan.rows:
         thing = None if row.problem else table.mine(row.key)
         for key, value in row.tags.items() if thing else ():
-            values.setdefault(key, []).append((row.line, value, thing.tags.get(key, '') if thing else ''))
+            values.setdefault(key, []).append(
+                (row.line, value, thing.tags.get(key, '') if thing else '')
+            )
     for key, found in values.items():
         yield from suspicions.of_neighbours(key, found)
 
@@ -119,6 +142,7 @@ def overwritten(plan: Plan, table: Table) -> Iterator[str]:
 
 # ---- the lists ----
 
+
 def counts(plan: Plan) -> str:
     """How many rows mean one object, none or several."""
     return f'rows that found one object: {len(plan.one)}; none: {len(plan.none)}; several: {len(plan.several)}'
@@ -137,13 +161,18 @@ def printed(plan: Plan, names: Sequence[str] = LISTS[1:]) -> Iterator[str]:
     for name in names:
         found = plan.listed(name)
         for row, text in found[:SHOWN]:
-            yield f'{name}: line {row.line}: ' + (plain(text) if text else ', '.join(plain(value) for value in row.fields.values() if value)[:80])
+            yield f'{name}: line {row.line}: ' + (
+                plain(text)
+                if text
+                else ', '.join(plain(value) for value in row.fields.values() if value)[:80]
+            )
         if len(found) > SHOWN:
             yield f'{name}: and {len(found) - SHOWN} more; --lists NAME writes them all'
 
 
 def write_lists(plan: Plan, sheet: Sheet, name: str) -> List[str]:
-    """Writes each list as a CSV, with the rows as they stand in the table; answers with the names of the files.
+    """Writes each list as a CSV, with the rows as they stand in the table; answers with the names
+    of the files.
 
     Refused where one is there that yoke didn't write.
     """

@@ -2,7 +2,8 @@
 
 It listens on 127.0.0.1 alone, while a login is under way, and takes one answer: a page that a
 browser opens at the very path, with the state of this login. Anything else is answered with an
-error and changes nothing, so a page of another site can't end the login or put in a code of its own.
+error and changes nothing, so a page of another site can't end the login or put in a code of its
+own.
 """
 import hmac
 import http.server
@@ -13,14 +14,18 @@ from typing import Any, Optional, Tuple
 from yoke.login import oauth
 from yoke.trouble import NoAnswer, Refused, Trouble, Usage
 
-SLOW = 10       # seconds that one connection may take
+SLOW = 10  # seconds that one connection may take
 DONE = 'The login is done. You can close this page and go back to the terminal.'
 DENIED = 'The login was not allowed. You can close this page.'
 HEADERS = {
-    'Content-Type': 'text/html; charset=utf-8', 'Cache-Control': 'no-store',
+    'Content-Type': 'text/html; charset=utf-8',
+    'Cache-Control': 'no-store',
     'Content-Security-Policy': "default-src 'none'; frame-ancestors 'none'; base-uri 'none'",
-    'Referrer-Policy': 'no-referrer', 'X-Content-Type-Options': 'nosniff',
-    'Cross-Origin-Opener-Policy': 'same-origin', 'Connection': 'close'}
+    'Referrer-Policy': 'no-referrer',
+    'X-Content-Type-Options': 'nosniff',
+    'Cross-Origin-Opener-Policy': 'same-origin',
+    'Connection': 'close',
+}
 
 
 class Listener:
@@ -35,17 +40,20 @@ class Listener:
         try:
             self._http = Server(('127.0.0.1', port), Handler)
         except OSError as error:
-            raise Trouble(f'port {port} of this machine can\'t be used ({error.strerror}): end the '
-                          'program that has it, or register another redirect') from None
+            raise Trouble(
+                f'port {port} of this machine can\'t be used ({error.strerror}): end the '
+                'program that has it, or register another redirect'
+            ) from None
         self._http.owner = self
         self.port = self._http.server_address[1]
         self.redirect = f'http://127.0.0.1:{self.port}{self.path}'
-        self.ignored = 0                        # calls that weren't the answer
+        self.ignored = 0  # calls that weren't the answer
         self._request: Optional[oauth.Request] = None
-        self._found: Optional[Tuple[str, str]] = None       # `code` or `error`, and its value
+        self._found: Optional[Tuple[str, str]] = None  # `code` or `error`, and its value
         self._lock, self._came = threading.Lock(), threading.Event()
-        self._thread = threading.Thread(target=self._http.serve_forever,
-                                        kwargs={'poll_interval': 0.05}, daemon=True)
+        self._thread = threading.Thread(
+            target=self._http.serve_forever, kwargs={'poll_interval': 0.05}, daemon=True
+        )
 
     def __enter__(self) -> 'Listener':
         self._thread.start()
@@ -65,8 +73,10 @@ class Listener:
         """The code of the answer to the request that is expected. Refused if the answer is a
         refusal, NoAnswer if none comes in time."""
         if not self._came.wait(seconds):
-            raise NoAnswer(f'nobody logged in within {seconds:.0f} s: begin again, or use '
-                           '--no-browser if the browser is on another machine')
+            raise NoAnswer(
+                f'nobody logged in within {seconds:.0f} s: begin again, or use '
+                '--no-browser if the browser is on another machine'
+            )
         assert self._found is not None
         name, value = self._found
         if name == 'error':
@@ -84,7 +94,7 @@ class Listener:
             if not name:
                 self.ignored += 1
                 return 400, 'This is not the answer to the login that is under way.'
-            self._found = self._found or (name, value)      # the first one counts
+            self._found = self._found or (name, value)  # the first one counts
         return 200, DONE if name == 'code' else DENIED
 
     def told(self) -> None:
@@ -111,8 +121,12 @@ class Listener:
         """`code` or `error` with its value, of an answer to this login; None of another one."""
         request = self._request
         try:
-            pairs = urllib.parse.parse_qsl(urllib.parse.urlsplit(target).query, strict_parsing=True,
-                                           keep_blank_values=True, max_num_fields=20)
+            pairs = urllib.parse.parse_qsl(
+                urllib.parse.urlsplit(target).query,
+                strict_parsing=True,
+                keep_blank_values=True,
+                max_num_fields=20,
+            )
         except ValueError:
             return None
         fields = dict(pairs)
@@ -121,8 +135,12 @@ class Listener:
         if not hmac.compare_digest(fields.get('state', '').encode(), request.state.encode()):
             return None
         issuer = fields.get('iss')
-        if issuer is None and request.endpoints.tells_issuer or \
-                issuer is not None and issuer.rstrip('/') != request.endpoints.issuer:
+        if (
+            issuer is None
+            and request.endpoints.tells_issuer
+            or issuer is not None
+            and issuer.rstrip('/') != request.endpoints.issuer
+        ):
             return None
         given = [(name, fields[name]) for name in ('code', 'error') if fields.get(name)]
         return given[0] if len(given) == 1 else None
@@ -137,8 +155,14 @@ def address_of(redirect: str) -> Tuple[int, str]:
         port = parts.port
     except ValueError:
         port, parts = None, urllib.parse.urlsplit('')
-    if parts.scheme != 'http' or parts.hostname != '127.0.0.1' or parts.query or parts.fragment \
-            or parts.username or port == 0:
+    if (
+        parts.scheme != 'http'
+        or parts.hostname != '127.0.0.1'
+        or parts.query
+        or parts.fragment
+        or parts.username
+        or port == 0
+    ):
         raise Usage('a redirect is an address of this machine, such as http://127.0.0.1:8771/')
     return port or 0, parts.path or '/'
 
@@ -161,7 +185,7 @@ class Handler(http.server.BaseHTTPRequestHandler):
     timeout = SLOW
     server_version, sys_version = 'yoke', ''
 
-    def log_message(self, format: str, *args: Any) -> None:    # pylint: disable=redefined-builtin
+    def log_message(self, format: str, *args: Any) -> None:  # pylint: disable=redefined-builtin
         """Keeps no log: the code stands in the address."""
 
     def answer(self) -> None:

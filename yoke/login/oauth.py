@@ -1,7 +1,8 @@
 """OAuth 2 for a program on the user's machine: the code flow with PKCE (RFC 6749, 7636, 8252).
 
 The program has no secret. It proves by a `verifier`, which leaves this machine only with the
-exchange, that the code is the one it asked for, and by a `state` that the answer is to its question.
+exchange, that the code is the one it asked for, and by a `state` that the answer is to its
+question.
 """
 import base64
 import hashlib
@@ -16,8 +17,8 @@ from yoke import web, words
 from yoke.extracts import header
 from yoke.trouble import NoAnswer, Refused, ServerRefused, Trouble
 
-WRITE, READ = 'read_prefs write_api', 'read_prefs'      # what is asked for
-OUT_OF_BAND = 'urn:ietf:wg:oauth:2.0:oob'               # the page shows the code, to be copied
+WRITE, READ = 'read_prefs write_api', 'read_prefs'  # what is asked for
+OUT_OF_BAND = 'urn:ietf:wg:oauth:2.0:oob'  # the page shows the code, to be copied
 METADATA = '/.well-known/oauth-authorization-server'
 CAUSES = {
     'access_denied': 'you, or the server, said no',
@@ -31,8 +32,9 @@ CAUSES = {
 
 @dataclass(frozen=True)
 class Endpoints:
-    """Where a server logs people in. `revoke` is empty if it can't take a token back; `tells_issuer`
-    is whether its answers name it, so that they have to."""
+    """Where a server logs people in. `revoke` is empty if it can't take a token back;
+    `tells_issuer` is whether its answers name it, so that they have to.
+    """
 
     issuer: str
     authorize: str
@@ -54,10 +56,21 @@ class Request:
 
     def address(self) -> str:
         """The address that the user opens in a browser. No secret is in it."""
-        return self.endpoints.authorize + '?' + urllib.parse.urlencode({
-            'response_type': 'code', 'client_id': self.client_id, 'redirect_uri': self.redirect,
-            'scope': self.scope, 'state': self.state, 'code_challenge': challenge(self.verifier),
-            'code_challenge_method': 'S256'})
+        return (
+            self.endpoints.authorize
+            + '?'
+            + urllib.parse.urlencode(
+                {
+                    'response_type': 'code',
+                    'client_id': self.client_id,
+                    'redirect_uri': self.redirect,
+                    'scope': self.scope,
+                    'state': self.state,
+                    'code_challenge': challenge(self.verifier),
+                    'code_challenge_method': 'S256',
+                }
+            )
+        )
 
 
 @dataclass(frozen=True)
@@ -79,23 +92,34 @@ def discover(base: str) -> Endpoints:
     """The endpoints of a website: by its metadata (RFC 8414) if it has any, else the usual ones.
     Trouble if the metadata names another server."""
     base = base.rstrip('/')
-    usual = Endpoints(base, base + '/oauth2/authorize', base + '/oauth2/token',
-                      base + '/oauth2/revoke')
+    usual = Endpoints(
+        base, base + '/oauth2/authorize', base + '/oauth2/token', base + '/oauth2/revoke'
+    )
     answer = web.get(base + METADATA)
     found = table_of(answer.text) if answer.status == 200 else None
     if found is None:
         return usual
-    authorize, token, revoked = (str(found.get(name) or '') for name in (
-        'authorization_endpoint', 'token_endpoint', 'revocation_endpoint'))
+    authorize, token, revoked = (
+        str(found.get(name) or '')
+        for name in ('authorization_endpoint', 'token_endpoint', 'revocation_endpoint')
+    )
     ends = [authorize, token] + ([revoked] if revoked else [])
     if str(found.get('issuer')).rstrip('/') != base or any(
-            origin(end) != origin(base) for end in ends):
-        raise Trouble(f'the metadata of {base} names another server: is it the website of this map?')
+        origin(end) != origin(base) for end in ends
+    ):
+        raise Trouble(
+            f'the metadata of {base} names another server: is it the website of this map?'
+        )
     methods = found.get('code_challenge_methods_supported')
     if methods is not None and 'S256' not in methods:
         raise Trouble(f'{base} doesn\'t take S256, without which a login isn\'t safe')
-    return Endpoints(base, authorize, token, revoked,
-                     bool(found.get('authorization_response_iss_parameter_supported')))
+    return Endpoints(
+        base,
+        authorize,
+        token,
+        revoked,
+        bool(found.get('authorization_response_iss_parameter_supported')),
+    )
 
 
 def origin(address: str) -> str:
@@ -105,12 +129,20 @@ def origin(address: str) -> str:
 
 
 def exchange(request: Request, code: str) -> Granted:
-    """The token for a code. Refused if the server doesn't give it, or gives fewer rights. No message
-    has the code, the verifier or the token in it."""
-    answer = web.post_form(request.endpoints.token, {
-        'grant_type': 'authorization_code', 'code': code, 'redirect_uri': request.redirect,
-        'client_id': request.client_id, 'code_verifier': request.verifier},
-        {'Accept': 'application/json'})
+    """The token for a code. Refused if the server doesn't give it, or gives fewer rights. No
+    message has the code, the verifier or the token in it.
+    """
+    answer = web.post_form(
+        request.endpoints.token,
+        {
+            'grant_type': 'authorization_code',
+            'code': code,
+            'redirect_uri': request.redirect,
+            'client_id': request.client_id,
+            'code_verifier': request.verifier,
+        },
+        {'Accept': 'application/json'},
+    )
     found = table_of(answer.text) or {}
     if answer.status != 200:
         raise refused(answer.status, found)
@@ -121,8 +153,10 @@ def exchange(request: Request, code: str) -> Granted:
     missing = sorted(set(request.scope.split()) - set(scope.split()))
     if missing:
         revoke(request.endpoints.revoke, request.client_id, token)
-        raise Refused(f'the login lacks the right {", ".join(missing)}: log in again and allow all, '
-                      'or ask for less by --read-only')
+        raise Refused(
+            f'the login lacks the right {", ".join(missing)}: log in again and allow all, '
+            'or ask for less by --read-only'
+        )
     return Granted(token, scope, end_of(found.get('expires_in')))
 
 
@@ -163,8 +197,9 @@ def revoke(endpoint: str, client_id: str, token: str) -> bool:
     """Takes a token back; whether the server did it. NoAnswer if nobody knows."""
     if not endpoint:
         return False
-    answer = web.post_form(endpoint, {'token': token, 'client_id': client_id,
-                                      'token_type_hint': 'access_token'})
+    answer = web.post_form(
+        endpoint, {'token': token, 'client_id': client_id, 'token_type_hint': 'access_token'}
+    )
     if answer.status >= 500:
         raise NoAnswer(f'{web.host(endpoint)} answers {answer.status}: the token may still be good')
     return answer.status == 200

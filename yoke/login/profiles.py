@@ -48,8 +48,13 @@ class Profile:
 
     def options(self) -> Dict[str, Any]:
         """What it says as values of options, by the names that argparse has for these."""
-        named = {'api': self.server, 'comment': self.comment, 'source': self.source,
-                 'chunk': self.chunk, 'account': self.account}
+        named = {
+            'api': self.server,
+            'comment': self.comment,
+            'source': self.source,
+            'chunk': self.chunk,
+            'account': self.account,
+        }
         return {name: value for name, value in named.items() if value}
 
 
@@ -66,16 +71,20 @@ def read(name: str) -> Profile:
     try:
         tables = tomllib.loads(file.read_text(encoding='utf-8'))
     except FileNotFoundError:
-        raise Trouble(f'there is no profile {name}: write [{name}] into {file}, with a line '
-                      'server = "ADDRESS"') from None
+        raise Trouble(
+            f'there is no profile {name}: write [{name}] into {file}, with a line '
+            'server = "ADDRESS"'
+        ) from None
     except UnicodeDecodeError:
         raise Trouble(f'{file} isn\'t UTF-8') from None
     except tomllib.TOMLDecodeError as fault:
         raise Trouble(f'{file} is no TOML: {fault}') from None
     loose = sorted(key for key, value in tables.items() if not isinstance(value, dict))
     if loose:
-        raise Trouble(f'{file}: {words.cut(loose[0], 40)} stands above the first [PROFILE]: '
-                      'put it under one')
+        raise Trouble(
+            f'{file}: {words.cut(loose[0], 40)} stands above the first [PROFILE]: '
+            'put it under one'
+        )
     if name not in tables:
         there = ', '.join(words.cut(one, 64) for one in tables) or 'none'
         raise Trouble(f'there is no profile {name} in {file}: there are {there}')
@@ -88,12 +97,16 @@ def checked(file: pathlib.Path, name: str, table: Dict[str, Any]) -> Profile:
     for key, value in table.items():
         where = f'{file}, [{name}]'
         if key in SECRETS:
-            raise Trouble(f'{where}: a {key} doesn\'t belong into this file: take it out; '
-                          'yoke login keeps the token')
+            raise Trouble(
+                f'{where}: a {key} doesn\'t belong into this file: take it out; '
+                'yoke login keeps the token'
+            )
         if key not in types:
-            raise Trouble(f'{where}: {words.cut(key, 40)} is no key of a profile: there are '
-                          f'{", ".join(types)}')
-        if type(value) is not types[key]:       # a boolean is an int, too
+            raise Trouble(
+                f'{where}: {words.cut(key, 40)} is no key of a profile: there are '
+                f'{", ".join(types)}'
+            )
+        if type(value) is not types[key]:  # a boolean is an int, too
             kinds = {str: 'a text in quotes', int: 'a number', bool: 'true or false'}
             raise Trouble(f'{where}: {key} wants {kinds[types[key]]}')
     if not 0 <= table.get('chunk', 1) <= 10_000 or table.get('chunk') == 0:

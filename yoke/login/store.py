@@ -18,7 +18,7 @@ from yoke.extracts import header
 from yoke.login import places
 from yoke.trouble import Refused, Trouble
 
-SERVICE = 'yoke'        # under which name a keyring has it
+SERVICE = 'yoke'  # under which name a keyring has it
 
 
 @dataclass(frozen=True)
@@ -73,7 +73,7 @@ def read(server: str, profile: str = '') -> Optional[Login]:
     except (ValueError, TypeError):
         raise Trouble(f'{file} is broken: remove it, and log in again') from None
     if login.server != server:
-        return None         # the profile was of another server then
+        return None  # the profile was of another server then
     if login.expires and login.expires <= header.stamp(time.time()):
         raise Refused(f'the login of {login.expires} is over: yoke logout, and yoke login')
     if login.in_keyring:
@@ -128,11 +128,12 @@ def remove(server: str, profile: str = '') -> bool:
 def keyring() -> Any:
     """The module keyring; Trouble if it isn't there, or if the desktop has no keyring."""
     try:
-        import keyring as ring      # pylint: disable=import-outside-toplevel
-        import keyring.errors       # pylint: disable=import-outside-toplevel,unused-import
+        import keyring as ring  # pylint: disable=import-outside-toplevel
+        import keyring.errors  # pylint: disable=import-outside-toplevel,unused-import
     except ImportError:
-        raise Trouble('a keyring wants the package keyring '
-                      '(Debian: apt-get install python3-keyring)') from None
+        raise Trouble(
+            'a keyring wants the package keyring ' '(Debian: apt-get install python3-keyring)'
+        ) from None
     if ring.get_keyring().priority < 1:
         raise Trouble('there is no keyring that is safe here: log in without --keyring')
     return ring

@@ -14,9 +14,10 @@ Note = Callable[[str], object]
 class ObjectHistory:
     """One object of the changesets.
 
-    `before` is what was there before the first of their changes, and None where they made the object. `after` is what the
-    last of their changes left. `now` is what the server has. Deleted versions count as objects that are marked deleted.
-    `first` and `last` are the versions that the changesets made, in a row.
+    `before` is what was there before the first of their changes, and None where they made the
+    object. `after` is what the last of their changes left. `now` is what the server has. Deleted
+    versions count as objects that are marked deleted. `first` and `last` are the versions that the
+    changesets made, in a row.
     """
 
     key: str
@@ -44,7 +45,9 @@ class ObjectHistory:
 
 @dataclass
 class History:
-    """What changesets did: the objects by key, why some can't go back, and what a user ought to know."""
+    """What changesets did: the objects by key, why some can't go back, and what a user ought to
+    know.
+    """
 
     objects: dict[str, ObjectHistory] = field(default_factory=dict)
     left_out: dict[str, str] = field(default_factory=dict)
@@ -57,7 +60,9 @@ def living(thing: opl.Object | None) -> opl.Object | None:
 
 
 def read(server: Server, numbers: Iterable[str], note: Note = lambda text: None) -> History:
-    """What the changesets with these numbers did, together as one. `note` gets a line of progress now and then."""
+    """What the changesets with these numbers did, together as one. `note` gets a line of progress
+    now and then.
+    """
     history = History()
     changes: list[tuple[str, opl.Object]] = []
     for number in numbers:
@@ -84,24 +89,32 @@ def _changes_of(server: Server, number: str, history: History) -> list[tuple[str
     """The changes of one changeset, with a note where the server doesn't show all of them."""
     count, is_open = server.changeset(number)
     if is_open:
-        history.notes.append(f'changeset {number} is still open: what is added to it later isn\'t taken back')
+        history.notes.append(
+            f'changeset {number} is still open: what is added to it later isn\'t taken back'
+        )
     changes = server.changes(number)
     if len(changes) != count:
         history.notes.append(
-            f'changeset {number} counts {count} changes, and the server shows {len(changes)}: some may be redacted')
+            f'changeset {number} counts {count} changes, and the server shows {len(changes)}: some may be redacted'
+        )
     return changes
 
 
 def _by_object(changes: list[tuple[str, opl.Object]], history: History) -> dict[str, ObjectHistory]:
     """The changes object by object.
 
-    Where somebody else changed an object between two changes of the changesets, only the last row of versions counts: what
-    lies before it was seen, and kept, by the one in between.
+    Where somebody else changed an object between two changes of the changesets, only the last row
+    of versions counts: what lies before it was seen, and kept, by the one in between.
     """
     versions: dict[str, dict[int, opl.Object]] = {}
     for verb, thing in changes:
-        left = opl.Object(thing.key, thing.version, True, thing.changeset, thing.time, thing.uid, thing.user) \
-            if verb == 'delete' else thing
+        left = (
+            opl.Object(
+                thing.key, thing.version, True, thing.changeset, thing.time, thing.uid, thing.user
+            )
+            if verb == 'delete'
+            else thing
+        )
         versions.setdefault(thing.key, {})[thing.version] = left
     objects = {}
     for key, made in versions.items():
@@ -109,7 +122,9 @@ def _by_object(changes: list[tuple[str, opl.Object]], history: History) -> dict[
         while first - 1 in made:
             first -= 1
         if first != min(made):
-            history.notes.append(f'{key}: others changed it between two changes of these changesets; '
-                                 f'only what came after them is taken back')
+            history.notes.append(
+                f'{key}: others changed it between two changes of these changesets; '
+                f'only what came after them is taken back'
+            )
         objects[key] = ObjectHistory(key, made[last], first, last)
     return objects

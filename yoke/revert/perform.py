@@ -14,7 +14,7 @@ from yoke.revert.history import History
 from yoke.revert.plan import Plan
 from yoke.trouble import Refused
 
-MARK = 'yoke:revert'        # a tag of deleted objects while they come back; nothing of it is left in the session
+MARK = 'yoke:revert'  # a tag of deleted objects while they come back; nothing of it is left in the session
 
 
 @dataclass
@@ -27,7 +27,9 @@ class Reverted:
 
 @dataclass
 class Outcome:
-    """What became of the objects: counts by name, those that were joined with what others did, and the conflicts."""
+    """What became of the objects: counts by name, those that were joined with what others did, and
+    the conflicts.
+    """
 
     counts: Counter[str] = field(default_factory=Counter)
     joined: list[saved.Known] = field(default_factory=list)
@@ -36,7 +38,9 @@ class Outcome:
 
 
 def perform(program: Program, plan: Plan) -> Reverted:
-    """The saved sessions before and after; Refused where the program refuses a step. `plan.left_out` gets what can't be done."""
+    """The saved sessions before and after; Refused where the program refuses a step.
+    `plan.left_out` gets what can't be done.
+    """
     with tempfile.TemporaryDirectory(prefix='yoke-') as folder:
         base, news = (pathlib.Path(folder, name) for name in ('base.opl', 'news.opl'))
         _write(base, plan.base.values())
@@ -50,13 +54,19 @@ def perform(program: Program, plan: Plan) -> Reverted:
         lines += [*steps, 'end']
         lines += [_download(news)] if plan.news else []
         if marked:
-            lines += ['begin', *(f'resolve {key} mine' for key in sorted(plan.restored, key=opl.rank)),
-                      f'tag {marked} T{opl.quote(MARK)}=', 'end']
+            lines += [
+                'begin',
+                *(f'resolve {key} mine' for key in sorted(plan.restored, key=opl.rank)),
+                f'tag {marked} T{opl.quote(MARK)}=',
+                'end',
+            ]
         return Reverted(before, _run(program, [*lines, 'save']).saved())
 
 
 def _steps(plan: Plan, there: table.Table) -> list[str]:
-    """The lines of the edits; what can't be done is left out by itself, with all that rests on it, and named."""
+    """The lines of the edits; what can't be done is left out by itself, with all that rests on it,
+    and named.
+    """
     edits = plan.edits
     while True:
         found = foreign.plan(edits, there, again=True)
@@ -75,7 +85,9 @@ def _download(path: pathlib.Path) -> str:
 
 
 def _write(path: pathlib.Path, things: Iterable[opl.Object]) -> None:
-    lines = (opl.line(thing) + '\n' for thing in sorted(things, key=lambda thing: opl.rank(thing.key)))
+    lines = (
+        opl.line(thing) + '\n' for thing in sorted(things, key=lambda thing: opl.rank(thing.key))
+    )
     path.write_text(''.join(lines), encoding='utf-8')
 
 

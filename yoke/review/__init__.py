@@ -1,1 +1,3 @@
-"""What `yoke review` shows and does: the edits of a session as items, decisions, their script, and the page."""
+"""What `yoke review` shows and does: the edits of a session as items, decisions, their script, and
+the page.
+"""

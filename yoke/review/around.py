@@ -1,4 +1,6 @@
-"""What lies around the edits: the objects of a session as the server has them, by cells, for the background of a map."""
+"""What lies around the edits: the objects of a session as the server has them, by cells, for the
+background of a map.
+"""
 
 import array
 import math
@@ -48,7 +50,9 @@ class Around:
                 self._cells.setdefault((column, row), []).append(number)
 
     def within(self, box: Box) -> Dict[str, Any]:
-        """The objects that touch a box, as [kind, name, lon, lat, ..], and whether there are more than were given."""
+        """The objects that touch a box, as [kind, name, lon, lat, ..], and whether there are more
+        than were given.
+        """
         west, south, east, north = box
         if not all(map(math.isfinite, box)):
             raise ValueError('a box has four numbers')

@@ -1,11 +1,13 @@
 """Decisions as they are made, in a file that outlives the page, the server and the session.
 
-The file has a line of JSON for each decision, and the last one on an object counts. A line is on the disk before the page
-hears that it is kept, and no line is ever changed: whatever stops the machine costs at most the decision under way.
+The file has a line of JSON for each decision, and the last one on an object counts. A line is on
+the disk before the page hears that it is kept, and no line is ever changed: whatever stops the
+machine costs at most the decision under way.
 
-A decision holds for what an object was when it was made: `of` is a digest of its base, of what it is here, of what it is
-in conflict with, and of the corners that are decided with it. What was edited since is to be decided anew. After a part of
-the edits was sent a new object has another key, so the digest names it by its first one, which `Renames` knows.
+A decision holds for what an object was when it was made: `of` is a digest of its base, of what it
+is here, of what it is in conflict with, and of the corners that are decided with it. What was
+edited since is to be decided anew. After a part of the edits was sent a new object has another key,
+so the digest names it by its first one, which `Renames` knows.
 """
 
 import fcntl
@@ -29,7 +31,9 @@ Decision = Tuple[str, str]  # the key of an item, and how it is decided
 
 
 class Renames:
-    """The keys that new objects had before the server gave them others, by the answers that a day has."""
+    """The keys that new objects had before the server gave them others, by the answers that a day
+    has.
+    """
 
     def __init__(self, folder: Optional[pathlib.Path] = None):
         self.first: Dict[str, str] = {}
@@ -66,8 +70,9 @@ def of_text(text: str) -> str:
 class Decisions:
     """The decisions on items.
 
-    `how` has them by key: `accepted`, `rejected`, `without K..` (accepted, but for these tags), the words of a `resolve`
-    line after the key, or the answer to a question. `stale` counts objects of which all decisions are of other contents.
+    `how` has them by key: `accepted`, `rejected`, `without K..` (accepted, but for these tags), the
+    words of a `resolve` line after the key, or the answer to a question. `stale` counts objects of
+    which all decisions are of other contents.
     """
 
     def __init__(self, path: str, digests: Mapping[str, str]):
@@ -101,9 +106,11 @@ class Decisions:
             del self.after[key]
 
     def open(self) -> None:
-        """Opens the file to decide in it, alone: Busy where another review does, Refused where it is another file.
+        """Opens the file to decide in it, alone: Busy where another review does, Refused where it
+        is another file.
 
-        Half a line, of a machine that stopped, stays where it is and is ended: so the next one is whole.
+        Half a line, of a machine that stopped, stays where it is and is ended: so the next one is
+        whole.
         """
         is_new = not os.path.exists(self.path)
         self._file = file = open(self.path, 'ab+')
@@ -140,7 +147,8 @@ class Decisions:
             self._take(key, how)
 
     def note_after(self, digests: Mapping[str, str]) -> None:
-        """Notes objects as accepted with contents that they don't have yet: those after the script of the review.
+        """Notes objects as accepted with contents that they don't have yet: those after the script
+        of the review.
 
         What was noted so before, and isn't any more, is undecided again.
         """
@@ -174,9 +182,11 @@ def _ends_line(file: IO[bytes]) -> bool:
 
 
 def read(path: str) -> Iterator[Tuple[str, str, str, bool]]:
-    """The decisions of a file in their order: key, digest, how, and whether it is on what a script makes. None where there is no file.
+    """The decisions of a file in their order: key, digest, how, and whether it is on what a script
+    makes. None where there is no file.
 
-    What is no decision is passed over, such as half a line of a machine that stopped; Refused where the file is another one.
+    What is no decision is passed over, such as half a line of a machine that stopped; Refused where
+    the file is another one.
     """
     try:
         with open(path, 'rb') as file:

@@ -17,15 +17,18 @@ from yoke import opl
 from yoke.saved import Known
 from yoke.table import Table
 
-USERS = 'find way and parent ( node and changed )'  # asks for the ways through nodes that were edited
+USERS = (
+    'find way and parent ( node and changed )'  # asks for the ways through nodes that were edited
+)
 
 
 @dataclass
 class Edits:
     """All edits of a session, and what of them is decided as one.
 
-    `edits` has each edited object, corners too. `items` are the keys to decide on, by rank; `moved` those of them that are
-    ways of which corners alone were moved. `corners` has, by the key of a way, the corners that are decided with it.
+    `edits` has each edited object, corners too. `items` are the keys to decide on, by rank; `moved`
+    those of them that are ways of which corners alone were moved. `corners` has, by the key of a
+    way, the corners that are decided with it.
     """
 
     table: Table
@@ -35,7 +38,9 @@ class Edits:
     corners: Dict[str, List[str]] = field(default_factory=dict)
     is_corner: Set[str] = field(default_factory=set)
     users_of: Dict[str, List[str]] = field(default_factory=dict)  # edited ones that refer to it now
-    based_on: Dict[str, List[str]] = field(default_factory=dict)  # edited ones whose base refers to it
+    based_on: Dict[str, List[str]] = field(
+        default_factory=dict
+    )  # edited ones whose base refers to it
 
     def known(self, key: str) -> Known:
         """The object of an item."""
@@ -53,7 +58,9 @@ class Edits:
 
 
 def collect(table: Table, users: Iterable[str]) -> Edits:
-    """The edits of a session; `users` are the ways through nodes that were edited, which `USERS` finds."""
+    """The edits of a session; `users` are the ways through nodes that were edited, which `USERS`
+    finds.
+    """
     edits = {
         key: known for key, known in table.things.items() if known.edit or known.conflict != 'none'
     }
@@ -77,7 +84,9 @@ def _is_bare(known: Known) -> bool:
 
 
 def _corners(found: Edits) -> List[str]:
-    """Puts new and deleted corners to the ways with which they are decided; the keys of those that were moved."""
+    """Puts new and deleted corners to the ways with which they are decided; the keys of those that
+    were moved.
+    """
     moved = []
     for key, known in found.edits.items():
         if not _is_bare(known):
@@ -95,7 +104,9 @@ def _corners(found: Edits) -> List[str]:
 
 
 def _moved(found: Edits, moved: List[str], users: Iterable[str]) -> None:
-    """Puts each corner that was moved to the way through it that has most such corners, of several to an edited one."""
+    """Puts each corner that was moved to the way through it that has most such corners, of several
+    to an edited one.
+    """
     through: Dict[str, List[str]] = defaultdict(list)
     for way in users:
         mine = found.table.mine(way)

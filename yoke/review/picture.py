@@ -1,4 +1,6 @@
-"""The edits of a session as one picture, an SVG: what lies around, what was there before, and what is there now."""
+"""The edits of a session as one picture, an SVG: what lies around, what was there before, and what
+is there now.
+"""
 
 import html
 import math
@@ -29,7 +31,12 @@ COLORS = {
     'deleted': '#d55e00',
     'conflict': '#a03a86',
 }
-WORDS = [('new', 'new'), ('changed', 'changed'), ('deleted', 'deleted'), ('conflict', 'in conflict')]
+WORDS = [
+    ('new', 'new'),
+    ('changed', 'changed'),
+    ('deleted', 'deleted'),
+    ('conflict', 'in conflict'),
+]
 
 Point = Tuple[float, float]
 Box = Tuple[float, float, float, float]
@@ -38,9 +45,9 @@ Box = Tuple[float, float, float, float]
 def _plane(lon: float, lat: float) -> Point:
     """A place on a map of the world by Mercator that is 1 wide."""
     bounded = max(-85.0, min(85.0, lat))
-    return (lon + 180) / 360, 0.5 - math.log(
-        math.tan(math.pi / 4 + math.radians(bounded) / 2)
-    ) / (2 * math.pi)
+    return (lon + 180) / 360, 0.5 - math.log(math.tan(math.pi / 4 + math.radians(bounded) / 2)) / (
+        2 * math.pi
+    )
 
 
 class View:
@@ -51,9 +58,7 @@ class View:
         points = [_plane(*place) for place in places] or [(0.5, 0.5)]
         columns, rows = zip(*points)
         wide, high = max(columns) - min(columns), max(rows) - min(rows)
-        self.scale = min(
-            (WIDE - 2 * EDGE) / max(wide, LEAST), (HIGH - 2 * EDGE) / max(high, LEAST)
-        )
+        self.scale = min((WIDE - 2 * EDGE) / max(wide, LEAST), (HIGH - 2 * EDGE) / max(high, LEAST))
         self.middle = ((max(columns) + min(columns)) / 2, (max(rows) + min(rows)) / 2)
         lons, lats = zip(*places) if places else ((0.0,), (0.0,))
         more = 40 / self.scale * 360  # degrees beside the edits from which things are drawn
@@ -117,11 +122,16 @@ def _item(item: Item, view: View, is_named: bool) -> Iterator[str]:
     yield f'<g><title>{_text(": ".join(filter(None, [item["key"], item["kind"], item["title"]])))}</title>'
     if item['before'] and item['after'] and _differs(item):
         yield from _side(item['before'], view, COLORS['deleted'], 'stroke-dasharray="7 5"', 6)
-    side: Optional[Dict[str, List[List[float]]]] = item['after'] or item['before'] or item.get('theirs')
+    side: Optional[Dict[str, List[List[float]]]] = (
+        item['after'] or item['before'] or item.get('theirs')
+    )
     dash = 'stroke-dasharray="7 5"' if edit == 'deleted' else ''
     if side:
         yield from _side(side, view, COLORS[edit], dash, 4)
-        first = next((place for place in _places({**item, 'before': None, 'theirs': None, 'after': side})), None)
+        first = next(
+            (place for place in _places({**item, 'before': None, 'theirs': None, 'after': side})),
+            None,
+        )
         if is_named and first:
             column, row = view.at(*first).split(',')
             yield f'<text x="{float(column) + 7:.1f}" y="{float(row) - 6:.1f}" fill="{COLORS[edit]}" stroke="#fff" stroke-width="3" paint-order="stroke">{_text(item["key"])}</text>'
@@ -156,4 +166,10 @@ def _legend(items: List[Item]) -> Iterator[str]:
 
 def _text(text: str) -> str:
     """A text as XML can have it, in one line."""
-    return html.escape(re.sub('[\x00-\x1f\x7f-\x9f\u200e\u200f\u202a-\u202e\u2066-\u2069\ud800-\udfff\ufffe\uffff]', '?', text))
+    return html.escape(
+        re.sub(
+            '[\x00-\x1f\x7f-\x9f\u200e\u200f\u202a-\u202e\u2066-\u2069\ud800-\udfff\ufffe\uffff]',
+            '?',
+            text,
+        )
+    )

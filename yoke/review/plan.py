@@ -1,14 +1,16 @@
-"""Decisions on edits become a script: rejected edits are undone, conflicts are resolved, all or nothing.
+"""Decisions on edits become a script: rejected edits are undone, conflicts are resolved, all or
+nothing.
 
-A rejected edit is undone by `purge` and a `download` of its base: so all of it comes back as the server had it, a deletion
-too, for which a script has no other line. What can't stay without it is rejected with it (`yoke.groups.follows`), and so are
+A rejected edit is undone by `purge` and a `download` of its base: so all of it comes back as the
+server had it, a deletion too, for which a script has no other line. What can't stay without it is
+rejected with it (`yoke.groups.follows`), and so are
 
 - the other parts of one split, combine or reverse (`yoke.groups.belongs`);
 - of a deletion, the changes that took the object out of others;
 - the corners of a way that were moved, and new corners that nothing uses any more.
 
-That is less than a whole group of `yoke.groups`: a new node stays though the way that uses it is rejected.
-A single tag that is rejected gets the value that it had, after that.
+That is less than a whole group of `yoke.groups`: a new node stays though the way that uses it is
+rejected. A single tag that is rejected gets the value that it had, after that.
 """
 
 from collections import defaultdict, deque
@@ -23,7 +25,9 @@ Followers = Mapping[str, Set[str]]
 
 @dataclass
 class Undo:
-    """What is undone: the key of each rejected object, with the key for which it is, itself where somebody said so."""
+    """What is undone: the key of each rejected object, with the key for which it is, itself where
+    somebody said so.
+    """
 
     because: Dict[str, str] = field(default_factory=dict)
 
@@ -45,7 +49,9 @@ def followers(found: Edits) -> Followers:
 
 
 def closure(found: Edits, rejected: Iterable[str], after: Followers) -> Undo:
-    """What is rejected with the items that somebody rejects. Conflicts are none of it: they are resolved."""
+    """What is rejected with the items that somebody rejects. Conflicts are none of it: they are
+    resolved.
+    """
     because: Dict[str, str] = {}
     queue: Deque[str] = deque()
 
@@ -79,8 +85,9 @@ def closure(found: Edits, rejected: Iterable[str], after: Followers) -> Undo:
 
 @dataclass
 class Plan:
-    """What decisions come to: the keys that are undone, by each key why; how each conflict ends, as the words of `resolve`;
-    and which tags of which objects are rejected."""
+    """What decisions come to: the keys that are undone, by each key why; how each conflict ends, as
+    the words of `resolve`; and which tags of which objects are rejected.
+    """
 
     undo: Undo
     resolved: Dict[str, str]
@@ -90,8 +97,9 @@ class Plan:
 def lines_of(found: Edits, plan: Plan, base_file: str, first: str = 'undo') -> List[str]:
     """The lines of the script, of which `base_file` is the file that it downloads.
 
-    Mostly what is undone comes `first`: theirs may refer to what was deleted here. Where an object in conflict uses a new
-    one that is rejected, its `resolve` has to come first; so the caller tries both.
+    Mostly what is undone comes `first`: theirs may refer to what was deleted here. Where an object
+    in conflict uses a new one that is rejected, its `resolve` has to come first; so the caller
+    tries both.
     """
     gone = sorted(plan.undo.because, key=opl.rank)
     undone = ['purge ' + ','.join(gone)] if gone else []
@@ -99,7 +107,9 @@ def lines_of(found: Edits, plan: Plan, base_file: str, first: str = 'undo') -> L
         undone.append('download ' + opl.escape(base_file))
     settled = [f'resolve {key} {plan.resolved[key]}' for key in sorted(plan.resolved, key=opl.rank)]
     ordered = undone + settled if first == 'undo' else settled + undone
-    lines = ordered + [_tag_line(found, key, plan.tags[key]) for key in sorted(plan.tags, key=opl.rank)]
+    lines = ordered + [
+        _tag_line(found, key, plan.tags[key]) for key in sorted(plan.tags, key=opl.rank)
+    ]
     return ['begin', *lines, 'end'] if lines else []
 
 

@@ -1,4 +1,6 @@
-"""A review of the last session of a day: its items, the decisions on them, and the script that they become."""
+"""A review of the last session of a day: its items, the decisions on them, and the script that they
+become.
+"""
 
 import csv
 import io
@@ -52,9 +54,7 @@ class Questions:
             self.asked: List[Dict[str, Any]] = json.loads(path.read_text(encoding='utf-8'))
             self.by_key = {str(one['feature']): one for one in self.asked}
         except FileNotFoundError:
-            raise Trouble(
-                f'there is no file {path}: yoke conflate --to {name} writes it'
-            ) from None
+            raise Trouble(f'there is no file {path}: yoke conflate --to {name} writes it') from None
         except (ValueError, KeyError, TypeError):
             raise Trouble(f'{path} has no questions of yoke conflate') from None
 
@@ -140,7 +140,9 @@ class Review:
         return None
 
     def _check_tags(self, key: str, how: str) -> None:
-        """ValueError unless these are tags that were changed, and that a `tag` line can give the value that they had."""
+        """ValueError unless these are tags that were changed, and that a `tag` line can give the
+        value that they had.
+        """
         names, known = tags_of(how), self.found.known(key)
         if not names or len(set(names)) < len(names) or not known.mine:
             raise ValueError(f'{how} is no decision on {key}')
@@ -150,7 +152,9 @@ class Review:
                 raise ValueError(f'the tag {name} of {key} can\'t be rejected alone')
 
     def decide(self, pairs: List[Decision]) -> None:
-        """Takes decisions, all or none; they are on the disk when this returns. ValueError where one is none."""
+        """Takes decisions, all or none; they are on the disk when this returns. ValueError where
+        one is none.
+        """
         for key, how in pairs:
             self.check(key, how)
         with self.lock:
@@ -169,7 +173,9 @@ class Review:
         return {key: why for key, why in self.because.items() if how.get(key) != REJECTED}
 
     def state_of(self, key: str) -> str:
-        """`accepted`, `rejected`, or `undecided`; a conflict that is resolved, and a question that is answered, count as accepted."""
+        """`accepted`, `rejected`, or `undecided`; a conflict that is resolved, and a question that
+        is answered, count as accepted.
+        """
         how = self.decisions.how.get(key, UNDECIDED)
         if key in self.because or how in (REJECTED, 'skip'):
             return REJECTED
@@ -184,9 +190,11 @@ class Review:
         return Counter(self.state_of(key) for key in self.keys())
 
     def accepted(self) -> Set[str]:
-        """The keys of the edits that are accepted as they are, corners too. What they need is accepted too.
+        """The keys of the edits that are accepted as they are, corners too. What they need is
+        accepted too.
 
-        A conflict isn't among them, nor an object of which a tag is rejected: the script changes these.
+        A conflict isn't among them, nor an object of which a tag is rejected: the script changes
+        these.
         """
         how = self.decisions.how
         found = self._with_corners({key for key in self.found.items if how.get(key) == ACCEPTED})
@@ -197,7 +205,9 @@ class Review:
         return {part for key in items for part in self.found.parts_of(key)} - set(self.because)
 
     def undecided(self) -> Set[str]:
-        """The keys of the edits on which nobody decided, corners too if they belong to no accepted item."""
+        """The keys of the edits on which nobody decided, corners too if they belong to no accepted
+        item.
+        """
         found = {key for key in self.found.items if self.state_of(key) == UNDECIDED}
         return self._with_corners(found) - self.accepted()
 
@@ -230,7 +240,9 @@ class Review:
             }
 
     def ask_find(self, asked: Any) -> List[str]:
-        """The items that meet a query of the program; one by a corner is the item with which the corner is decided."""
+        """The items that meet a query of the program; one by a corner is the item with which the
+        corner is decided.
+        """
         query = asked['query']
         if not isinstance(query, str) or '\n' in query or '\0' in query:
             raise ValueError('a query is one line')
@@ -248,7 +260,9 @@ class Review:
         ]
 
     def ask_decide(self, asked: Any) -> Dict[str, Any]:
-        """Takes decisions; answers with all that were made since the page heard last, and with what is rejected with others."""
+        """Takes decisions; answers with all that were made since the page heard last, and with what
+        is rejected with others.
+        """
         pairs = [(key, how) for key, how in asked['decisions']]
         if not all(isinstance(word, str) for pair in pairs for word in pair):
             raise ValueError('a decision is a key and how')
@@ -279,7 +293,9 @@ class Review:
     # ---- the script ----
 
     def finish(self) -> str:
-        """Writes the script and the file beside it; says so. Refused where the decisions don't go together."""
+        """Writes the script and the file beside it; says so. Refused where the decisions don't go
+        together.
+        """
         self._check_last()
         one = self._plan()
         base_file = os.path.splitext(self.to)[0] + '.opl'
@@ -336,7 +352,9 @@ class Review:
         )
 
     def _tried(self, one: plan.Plan, base_file: str) -> Tuple[List[str], Answer]:
-        """The lines that the session takes, and its Answer to them; Impossible where it takes them in neither order."""
+        """The lines that the session takes, and its Answer to them; Impossible where it takes them
+        in neither order.
+        """
         conflicts = [key for key in self.found.items if self.found.known(key).conflict != 'none']
         left = len([key for key in conflicts if key not in one.resolved])
         refused: Optional[Reply] = None
@@ -357,9 +375,7 @@ class Review:
         with tempfile.TemporaryDirectory(prefix='yoke-') as folder:
             place = os.path.join(folder, 'review.opl')
             bases = plan.bases_of(self.found, one)
-            pathlib.Path(place).write_text(
-                ''.join(line + '\n' for line in bases), encoding='utf-8'
-            )
+            pathlib.Path(place).write_text(''.join(line + '\n' for line in bases), encoding='utf-8')
             steps = [
                 'download ' + opl.escape(place) if line.startswith('download ') else line
                 for line in lines
@@ -367,7 +383,8 @@ class Review:
             return self.session.ask([*steps, 'count', USERS, 'save'], allow_refused=True)
 
     def _accept_after(self, answer: Answer) -> None:
-        """Notes what accepted objects are after the script, where it changes them: that is what was decided on them.
+        """Notes what accepted objects are after the script, where it changes them: that is what was
+        decided on them.
 
         So nobody has to decide on a conflict again after it was resolved as decided.
         """
@@ -393,7 +410,8 @@ class Review:
 
 
 class ReviewedBy:
-    """How the edits of a session were reviewed, by a file of decisions, as `yoke.parts` asks for it.
+    """How the edits of a session were reviewed, by a file of decisions, as `yoke.parts` asks for
+    it.
 
     `counts` has how many items were accepted, rejected and not decided when it was asked last.
     """
@@ -424,6 +442,8 @@ def check_resolve(how: str) -> None:
 def digests_of(found: Edits, renames: Renames) -> Dict[str, str]:
     """What a decision on each item is about."""
     return {
-        key: digest(found.known(key), [found.edits[one] for one in found.corners.get(key, ())], renames)
+        key: digest(
+            found.known(key), [found.edits[one] for one in found.corners.get(key, ())], renames
+        )
         for key in found.items
     }

@@ -1,4 +1,5 @@
-"""The server behind the page of a review: on this machine, for whoever has its token, and for no other site.
+"""The server behind the page of a review: on this machine, for whoever has its token, and for no
+other site.
 
 | against | by |
 |---|---|
@@ -22,7 +23,12 @@ from typing import Any, Callable, Dict, Mapping, Optional, Tuple
 from yoke.trouble import Trouble, Usage
 
 PAGE = pathlib.Path(__file__).parent / 'page'
-KINDS = {'.html': 'text/html', '.js': 'text/javascript', '.css': 'text/css', '.svg': 'image/svg+xml'}
+KINDS = {
+    '.html': 'text/html',
+    '.js': 'text/javascript',
+    '.css': 'text/css',
+    '.svg': 'image/svg+xml',
+}
 MOST = 4 * 1024 * 1024  # bytes of a call
 SECONDS = 60  # a connection that says nothing for so long is closed
 
@@ -54,7 +60,11 @@ class Handler(http.server.BaseHTTPRequestHandler):
     def do_POST(self) -> None:
         """A call."""
         length = self.headers.get('Content-Length', '')
-        if self.headers.get('Transfer-Encoding') or not (length.isascii() and length.isdigit()) or int(length) > MOST:
+        if (
+            self.headers.get('Transfer-Encoding')
+            or not (length.isascii() and length.isdigit())
+            or int(length) > MOST
+        ):
             return self.end_with(413)
         body = self.rfile.read(int(length))
         if not self.is_asked_here():
@@ -98,11 +108,15 @@ class Handler(http.server.BaseHTTPRequestHandler):
     def send_error(
         self, code: int, message: Optional[str] = None, explain: Optional[str] = None
     ) -> None:
-        """What the base class answers to bad requests and other methods: the status alone, with the headers of all answers."""
+        """What the base class answers to bad requests and other methods: the status alone, with the
+        headers of all answers.
+        """
         self.end_with(code)
 
     def end_with(self, status: int) -> None:
-        """Answers with a status alone, after which the connection ends: what follows in it isn't read."""
+        """Answers with a status alone, after which the connection ends: what follows in it isn't
+        read.
+        """
         self.close_connection = True
         self.reply(status)
 
@@ -139,7 +153,9 @@ class Handler(http.server.BaseHTTPRequestHandler):
 
 
 class Server(http.server.ThreadingHTTPServer):
-    """Serves the page and its calls, functions by method and path. `address` is what to open, with the token."""
+    """Serves the page and its calls, functions by method and path. `address` is what to open, with
+    the token.
+    """
 
     daemon_threads = True
 
@@ -179,7 +195,9 @@ class Server(http.server.ThreadingHTTPServer):
 
 
 def tile_source(address: str) -> str:
-    """Where tiles come from, as a policy names it; empty without tiles, Usage where the address is none of tiles."""
+    """Where tiles come from, as a policy names it; empty without tiles, Usage where the address is
+    none of tiles.
+    """
     if not address:
         return ''
     wanted = ('{z}', '{x}', '{y}')
@@ -187,7 +205,9 @@ def tile_source(address: str) -> str:
     host = address.partition('://')[2].split('/')[0].replace('{s}', '*')
     is_clean = host and not set(host) & set(" ;,'\"{}@\\") and host.isprintable()
     if parts.scheme not in ('http', 'https') or not is_clean:
-        raise Usage(f'--tiles wants an address as https://HOST/{{z}}/{{x}}/{{y}}.png, and not {address}')
+        raise Usage(
+            f'--tiles wants an address as https://HOST/{{z}}/{{x}}/{{y}}.png, and not {address}'
+        )
     if not all(place in address for place in wanted):
         raise Usage(f'--tiles wants {{z}}, {{x}} and {{y}} in the address, and this is {address}')
     return f'{parts.scheme}://{host}'

@@ -1,4 +1,5 @@
-"""Items as the page and the picture have them: what they are called, what became of them, and where they are.
+"""Items as the page and the picture have them: what they are called, what became of them, and where
+they are.
 
 An item is a mapping of these names:
 
@@ -125,7 +126,9 @@ def _conflict(table: Table, known: Known, theirs: Side) -> Item:
 
 
 def clash_of(*there: Side) -> Tuple[List[str], str]:
-    """The tags that both sides changed, and not alike; and `place`, `nodes` or `members` if both changed that so."""
+    """The tags that both sides changed, and not alike; and `place`, `nodes` or `members` if both
+    changed that so.
+    """
     tags = [row[0] for row in _tags(*there) if row[0] is not None and _clashes(row[1:])]
     rows = [[name, *map(text, there)] for name, text in TEXTS if all(there)]
     part = next((str(row[0]) for row in rows if _clashes(row[1:])), '')
@@ -141,7 +144,9 @@ def _clashes(texts: List[Optional[str]]) -> bool:
 
 
 def _place_of(table: Table, thing: Side, is_before: bool) -> Optional[Item]:
-    """The lines and points of an object, by the places of its nodes before or after the edits; None where it isn't there."""
+    """The lines and points of an object, by the places of its nodes before or after the edits; None
+    where it isn't there.
+    """
     if thing is None:
         return None
     lines: List[List[float]] = []
@@ -223,7 +228,9 @@ def main_tag(names: List[str]) -> str:
 
 
 def questions(table: Table, asked: List[Item]) -> List[Item]:
-    """The items of features that may be one of several objects: a column of tags for the feature, and one for each object."""
+    """The items of features that may be one of several objects: a column of tags for the feature,
+    and one for each object.
+    """
     return [_question(table, one) for one in asked]
 
 

@@ -1,14 +1,15 @@
 """Scripts that are for one session alone: the lines that say so, and the check of them.
 
-A script that was made from a session is wrong over another one: its keys of new objects may name other objects, and what
-it takes back may be gone. So `review`, `conflate`, `tag --to` and `expand --session` begin what they write with
+A script that was made from a session is wrong over another one: its keys of new objects may name
+other objects, and what it takes back may be gone. So `review`, `conflate`, `tag --to` and `expand
+--session` begin what they write with
 
     # for session 3f0a9c12ab34cd56, 000007-do of day
     # with review.opl 90c1ff3a7b6e2d14
 
-The program reads comments over. `yoke do` doesn't: it refuses the script over any other session, or where the file that
-the script reads isn't the one that was written with it. The first word after `session` and the last one after `with` are
-digests of the text of the session, and of the file.
+The program reads comments over. `yoke do` doesn't: it refuses the script over any other session, or
+where the file that the script reads isn't the one that was written with it. The first word after
+`session` and the last one after `with` are digests of the text of the session, and of the file.
 """
 import hashlib
 import os
@@ -22,7 +23,7 @@ from yoke.trouble import Refused
 SESSION = re.compile('# for session ([0-9a-f]{16})(?:, (.*))?')
 FILE = re.compile('# with ([^ ]+) ([0-9a-f]{16})')
 INSIST = '--any-session'
-MARK = b'# for session '       # near the beginning of each script that was written so
+MARK = b'# for session '  # near the beginning of each script that was written so
 
 
 def digest(text: str) -> str:
@@ -42,7 +43,9 @@ def with_file(name: str, text: str) -> str:
 
 
 def check(name: str, lines: Iterable[str], state: State) -> None:
-    """Refused where a line says that the script is for another session than the state, or for another file."""
+    """Refused where a line says that the script is for another session than the state, or for
+    another file.
+    """
     now = ''
     for number, line in enumerate(lines, 1):
         if line[:1] != '#':
@@ -51,7 +54,9 @@ def check(name: str, lines: Iterable[str], state: State) -> None:
         if session:
             now = now or digest(state.text())
             if session[1] != now:
-                raise Refused(_other_session(f'{name}:{number}', session[2] or 'another one', state))
+                raise Refused(
+                    _other_session(f'{name}:{number}', session[2] or 'another one', state)
+                )
         if file:
             _check_file(f'{name}:{number}', opl.unescape(file[1]), file[2])
 

@@ -1,41 +1,96 @@
 """The lines of a script: which are lines, and of those that aren't the cause.
 
-It is the grammar of docs/SCRIPTS.md, docs/COMMANDS.md and docs/OPL.md, one function for each item, and it has to agree with the
-program on every line: `yoke/tests/test_lint.py` holds it to that. A script is a text in which bytes that aren't UTF-8
-stand as lone surrogates (`text_of`), since such bytes do no harm in a comment.
+It is the grammar of docs/SCRIPTS.md, docs/COMMANDS.md and docs/OPL.md, one function for each item,
+and it has to agree with the program on every line: `yoke/tests/test_lint.py` holds it to that. A
+script is a text in which bytes that aren't UTF-8 stand as lone surrogates (`text_of`), since such
+bytes do no harm in a comment.
 """
 import re
 from dataclasses import dataclass
 from typing import Callable, Dict, List, NoReturn, Tuple
 
-ID_MOST = 10 ** 18
+ID_MOST = 10**18
 BLANKS = ' \t'
 ESCAPE = re.compile('%([0-9a-fA-F]{1,6})%')
 COORDINATE = re.compile('-?[0-9]{1,3}(\\.[0-9]{1,7})?')
 KINDS = {'n': 'node', 'w': 'way', 'r': 'relation'}
-QUERY_MOST = 1000       # words of a query
-NESTING_MOST = 64       # `not`, `child`, `parent` and brackets round a word of a query
+QUERY_MOST = 1000  # words of a query
+NESTING_MOST = 64  # `not`, `child`, `parent` and brackets round a word of a query
 
 # Each verb with its form, as docs/COMMANDS.md has it.
 FORMS = {
-    'download': 'download FILE [Bwest,south,east,north] [Fkey=value]', 'generate': 'generate N', 'import': 'import FILE', 'resume': 'resume FILE',
-    'begin': 'begin', 'end': 'end', 'undo': 'undo N', 'redo': 'redo N', 'print': 'print', 'count': 'count', 'conflicts': 'conflicts', 'save': 'save',
-    'find': 'find QUERY', 'check': 'check', 'rehearse': 'rehearse', 'upload': 'upload SIZE', 'confirm': 'confirm FILE',
-    'node': 'node x13.65 y0.05 Tkey=value', 'way': 'way Tkey=value Nn1,n2', 'relation': 'relation Tkey=value Mn1@role,w2@',
-    'tag': 'tag KEYS Tkey=value', 'move': 'move KEYS DX DY', 'place': 'place KEY x13.65 y0.05', 'nodes': 'nodes KEY Nn1,n2',
-    'members': 'members KEY Mn1@role,w2@', 'resolve': 'resolve KEY mine|theirs, resolve KEY mix S S, resolve KEY parts S K..',
-    'delete': 'delete KEYS', 'erase': 'erase KEYS', 'purge': 'purge KEYS', 'split': 'split KEY KEYS', 'combine': 'combine KEYS', 'reverse': 'reverse KEY',
-    'squeeze': 'squeeze KEYS', 'fuse': 'fuse KEYS', 'serve': 'serve FILE', 'editor': 'editor N', 'fetch': 'fetch M [Bwest,south,east,north] [Fkey=value]',
-    'send': 'send K', 'answer': 'answer', 'lost': 'lost',
+    'download': 'download FILE [Bwest,south,east,north] [Fkey=value]',
+    'generate': 'generate N',
+    'import': 'import FILE',
+    'resume': 'resume FILE',
+    'begin': 'begin',
+    'end': 'end',
+    'undo': 'undo N',
+    'redo': 'redo N',
+    'print': 'print',
+    'count': 'count',
+    'conflicts': 'conflicts',
+    'save': 'save',
+    'find': 'find QUERY',
+    'check': 'check',
+    'rehearse': 'rehearse',
+    'upload': 'upload SIZE',
+    'confirm': 'confirm FILE',
+    'node': 'node x13.65 y0.05 Tkey=value',
+    'way': 'way Tkey=value Nn1,n2',
+    'relation': 'relation Tkey=value Mn1@role,w2@',
+    'tag': 'tag KEYS Tkey=value',
+    'move': 'move KEYS DX DY',
+    'place': 'place KEY x13.65 y0.05',
+    'nodes': 'nodes KEY Nn1,n2',
+    'members': 'members KEY Mn1@role,w2@',
+    'resolve': 'resolve KEY mine|theirs, resolve KEY mix S S, resolve KEY parts S K..',
+    'delete': 'delete KEYS',
+    'erase': 'erase KEYS',
+    'purge': 'purge KEYS',
+    'split': 'split KEY KEYS',
+    'combine': 'combine KEYS',
+    'reverse': 'reverse KEY',
+    'squeeze': 'squeeze KEYS',
+    'fuse': 'fuse KEYS',
+    'serve': 'serve FILE',
+    'editor': 'editor N',
+    'fetch': 'fetch M [Bwest,south,east,north] [Fkey=value]',
+    'send': 'send K',
+    'answer': 'answer',
+    'lost': 'lost',
 }
-ALONE = {'begin', 'end', 'print', 'count', 'conflicts', 'save', 'check', 'rehearse', 'answer', 'lost'}
-IN_NO_GROUP = {'begin', 'undo', 'redo', 'rehearse', 'upload', 'confirm', 'resume', 'editor', 'send', 'answer', 'lost'}
+ALONE = {
+    'begin',
+    'end',
+    'print',
+    'count',
+    'conflicts',
+    'save',
+    'check',
+    'rehearse',
+    'answer',
+    'lost',
+}
+IN_NO_GROUP = {
+    'begin',
+    'undo',
+    'redo',
+    'rehearse',
+    'upload',
+    'confirm',
+    'resume',
+    'editor',
+    'send',
+    'answer',
+    'lost',
+}
 IN_NO_MEETING = {'download', 'generate', 'confirm', 'resume', 'serve'}
 IN_A_MEETING = {'editor', 'fetch', 'send', 'answer', 'lost'}
 STATES = {'node', 'way', 'relation', 'new', 'changed', 'deleted', 'incomplete', 'conflict'}
 
 
-Reader = Callable[[List[str]], object]      # what tests the words after a verb; Bad where they are none
+Reader = Callable[[List[str]], object]  # what tests the words after a verb; Bad where they are none
 
 
 class Bad(Exception):
@@ -61,7 +116,9 @@ def text_of(data: bytes) -> str:
 def lines_of(text: str) -> List[str]:
     """The lines of a script, each without its line feed and one carriage return."""
     lines = text.split('\n')
-    return [line[:-1] if line.endswith('\r') else line for line in (lines if lines[-1] else lines[:-1])]
+    return [
+        line[:-1] if line.endswith('\r') else line for line in (lines if lines[-1] else lines[:-1])
+    ]
 
 
 def words_of(line: str) -> List[str]:
@@ -77,7 +134,10 @@ def is_skipped(line: str) -> bool:
 def taken_apart(line: str) -> List[str]:
     """The words of a line that isn't skipped; Bad where a blank stands at an end of it."""
     if line[0] in BLANKS or line[-1] in BLANKS:
-        bad('a blank stands {}', 'before the first word' if line[0] in BLANKS else 'after the last word')
+        bad(
+            'a blank stands {}',
+            'before the first word' if line[0] in BLANKS else 'after the last word',
+        )
     return words_of(line)
 
 
@@ -96,6 +156,7 @@ def check_line(line: str) -> str:
 
 # ---- where lines stand ----
 
+
 @dataclass
 class Place:
     """Where the next line of a script stands: after none, in a group, in a meeting."""
@@ -113,7 +174,12 @@ class Place:
         if not self.in_meeting and verb in IN_A_MEETING:
             bad('{} stands only in a script that begins with serve', verb)
         if self.in_group and verb in IN_NO_GROUP:
-            bad('in a group stands no begin: the one before has no end' if verb == 'begin' else 'in a group stands no {}', verb)
+            bad(
+                'in a group stands no begin: the one before has no end'
+                if verb == 'begin'
+                else 'in a group stands no {}',
+                verb,
+            )
         if verb == 'end' and not self.in_group:
             bad('there is no group to end')
 
@@ -126,18 +192,22 @@ class Place:
 
 # ---- words ----
 
+
 def exactly(words: List[str], *names: str) -> List[str]:
     """The words, where they are as many as the names."""
     if len(words) < len(names):
-        bad('{} is missing', ' '.join(names[len(words):]))
+        bad('{} is missing', ' '.join(names[len(words) :]))
     if len(words) > len(names):
-        bad('{} is too much', ' '.join(words[len(names):]))
+        bad('{} is too much', ' '.join(words[len(names) :]))
     return words
 
 
 def check_key(word: str) -> str:
     """A key: `n`, `w` or `r` and an id."""
-    if not re.fullmatch('[nwr]-?[0-9]{1,19}', word, re.ASCII) or not 1 <= abs(int(word[1:])) <= ID_MOST:
+    if (
+        not re.fullmatch('[nwr]-?[0-9]{1,19}', word, re.ASCII)
+        or not 1 <= abs(int(word[1:])) <= ID_MOST
+    ):
         bad('{} is no key: n, w or r and an id, as n1 and w-2', word)
     return word
 
@@ -159,11 +229,17 @@ def check_text(text: str, what: str) -> str:
     if found and found[0] < ' ':
         bad('{} {} has a control character', what, text)
     if found:
-        bad('{} {} has a {}, which is written %{}%', what, text, found[0], '{:02x}'.format(ord(found[0])))
+        bad(
+            '{} {} has a {}, which is written %{}%',
+            what,
+            text,
+            found[0],
+            f'{ord(found[0]):02x}',
+        )
     if '%' in outside:
         bad('{} {} has a % that is no escape: it is written %25%', what, text)
     codes = [int(code, 16) for code in ESCAPE.findall(text)]
-    if any(code == 0 or 0xd800 <= code <= 0xdfff or code > 0x10ffff for code in codes):
+    if any(code == 0 or 0xD800 <= code <= 0xDFFF or code > 0x10FFFF for code in codes):
         bad('{} {} has an escape of no character', what, text)
     return ESCAPE.sub(lambda found: chr(int(found[1], 16)), text)
 
@@ -190,7 +266,7 @@ def letter(word: str, sign: str, what: str) -> str:
     """What stands after the letter of a word."""
     if not word.startswith(sign):
         bad('{} has no {} before it: {}', word, sign, what)
-    return word[len(sign):]
+    return word[len(sign) :]
 
 
 def check_tags_word(word: str) -> Dict[str, str]:
@@ -223,9 +299,12 @@ def check_members_word(word: str) -> List[Tuple[str, str]]:
 def check_coordinate(text: str) -> int:
     """Degrees, in units of 10^-7."""
     if not COORDINATE.fullmatch(text):
-        bad('{} is no number of degrees: 1 to 3 digits, and at most 7 after a point', text or '(nothing)')
+        bad(
+            '{} is no number of degrees: 1 to 3 digits, and at most 7 after a point',
+            text or '(nothing)',
+        )
     whole, _, part = text.lstrip('-').partition('.')
-    units = int(whole) * 10 ** 7 + int(part.ljust(7, '0'))
+    units = int(whole) * 10**7 + int(part.ljust(7, '0'))
     return -units if text[0] == '-' else units
 
 
@@ -233,7 +312,7 @@ def check_place(x: str, y: str) -> Tuple[int, int]:
     """A longitude and a latitude on the map, in units of 10^-7 degree."""
     lon, lat = check_coordinate(x), check_coordinate(y)
     for value, most, text, name in ((lon, 180, x, 'longitude'), (lat, 90, y, 'latitude')):
-        if abs(value) > most * 10 ** 7:
+        if abs(value) > most * 10**7:
             bad('{} is off the map: a {} is from -{} to {}', text, name, most, most)
     return lon, lat
 
@@ -259,7 +338,11 @@ def check_box(text: str) -> None:
     west, south = check_place(*sides[:2])
     east, north = check_place(*sides[2:])
     if west > east or south > north:
-        bad('B{} is no box: its {} is beyond its {}', text, *(('west', 'east') if west > east else ('south', 'north')))
+        bad(
+            'B{} is no box: its {} is beyond its {}',
+            text,
+            *(('west', 'east') if west > east else ('south', 'north')),
+        )
 
 
 def check_part(words: List[str]) -> None:
@@ -276,6 +359,7 @@ def check_part(words: List[str]) -> None:
 
 
 # ---- lines ----
+
 
 def check_download(words: List[str]) -> None:
     if not words:
@@ -323,7 +407,9 @@ def check_tag_keys(text: str) -> None:
 
 
 def check_find(words: List[str]) -> None:
-    """A query, read from the left. `waiting` has what waits for a factor, the innermost last: openings, and `and` and `or`."""
+    """A query, read from the left. `waiting` has what waits for a factor, the innermost last:
+    openings, and `and` and `or`.
+    """
     if len(words) > QUERY_MOST:
         bad('a query has at most {} words', QUERY_MOST)
     waiting: List[str] = []
@@ -340,7 +426,11 @@ def check_find(words: List[str]) -> None:
             has_factor = True
             _take(waiting)
     if not has_factor:
-        bad('the query ends where a word like way or Thighway=* is wanted' if words else 'QUERY is missing')
+        bad(
+            'the query ends where a word like way or Thighway=* is wanted'
+            if words
+            else 'QUERY is missing'
+        )
     if '(' in waiting:
         bad('a bracket isn\'t closed')
 
@@ -450,9 +540,34 @@ def _file(words: List[str]) -> None:
 
 
 READERS: Dict[str, Reader] = {
-    'download': check_download, 'fetch': check_fetch, 'import': _file, 'resume': _file, 'confirm': _file, 'serve': _file,
-    'generate': _number(100000, 'N'), 'undo': _number(1000000, 'N'), 'redo': _number(1000000, 'N'), 'upload': _number(10000, 'SIZE'),
-    'send': _number(10000, 'K'), 'editor': _number(4, 'N'), 'find': check_find, 'node': _node, 'way': _way, 'relation': _relation, 'tag': _tag,
-    'move': _move, 'place': _place, 'nodes': _nodes, 'members': _members, 'resolve': check_resolve, 'delete': _keys, 'erase': _keys, 'purge': _keys,
-    'squeeze': _keys, 'combine': _two_keys, 'fuse': _two_keys, 'split': _split, 'reverse': lambda words: check_key(exactly(words, 'KEY')[0]),
+    'download': check_download,
+    'fetch': check_fetch,
+    'import': _file,
+    'resume': _file,
+    'confirm': _file,
+    'serve': _file,
+    'generate': _number(100000, 'N'),
+    'undo': _number(1000000, 'N'),
+    'redo': _number(1000000, 'N'),
+    'upload': _number(10000, 'SIZE'),
+    'send': _number(10000, 'K'),
+    'editor': _number(4, 'N'),
+    'find': check_find,
+    'node': _node,
+    'way': _way,
+    'relation': _relation,
+    'tag': _tag,
+    'move': _move,
+    'place': _place,
+    'nodes': _nodes,
+    'members': _members,
+    'resolve': check_resolve,
+    'delete': _keys,
+    'erase': _keys,
+    'purge': _keys,
+    'squeeze': _keys,
+    'combine': _two_keys,
+    'fuse': _two_keys,
+    'split': _split,
+    'reverse': lambda words: check_key(exactly(words, 'KEY')[0]),
 }

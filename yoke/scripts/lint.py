@@ -1,18 +1,22 @@
-"""Every bad line of a script, with its cause and the right form; the program names the first alone, and no cause."""
+"""Every bad line of a script, with its cause and the right form; the program names the first alone,
+and no cause.
+"""
 from dataclasses import dataclass
 from typing import Dict, List
 
 from yoke import words
 from yoke.scripts import grammar, mends, shorthand
 
-LARGEST = 16777216      # bytes of a script
+LARGEST = 16777216  # bytes of a script
 
 
 @dataclass(frozen=True)
 class Finding:
-    """A line that is none, or that may not stand where it does: its number, its text, the cause, and what would do.
+    """A line that is none, or that may not stand where it does: its number, its text, the cause,
+    and what would do.
 
-    `is_mend` tells whether `right` is the line itself mended; else it is the form that such a line has.
+    `is_mend` tells whether `right` is the line itself mended; else it is the form that such a line
+    has.
     """
 
     line: int
@@ -23,7 +27,8 @@ class Finding:
 
 
 def findings(lines: List[str], short: bool = False) -> List[Finding]:
-    """What is wrong with the lines of a script, as `grammar.lines_of` has them; with `short` lines that are written out are lines too.
+    """What is wrong with the lines of a script, as `grammar.lines_of` has them; with `short` lines
+    that are written out are lines too.
 
     How many steps such a line makes isn't known before, so after one nothing is undone.
     """
@@ -33,7 +38,14 @@ def findings(lines: List[str], short: bool = False) -> List[Finding]:
             continue
         ones = _line(number, line, place, short)
         if is_after and not ones and grammar.words_of(line)[0] in ('undo', 'redo'):
-            ones = [Finding(number, line, 'how many steps the lines before it make isn\'t known: one is written out by yoke', 'in a script of its own')]
+            ones = [
+                Finding(
+                    number,
+                    line,
+                    'how many steps the lines before it make isn\'t known: one is written out by yoke',
+                    'in a script of its own',
+                )
+            ]
         is_after = is_after or short and shorthand.is_short(line)
         found += ones
     return found
@@ -52,16 +64,32 @@ def _line(number: int, line: str, place: grammar.Place, short: bool) -> List[Fin
             place.check(verb)
             found = []
         except grammar.Bad as fault:
-            found = [Finding(number, line, str(fault), WHERE.get(verb, 'a script that doesn\'t begin with serve' if place.in_meeting else 'outside the group'))]
+            found = [
+                Finding(
+                    number,
+                    line,
+                    str(fault),
+                    WHERE.get(
+                        verb,
+                        'a script that doesn\'t begin with serve'
+                        if place.in_meeting
+                        else 'outside the group',
+                    ),
+                )
+            ]
     if verb in forms(short):
         place.go_on(verb)
     return found
 
 
 WHERE = {
-    'begin': 'end before it', 'end': 'one end for each begin', 'serve': 'serve FILE as the first step, and once',
-    'editor': 'serve FILE as the first step, and outside a group', 'send': 'serve FILE as the first step, and outside a group',
-    'answer': 'serve FILE as the first step, and outside a group', 'lost': 'serve FILE as the first step, and outside a group',
+    'begin': 'end before it',
+    'end': 'one end for each begin',
+    'serve': 'serve FILE as the first step, and once',
+    'editor': 'serve FILE as the first step, and outside a group',
+    'send': 'serve FILE as the first step, and outside a group',
+    'answer': 'serve FILE as the first step, and outside a group',
+    'lost': 'serve FILE as the first step, and outside a group',
     'fetch': 'serve FILE as the first step',
 }
 
@@ -76,17 +104,27 @@ def form(line: str, short: bool) -> str:
     first = grammar.words_of(line)[:1]
     verb = (shorthand if short else mends).likely_verb(*first) if first else ''
     found = forms(short).get(verb, 'one of ' + ', '.join(sorted(forms(short))))
-    return found.replace('KEYS', '( QUERY )') if short and verb in shorthand.BY_QUERY and shorthand.is_short(line) else found
+    return (
+        found.replace('KEYS', '( QUERY )')
+        if short and verb in shorthand.BY_QUERY and shorthand.is_short(line)
+        else found
+    )
 
 
 def told(one: Finding) -> str:
     """A finding as one line of a message."""
-    return 'no line of a script: {}: {}; right: {} (yoke lint names all)'.format(words.cut(one.text), one.cause, words.cut(one.right))
+    return 'no line of a script: {}: {}; right: {} (yoke lint names all)'.format(
+        words.cut(one.text), one.cause, words.cut(one.right)
+    )
 
 
 def report(name: str, found: List[Finding]) -> str:
     """The findings as lines for a reader."""
     lines = []
     for one in found:
-        lines += ['{}:{}: {}'.format(name, one.line, one.cause), '    written  ' + grammar.shown(one.text), '    right    ' + grammar.shown(one.right)]
+        lines += [
+            f'{name}:{one.line}: {one.cause}',
+            '    written  ' + grammar.shown(one.text),
+            '    right    ' + grammar.shown(one.right),
+        ]
     return ''.join(line + '\n' for line in lines)

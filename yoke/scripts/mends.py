@@ -1,6 +1,8 @@
-"""What a bad line was most likely meant to be: the right form of docs/REFUSALS.md ("Bad lines of a script") for the slips that it names.
+"""What a bad line was most likely meant to be: the right form of docs/REFUSALS.md ("Bad lines of a
+script") for the slips that it names.
 
-A mend is only a proposal, and only one that is a line by the grammar is made. Nothing is mended unseen.
+A mend is only a proposal, and only one that is a line by the grammar is made. Nothing is mended
+unseen.
 """
 import difflib
 import re
@@ -12,15 +14,42 @@ from yoke.scripts import grammar
 
 # What comes after each verb: keys, one key, coordinates, and the words that begin with a letter.
 SLOTS = {
-    'node': ['x', 'y', 'T'], 'way': ['T', 'N'], 'relation': ['T', 'M'], 'tag': ['KEYS', 'T'], 'move': ['KEYS', 'D', 'D'], 'place': ['KEY', 'x', 'y'],
-    'nodes': ['KEY', 'N'], 'members': ['KEY', 'M'], 'delete': ['KEYS'], 'erase': ['KEYS'], 'purge': ['KEYS'], 'split': ['KEY', 'KEYS'],
-    'combine': ['KEYS'], 'fuse': ['KEYS'], 'squeeze': ['KEYS'], 'reverse': ['KEY'],
+    'node': ['x', 'y', 'T'],
+    'way': ['T', 'N'],
+    'relation': ['T', 'M'],
+    'tag': ['KEYS', 'T'],
+    'move': ['KEYS', 'D', 'D'],
+    'place': ['KEY', 'x', 'y'],
+    'nodes': ['KEY', 'N'],
+    'members': ['KEY', 'M'],
+    'delete': ['KEYS'],
+    'erase': ['KEYS'],
+    'purge': ['KEYS'],
+    'split': ['KEY', 'KEYS'],
+    'combine': ['KEYS'],
+    'fuse': ['KEYS'],
+    'squeeze': ['KEYS'],
+    'reverse': ['KEY'],
 }
 KEYS = re.compile('[nwr]-?[0-9]{1,19}(,[nwr]-?[0-9]{1,19})*,?')
 LIST = re.compile('[NM]?[nwr]-?[0-9]+([,@x]|$)|[NM]$')
 NUMBER = re.compile('[xy]?[-+]?([0-9]+[.,]?[0-9]*|[.,][0-9]+)([eE][-+]?[0-9]+)?', re.ASCII)
-OTHER_WORDS = {'add': 'node', 'remove': 'delete', 'rm': 'delete', 'merge': 'combine', 'join': 'combine', 'rename': 'tag', 'set': 'tag', 'load': 'download',
-               'open': 'download', 'commit': 'end', 'list': 'print', 'show': 'print', 'search': 'find', 'query': 'find'}
+OTHER_WORDS = {
+    'add': 'node',
+    'remove': 'delete',
+    'rm': 'delete',
+    'merge': 'combine',
+    'join': 'combine',
+    'rename': 'tag',
+    'set': 'tag',
+    'load': 'download',
+    'open': 'download',
+    'commit': 'end',
+    'list': 'print',
+    'show': 'print',
+    'search': 'find',
+    'query': 'find',
+}
 
 
 def mended(line: str) -> Optional[str]:
@@ -39,7 +68,9 @@ def candidates(line: str):
     plain = re.sub('[\u00a0\u200b\ufeff]', ' ', line).strip(' \t\r\x0b\x0c')
     without = re.sub('[ \t]+(#|//).*$', '', plain)
     yield plain
-    for text in dict.fromkeys([without, re.sub('[ \t]*,[ \t]*', ',', without), without.rstrip(';.,')]):
+    for text in dict.fromkeys(
+        [without, re.sub('[ \t]*,[ \t]*', ',', without), without.rstrip(';.,')]
+    ):
         yield text
         words = grammar.words_of(text)
         if words:
@@ -104,7 +135,14 @@ def taken_keys(left: List[str], slots: List[str]) -> str:
 
 def taken_number(left: List[str], slot: str) -> str:
     """The first number among the words, as degrees; 0 where a `move` has but one."""
-    at = next((at for at, word in enumerate(left) if NUMBER.fullmatch(word) and word[0] in slot + '-+.,0123456789'), None)
+    at = next(
+        (
+            at
+            for at, word in enumerate(left)
+            if NUMBER.fullmatch(word) and word[0] in slot + '-+.,0123456789'
+        ),
+        None,
+    )
     if at is None:
         return '0' if slot == 'D' else ''
     text = left.pop(at).lstrip('xy').replace(',', '.')
@@ -115,19 +153,25 @@ def taken_number(left: List[str], slot: str) -> str:
 
 
 def taken_tags(left: List[str], slots: List[str]) -> str:
-    """The words that are tags, with blanks between them: from the first that begins with T or has a =, up to another field."""
+    """The words that are tags, with blanks between them: from the first that begins with T or has a
+    =, up to another field.
+    """
     ends = 'N' in slots or 'M' in slots
     start = next((at for at, word in enumerate(left) if word[0] == 'T' or '=' in word), None)
     if start is None:
         return ''
-    end = next((at for at in range(start + 1, len(left)) if ends and LIST.match(left[at])), len(left))
+    end = next(
+        (at for at in range(start + 1, len(left)) if ends and LIST.match(left[at])), len(left)
+    )
     text = ' '.join(left[start:end])
     del left[start:end]
     return text[1:] if text.startswith('T') else text
 
 
 def tags(text: str) -> str:
-    """Tags in which blanks, a second =, a stray % and a comma in a value are escaped, and each key stands once, the first time."""
+    """Tags in which blanks, a second =, a stray % and a comma in a value are escaped, and each key
+    stands once, the first time.
+    """
     found = {}
     for item in joined(text):
         key, _, value = item.partition('=')
@@ -149,7 +193,10 @@ def joined(text: str) -> List[str]:
 def mended_text(text: str) -> str:
     """A text with its escapes kept, and all else escaped that has to be."""
     try:
-        return ''.join(part if grammar.ESCAPE.fullmatch(part) else opl.escape(part) for part in re.split('(%[0-9a-fA-F]{1,6}%)', text))
+        return ''.join(
+            part if grammar.ESCAPE.fullmatch(part) else opl.escape(part)
+            for part in re.split('(%[0-9a-fA-F]{1,6}%)', text)
+        )
     except ValueError:
         return text
 
@@ -173,8 +220,16 @@ def parts(verb: str, words: List[str]):
     wanted = [word for word in words[1:] if word[0] in 'FT' and word not in box]
     first = [word for word in words if word not in box and word not in wanted]
     asked = joined(','.join(word[1:] for word in wanted))
-    wanted = ['F' + tags(','.join(item if '=' in item else item + '=*' for item in asked))] if asked else []
-    yield ' '.join([verb, file(' '.join(first)) if verb == 'download' else ' '.join(first)] + [mended_box(word) for word in box] + wanted)
+    wanted = (
+        ['F' + tags(','.join(item if '=' in item else item + '=*' for item in asked))]
+        if asked
+        else []
+    )
+    yield ' '.join(
+        [verb, file(' '.join(first)) if verb == 'download' else ' '.join(first)]
+        + [mended_box(word) for word in box]
+        + wanted
+    )
 
 
 def mended_box(word: str) -> str:
@@ -183,11 +238,15 @@ def mended_box(word: str) -> str:
         west, south, east, north = map(Decimal, word[1:].split(','))
     except (ValueError, InvalidOperation):
         return word
-    return 'B' + ','.join(map(opl.degrees, (min(west, east), min(south, north), max(west, east), max(south, north))))
+    return 'B' + ','.join(
+        map(opl.degrees, (min(west, east), min(south, north), max(west, east), max(south, north)))
+    )
 
 
 def query(words: List[str]) -> str:
-    """A query with blanks round its brackets, a T before its tags, and an `and` between factors that stand side by side."""
+    """A query with blanks round its brackets, a T before its tags, and an `and` between factors
+    that stand side by side.
+    """
     found = []
     for word in re.sub('([()])', ' \\1 ', ' '.join(words)).split():
         low = word.lower()
@@ -195,7 +254,9 @@ def query(words: List[str]) -> str:
             found.append(low)
         else:
             items = joined(word[1:] if word.startswith('T') else word)
-            found += ' and '.join('T' + (tags(item) if '=' in item else mended_text(item) + '=*') for item in items).split(' ')
+            found += ' and '.join(
+                'T' + (tags(item) if '=' in item else mended_text(item) + '=*') for item in items
+            ).split(' ')
     return ' '.join(with_and(found))
 
 

@@ -4,9 +4,9 @@
     way Thighway=footway Nn2,bench as path
     tag path Tsurface=gravel
 
-The program counts the ids of new objects, and a refused addition moves those of all later ones. So from the first line
-that makes an object to the last one with a name all lines become one group: in it each addition is accepted, and then the
-ids are as they were counted, or nothing of it is done.
+The program counts the ids of new objects, and a refused addition moves those of all later ones. So
+from the first line that makes an object to the last one with a name all lines become one group: in
+it each addition is accepted, and then the ids are as they were counted, or nothing of it is done.
 """
 import re
 from dataclasses import dataclass, field
@@ -16,10 +16,26 @@ from yoke.scripts import grammar
 
 NAME = re.compile('[A-Za-z_][A-Za-z0-9_-]*', re.ASCII)
 MAKES = {'node': 'n', 'way': 'w', 'relation': 'r'}
-WORDS = {'node': 3, 'way': 2, 'relation': 2}        # after the verb, without a name
-KEYS = {'tag': (0,), 'move': (0,), 'place': (0,), 'nodes': (0,), 'members': (0,), 'delete': (0,), 'erase': (0,), 'purge': (0,), 'split': (0, 1),
-        'combine': (0,), 'reverse': (0,), 'squeeze': (0,), 'fuse': (0,), 'resolve': (0,), 'insert': (0, 1, 2), 'add-member': (1,),
-        'mend-turns': (0,)}      # which words after a verb are keys
+WORDS = {'node': 3, 'way': 2, 'relation': 2}  # after the verb, without a name
+KEYS = {
+    'tag': (0,),
+    'move': (0,),
+    'place': (0,),
+    'nodes': (0,),
+    'members': (0,),
+    'delete': (0,),
+    'erase': (0,),
+    'purge': (0,),
+    'split': (0, 1),
+    'combine': (0,),
+    'reverse': (0,),
+    'squeeze': (0,),
+    'fuse': (0,),
+    'resolve': (0,),
+    'insert': (0, 1, 2),
+    'add-member': (1,),
+    'mend-turns': (0,),
+}  # which words after a verb are keys
 
 
 class BadName(Exception):
@@ -32,11 +48,13 @@ class BadName(Exception):
 
 @dataclass
 class Expanded:
-    """A script as the program takes it: its lines, the number of the line of the script that each comes from, and the keys by name.
+    """A script as the program takes it: its lines, the number of the line of the script that each
+    comes from, and the keys by name.
 
-    `rows` has, by the place among `lines`, the row of a table that a line comes from, as `a.csv:4`. `problems` has, so too,
-    lines that are refused whatever there is, since they stand for one that can't be written out: that line, and why not.
-    `notes` are what is to be told of lines, with their numbers.
+    `rows` has, by the place among `lines`, the row of a table that a line comes from, as `a.csv:4`.
+    `problems` has, so too, lines that are refused whatever there is, since they stand for one that
+    can't be written out: that line, and why not. `notes` are what is to be told of lines, with
+    their numbers.
     """
 
     lines: List[str]
@@ -48,10 +66,11 @@ class Expanded:
 
 
 def expand(lines: List[str], next_new: int, count: Callable[[str], int]) -> Expanded:
-    """Writes the names of a script out; BadName where that can't be done. A script without names stays as it is.
+    """Writes the names of a script out; BadName where that can't be done. A script without names
+    stays as it is.
 
-    `next_new` is the number that the session gives next. `count` answers with how many new objects the file of an `import`
-    has, by its name as it stands in the script.
+    `next_new` is the number that the session gives next. `count` answers with how many new objects
+    the file of an `import` has, by its name as it stands in the script.
     """
     if not any(name_of(line) for line in lines):
         return Expanded(list(lines), list(range(1, len(lines) + 1)))
@@ -73,7 +92,9 @@ class _Expander:
     names: Dict[str, str] = field(default_factory=dict)
 
     def expand(self) -> Expanded:
-        first = next(at for at, line in enumerate(self.lines) if verb_of(line) in {*MAKES, 'import', 'split'})
+        first = next(
+            at for at, line in enumerate(self.lines) if verb_of(line) in {*MAKES, 'import', 'split'}
+        )
         written, last = [], first
         for at, line in enumerate(self.lines):
             text, has_name = self._line(at + 1, line)
@@ -81,8 +102,14 @@ class _Expander:
             last = at if has_name else last
         first, last = self._with_groups(first, last)
         found = [(text, at + 1) for at, text in enumerate(written[:first])] + [('begin', first + 1)]
-        found += [(text, at + 1) for at, text in enumerate(written[first:last + 1], first) if self._in_group(at + 1, text)]
-        found += [('end', last + 1)] + [(text, at + 1) for at, text in enumerate(written[last + 1:], last + 1)]
+        found += [
+            (text, at + 1)
+            for at, text in enumerate(written[first : last + 1], first)
+            if self._in_group(at + 1, text)
+        ]
+        found += [('end', last + 1)] + [
+            (text, at + 1) for at, text in enumerate(written[last + 1 :], last + 1)
+        ]
         return Expanded([text for text, _ in found], [number for _, number in found], self.names)
 
     def _line(self, number: int, line: str) -> Tuple[str, bool]:
@@ -117,16 +144,26 @@ class _Expander:
             try:
                 self.next_new += self.count(words[1])
             except (OSError, ValueError) as error:
-                raise BadName(number, 'the new objects of {} can\'t be counted: {}'.format(words[1], error)) from None
+                raise BadName(
+                    number, f'the new objects of {words[1]} can\'t be counted: {error}'
+                ) from None
 
     def _give(self, number: int, name: str, letter: str) -> None:
         if not NAME.fullmatch(name) or re.fullmatch('[nwr]-?[0-9]+', name):
-            raise BadName(number, '{} is no name: a letter, and letters, digits, - and _, but no key'.format(grammar.shown(name)))
+            raise BadName(
+                number,
+                '{} is no name: a letter, and letters, digits, - and _, but no key'.format(
+                    grammar.shown(name)
+                ),
+            )
         if name in self.names:
-            raise BadName(number, 'the name {} is given already'.format(name))
+            raise BadName(number, f'the name {name} is given already')
         if self.next_new is None:
-            raise BadName(number, 'how many objects a split makes isn\'t known before: put it after the last line that gives a name')
-        self.names[name] = '{}-{}'.format(letter, self.next_new - 1)
+            raise BadName(
+                number,
+                'how many objects a split makes isn\'t known before: put it after the last line that gives a name',
+            )
+        self.names[name] = f'{letter}-{self.next_new - 1}'
 
     def _keys(self, number: int, word: str, letter: str = '') -> str:
         return ','.join(self._key(number, text, letter) for text in word.split(','))
@@ -136,9 +173,14 @@ class _Expander:
         if not NAME.fullmatch(text) or re.fullmatch('[nwr]-?[0-9]+', text):
             return text
         if text not in self.names:
-            raise BadName(number, '{} is no key, and no name that a line before gives'.format(text))
+            raise BadName(number, f'{text} is no key, and no name that a line before gives')
         if letter and self.names[text][0] != letter:
-            raise BadName(number, '{} is a {}, and the nodes of a way are nodes'.format(text, grammar.KINDS[self.names[text][0]]))
+            raise BadName(
+                number,
+                '{} is a {}, and the nodes of a way are nodes'.format(
+                    text, grammar.KINDS[self.names[text][0]]
+                ),
+            )
         return self.names[text]
 
     def _members(self, number: int, text: str) -> str:
@@ -160,10 +202,17 @@ class _Expander:
         return first, last
 
     def _in_group(self, number: int, text: str) -> bool:
-        """Whether a line stands in the group; the `begin` and `end` of groups that it takes in don't."""
+        """Whether a line stands in the group; the `begin` and `end` of groups that it takes in
+        don't.
+        """
         verb = verb_of(text)
         if verb in grammar.IN_NO_GROUP and verb != 'begin':
-            raise BadName(number, 'a {} can\'t stand here: from the first new object to the last name all is one group'.format(verb))
+            raise BadName(
+                number,
+                'a {} can\'t stand here: from the first new object to the last name all is one group'.format(
+                    verb
+                ),
+            )
         return verb not in ('begin', 'end')
 
 
@@ -174,5 +223,9 @@ def verb_of(line: str) -> str:
 
 def new_objects(text: str) -> int:
     """How many new objects an OPL file has: those with a negative id that aren't marked as deleted."""
-    lines = (re.split('[ \t]+', line.rstrip('\r')) for line in text.split('\n') if re.match('[nwr]-', line))
+    lines = (
+        re.split('[ \t]+', line.rstrip('\r'))
+        for line in text.split('\n')
+        if re.match('[nwr]-', line)
+    )
     return sum('dD' not in words[1:] for words in lines)

@@ -24,33 +24,51 @@ def lines(objects: Objects, key: str) -> Iterator[str]:
     known = objects.get(key)
     if known is None:
         if objects.is_incomplete(key):
-            yield '{}: only referred to, not downloaded'.format(key)
+            yield f'{key}: only referred to, not downloaded'
             yield from _users(objects, key)
         return
-    yield '{}: {}'.format(key, _state(known))
-    for name, side in (('base', known.base), ('mine', known.mine if known.edit else None), ('theirs', known.theirs)):
+    yield f'{key}: {_state(known)}'
+    for name, side in (
+        ('base', known.base),
+        ('mine', known.mine if known.edit else None),
+        ('theirs', known.theirs),
+    ):
         if side is not None:
             yield from _side(name, side)
     if known.edit and known.edit != 'new':
-        yield from ('changed  ' + change for change in (sides.change(known.there, known.mine) if known.there and known.mine else []))
+        yield from (
+            'changed  ' + change
+            for change in (
+                sides.change(known.there, known.mine) if known.there and known.mine else []
+            )
+        )
     yield from _users(objects, key)
     yield from _references(objects, known.mine or known.there)
 
 
 def _state(known: saved.Known) -> str:
-    words = {'new': 'new here', 'changed': 'changed here', 'deleted': 'deleted here', None: 'as the server has it' if known.there else 'deleted on the server'}
-    return words[known.edit] + ('' if known.conflict == 'none' else ', in conflict: ' + known.conflict)
+    words = {
+        'new': 'new here',
+        'changed': 'changed here',
+        'deleted': 'deleted here',
+        None: 'as the server has it' if known.there else 'deleted on the server',
+    }
+    return words[known.edit] + (
+        '' if known.conflict == 'none' else ', in conflict: ' + known.conflict
+    )
 
 
 def _side(name: str, side: opl.Object) -> Iterator[str]:
     """A side of an object, a part a line."""
-    head = 'version {}'.format(side.version) if name != 'mine' else ''
-    head += ' of {}'.format(side.time) if side.time else ''
-    head += ' by {}'.format(sides.plain(side.user)) if side.user else ''
-    head += ', changeset {}'.format(side.changeset) if side.changeset else ''
-    yield '{:8} {}'.format(name, (head + ', deleted' if side.deleted else head).strip() or 'what it is here').rstrip()
+    head = f'version {side.version}' if name != 'mine' else ''
+    head += f' of {side.time}' if side.time else ''
+    head += f' by {sides.plain(side.user)}' if side.user else ''
+    head += f', changeset {side.changeset}' if side.changeset else ''
+    yield '{:8} {}'.format(
+        name, (head + ', deleted' if side.deleted else head).strip() or 'what it is here'
+    ).rstrip()
     for tag, value in side.tags.items():
-        yield '    {} = {}'.format(sides.plain(tag), sides.plain(value))
+        yield f'    {sides.plain(tag)} = {sides.plain(value)}'
     if side.lon is not None:
         yield '    place {} {}'.format(*map(opl.degrees, opl.place(side)))
     if side.nodes:
@@ -66,11 +84,17 @@ def _users(objects: Objects, key: str) -> Iterator[str]:
         thing = known.mine if known else None
         if thing is not None:
             roles = sorted({role for member, role in thing.members if member == key and role})
-            yield 'used by  {}{}'.format(sides.title(thing), ', as ' + ','.join(map(sides.plain, roles)) if roles else '')
+            yield 'used by  {}{}'.format(
+                sides.title(thing), ', as ' + ','.join(map(sides.plain, roles)) if roles else ''
+            )
 
 
 def _references(objects: Objects, thing: opl.Object | None) -> Iterator[str]:
     """What the object refers to and isn't there."""
-    missing = [key for key in dict.fromkeys(thing.references) if objects.is_incomplete(key)] if thing else []
+    missing = (
+        [key for key in dict.fromkeys(thing.references) if objects.is_incomplete(key)]
+        if thing
+        else []
+    )
     if missing:
         yield 'not downloaded: ' + ','.join(missing)

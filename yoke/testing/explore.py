@@ -42,7 +42,18 @@ import sys
 import tempfile
 import time
 import types
-from typing import Any, Callable, Dict, Iterator, List, Mapping, NamedTuple, Optional, Sequence, Tuple
+from typing import (
+    Any,
+    Callable,
+    Dict,
+    Iterator,
+    List,
+    Mapping,
+    NamedTuple,
+    Optional,
+    Sequence,
+    Tuple,
+)
 from unittest import mock
 
 from yoke import command, saved, transport
@@ -169,7 +180,9 @@ def noon() -> float:
     return 1_800_000_000.0
 
 
-def at_noon(gmtime: Callable[[float], time.struct_time], seconds: Optional[float] = None) -> time.struct_time:
+def at_noon(
+    gmtime: Callable[[float], time.struct_time], seconds: Optional[float] = None
+) -> time.struct_time:
     """What `time.gmtime` gives, by which it is always noon."""
     return gmtime(noon() if seconds is None else seconds)
 

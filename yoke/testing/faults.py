@@ -1,4 +1,5 @@
-"""What goes wrong on purpose between a client and the strict server: once, or by a seeded chance."""
+"""What goes wrong on purpose between a client and the strict server: once, or by a seeded chance.
+"""
 import dataclasses
 import random
 import threading
@@ -28,7 +29,10 @@ KINDS = {
 
 @dataclasses.dataclass
 class Fault:
-    """A fault of an operation (`any` for each), which meets it once after so many others, or each time by a chance."""
+    """A fault of an operation (`any` for each), which meets it once after so many others, or each
+    time by a chance.
+    """
+
     kind: str
     operation: str
     skip: int = 0
@@ -48,7 +52,7 @@ class Faults:
 
     def __init__(self):
         self.waiting: List[Fault] = []
-        self.met: List[str] = []        # the kind and the operation of each, such as `drop-after upload`
+        self.met: List[str] = []  # the kind and the operation of each, such as `drop-after upload`
         self._lock = threading.Lock()
 
     def once(self, kind: str, operation: str = 'upload', skip: int = 0) -> None:
@@ -56,7 +60,9 @@ class Faults:
         self._add(Fault(known(kind), operation, skip))
 
     def by_chance(self, kind: str, chance: float, seed: int, operation: str = 'any') -> None:
-        """Lets requests of an operation meet a fault with a chance from 0 to 1, the same ones for the same seed."""
+        """Lets requests of an operation meet a fault with a chance from 0 to 1, the same ones for
+        the same seed.
+        """
         self._add(Fault(known(kind), operation, 0, chance, random.Random(seed)))
 
     def clear(self) -> None:
@@ -75,7 +81,7 @@ class Faults:
                 if fault.operation in ('any', operation) and fault.is_met():
                     if fault.chance is None:
                         self.waiting.remove(fault)
-                    self.met.append('{} {}'.format(fault.kind, operation))
+                    self.met.append(f'{fault.kind} {operation}')
                     return fault.kind
         return ''
 

@@ -1,4 +1,5 @@
-"""A made town of blocks for trials: streets, buildings with addresses, shops, trees, bus routes, turn restrictions, and slips.
+"""A made town of blocks for trials: streets, buildings with addresses, shops, trees, bus routes,
+turn restrictions, and slips.
 
     python3 -m yoke.testing.made_town BLOCKS FILE.opl [--seed N] [--slips] [--towns NxM]
 
@@ -16,15 +17,27 @@ from dataclasses import dataclass, field
 
 from yoke import opl
 
-WEST, SOUTH = 13.0, 52.0            # degrees of the first corner
-WIDE, HIGH = 0.0013, 0.0009         # degrees of a block: some 90 by 100 m
-NAMES = ('Adler Anker Berg Bär Bach Brunnen Dom Eiche Falken Fichten Garten Hafen Hirsch Insel Jäger Kirch Krone Linden Löwen '
-         'Markt Mühlen Nord Ost Park Quell Rathaus Rosen Schloss Schwan See Sonnen Stern Süd Tal Tannen Ufer Weiden West '
-         'Wiesen Ziegel').split()
-SHOPS = [('shop', 'bakery'), ('amenity', 'pharmacy'), ('amenity', 'restaurant'), ('shop', 'hairdresser'), ('amenity', 'cafe'),
-         ('shop', 'butcher'), ('amenity', 'bank'), ('shop', 'florist'), ('amenity', 'doctors'), ('shop', 'books')]
+WEST, SOUTH = 13.0, 52.0  # degrees of the first corner
+WIDE, HIGH = 0.0013, 0.0009  # degrees of a block: some 90 by 100 m
+NAMES = (
+    'Adler Anker Berg Bär Bach Brunnen Dom Eiche Falken Fichten Garten Hafen Hirsch Insel Jäger Kirch Krone Linden Löwen '
+    'Markt Mühlen Nord Ost Park Quell Rathaus Rosen Schloss Schwan See Sonnen Stern Süd Tal Tannen Ufer Weiden West '
+    'Wiesen Ziegel'
+).split()
+SHOPS = [
+    ('shop', 'bakery'),
+    ('amenity', 'pharmacy'),
+    ('amenity', 'restaurant'),
+    ('shop', 'hairdresser'),
+    ('amenity', 'cafe'),
+    ('shop', 'butcher'),
+    ('amenity', 'bank'),
+    ('shop', 'florist'),
+    ('amenity', 'doctors'),
+    ('shop', 'books'),
+]
 FAMILIES = 'Müller Schmidt Schneider Fischer Weber Meyer Wagner Becker Schulz Hoffmann Koch Richter Klein Wolf Schröder'.split()
-STREET_NODES = 9                    # of one way of a street, before the next one goes on
+STREET_NODES = 9  # of one way of a street, before the next one goes on
 
 Tags = dict[str, str]
 
@@ -60,7 +73,11 @@ def make(blocks: int, seed: int = 1, slips: bool = False) -> Town:
     """A town of so many blocks, in a square."""
     town = Town(random.Random(seed), slips)
     side = math.ceil(math.sqrt(blocks))
-    corners = {(x, y): town.node(WEST + x * WIDE, SOUTH + y * HIGH) for y in range(side + 1) for x in range(side + 1)}
+    corners = {
+        (x, y): town.node(WEST + x * WIDE, SOUTH + y * HIGH)
+        for y in range(side + 1)
+        for x in range(side + 1)
+    }
     _streets(town, side, corners)
     for y in range(side):
         for x in range(side):
@@ -70,28 +87,42 @@ def make(blocks: int, seed: int = 1, slips: bool = False) -> Town:
 
 
 def _name(number: int, ending: str) -> str:
-    return NAMES[number % len(NAMES)] + (str(number // len(NAMES)) if number >= len(NAMES) else '') + ending
+    return (
+        NAMES[number % len(NAMES)]
+        + (str(number // len(NAMES)) if number >= len(NAMES) else '')
+        + ending
+    )
 
 
 def _streets(town: Town, side: int, corners: dict[tuple[int, int], int]) -> None:
-    # a corner at which a street has a node of its own, at the same place: the two streets don't meet there
-    doubled = {place: town.node(*town.nodes[node - 1][:2]) for place, node in corners.items() if town.now_and_then(.05)}
+    # a corner at which a street has a node of its own, at the same place: the two streets don't
+    # meet there
+    doubled = {
+        place: town.node(*town.nodes[node - 1][:2])
+        for place, node in corners.items()
+        if town.now_and_then(0.05)
+    }
     for at in range(side + 1):
         _street(town, _name(at, 'straße'), [corners[x, at] for x in range(side + 1)], at)
-        _street(town, _name(at, 'weg'), [doubled.get((at, y), corners[at, y]) for y in range(side + 1)], at)
+        _street(
+            town,
+            _name(at, 'weg'),
+            [doubled.get((at, y), corners[at, y]) for y in range(side + 1)],
+            at,
+        )
 
 
 def _street(town: Town, name: str, points: list[int], number: int) -> None:
     for at in range(0, len(points) - 1, STREET_NODES - 1):
-        refs = points[at:at + STREET_NODES]
+        refs = points[at : at + STREET_NODES]
         if len(refs) < 2:
             continue
-        if town.now_and_then(.02):
-            refs = refs[:2] + refs[1:]          # a node twice side by side
+        if town.now_and_then(0.02):
+            refs = refs[:2] + refs[1:]  # a node twice side by side
         tags = {'highway': 'tertiary' if number % 5 == 0 else 'residential', 'name': name}
-        if town.dice.random() < .5:
+        if town.dice.random() < 0.5:
             tags['maxspeed'] = '30'
-        if town.now_and_then(.1):
+        if town.now_and_then(0.1):
             tags['created_by'] = 'JOSM'
         town.streets.setdefault(name, []).append(town.way(refs, tags))
 
@@ -99,28 +130,42 @@ def _street(town: Town, name: str, points: list[int], number: int) -> None:
 def _block(town: Town, x: int, y: int) -> None:
     west, south = WEST + x * WIDE, SOUTH + y * HIGH
     for house in range(6):
-        _house(town, west + WIDE * (.12 + .27 * (house % 3)), south + HIGH * (.15 + .4 * (house // 3)),
-               _name(y + house // 3, 'straße'), 1 + x * 6 + house)
+        _house(
+            town,
+            west + WIDE * (0.12 + 0.27 * (house % 3)),
+            south + HIGH * (0.15 + 0.4 * (house // 3)),
+            _name(y + house // 3, 'straße'),
+            1 + x * 6 + house,
+        )
     for shop in range(4):
         key, value = town.dice.choice(SHOPS)
         tags = {key: value, 'name': f'{value.title()} {town.dice.choice(FAMILIES)}'}
-        if town.dice.random() < .4:
+        if town.dice.random() < 0.4:
             tags['opening_hours'] = 'Mo-Fr 08:00-18:00'
-        if town.now_and_then(.1):
+        if town.now_and_then(0.1):
             tags['created_by'] = 'iD'
-        town.node(west + WIDE * (.1 + .22 * shop + town.dice.random() * .05), south + HIGH * (.43 + town.dice.random() * .08), tags)
+        town.node(
+            west + WIDE * (0.1 + 0.22 * shop + town.dice.random() * 0.05),
+            south + HIGH * (0.43 + town.dice.random() * 0.08),
+            tags,
+        )
     for _ in range(3):
-        town.node(west + WIDE * town.dice.random(), south + HIGH * .05, {'natural': 'tree'})
+        town.node(west + WIDE * town.dice.random(), south + HIGH * 0.05, {'natural': 'tree'})
 
 
 def _house(town: Town, west: float, south: float, street: str, number: int) -> None:
-    east, north = west + WIDE * .2, south + HIGH * .25
-    refs = [town.node(west, south), town.node(east, south), town.node(east, north), town.node(west, north)]
-    end = town.node(west, south) if town.now_and_then(.01) else refs[0]     # a ring that isn't closed
-    if town.now_and_then(.01):
+    east, north = west + WIDE * 0.2, south + HIGH * 0.25
+    refs = [
+        town.node(west, south),
+        town.node(east, south),
+        town.node(east, north),
+        town.node(west, north),
+    ]
+    end = town.node(west, south) if town.now_and_then(0.01) else refs[0]  # a ring that isn't closed
+    if town.now_and_then(0.01):
         refs = refs[:1] + refs
     tags = {'building': 'house', 'addr:street': street, 'addr:housenumber': str(number)}
-    if town.now_and_then(.1):
+    if town.now_and_then(0.1):
         tags['created_by'] = 'Potlatch'
     town.way(refs + [end], tags)
 
@@ -128,24 +173,36 @@ def _house(town: Town, west: float, south: float, street: str, number: int) -> N
 def _routes(town: Town) -> None:
     """A bus route along some streets, and a turn restriction at some crossings."""
     for name, ways in list(town.streets.items())[::3]:
-        town.relations.append(([('w', way, '') for way in ways], {'type': 'route', 'route': 'bus', 'ref': name[:3]}))
+        town.relations.append(
+            ([('w', way, '') for way in ways], {'type': 'route', 'route': 'bus', 'ref': name[:3]})
+        )
     of_node: dict[int, list[int]] = {}
     for number, (refs, tags) in enumerate(town.ways, 1):
         for ref in refs if 'highway' in tags else ():
             of_node.setdefault(ref, []).append(number)
     crossings = [(node, ways) for node, ways in of_node.items() if len(set(ways)) > 1]
     for node, ways in crossings[::7]:
-        town.relations.append(([('w', ways[0], 'from'), ('n', node, 'via'), ('w', ways[-1], 'to')],
-                               {'type': 'restriction', 'restriction': 'no_left_turn'}))
+        town.relations.append(
+            (
+                [('w', ways[0], 'from'), ('n', node, 'via'), ('w', ways[-1], 'to')],
+                {'type': 'restriction', 'restriction': 'no_left_turn'},
+            )
+        )
 
 
 def lines(town: Town, wide: int = 1, high: int = 1) -> Iterator[str]:
-    """The town as lines of OPL; with `wide` or `high` a country of so many columns and rows of it, of which no more than one
-    town is held in memory. The ids of each town go on from those of the one before, in rows from the south.
+    """The town as lines of OPL; with `wide` or `high` a country of so many columns and rows of it,
+    of which no more than one town is held in memory. The ids of each town go on from those of the
+    one before, in rows from the south.
     """
     copies = [(x, y) for y in range(high) for x in range(wide)]
-    side = round((max(lon for lon, _, _ in town.nodes) - WEST) / WIDE) + 1      # blocks, with one between two towns
-    nodes = [(_head(number, tags), _units(lon), _units(lat)) for number, (lon, lat, tags) in enumerate(town.nodes, 1)]
+    side = (
+        round((max(lon for lon, _, _ in town.nodes) - WEST) / WIDE) + 1
+    )  # blocks, with one between two towns
+    nodes = [
+        (_head(number, tags), _units(lon), _units(lat))
+        for number, (lon, lat, tags) in enumerate(town.nodes, 1)
+    ]
     for copy, (x, y) in enumerate(copies):
         east, north, ids = _units(x * side * WIDE), _units(y * side * HIGH), copy * len(nodes)
         for number, (head, lon, lat) in enumerate(nodes, ids + 1):
@@ -157,7 +214,9 @@ def lines(town: Town, wide: int = 1, high: int = 1) -> Iterator[str]:
     more = {'n': len(nodes), 'w': len(ways)}
     for copy in range(len(copies)):
         for number, (members, tags) in enumerate(town.relations, 1):
-            listed = ','.join(f'{kind}{copy * more[kind] + ref}@{role}' for kind, ref, role in members)
+            listed = ','.join(
+                f'{kind}{copy * more[kind] + ref}@{role}' for kind, ref, role in members
+            )
             yield f'r{copy * len(town.relations) + number}{_head(number, tags)} M{listed}'
 
 
@@ -184,12 +243,19 @@ def has(path: str, wanted: Iterable[str]) -> bool:
 
 
 def main() -> None:
-    words = argparse.ArgumentParser(description=__doc__, formatter_class=argparse.RawDescriptionHelpFormatter)
+    words = argparse.ArgumentParser(
+        description=__doc__, formatter_class=argparse.RawDescriptionHelpFormatter
+    )
     words.add_argument('blocks', type=int)
     words.add_argument('file')
     words.add_argument('--seed', type=int, default=1)
     words.add_argument('--slips', action='store_true')
-    words.add_argument('--towns', metavar='NxM', default='1x1', help='columns and rows of copies of the town (%(default)s)')
+    words.add_argument(
+        '--towns',
+        metavar='NxM',
+        default='1x1',
+        help='columns and rows of copies of the town (%(default)s)',
+    )
     said = words.parse_args()
     wide, high = map(int, said.towns.split('x'))
     town = make(said.blocks, said.seed, said.slips)

@@ -38,17 +38,17 @@ class Query:
     """A query, run statement by statement over a database."""
 
     def __init__(self, text: str, database: Database):
-        self.database, self.at, self.words = database, 0, []        # type: Database, int, List[str]
+        self.database, self.at, self.words = database, 0, []  # type: Database, int, List[str]
         place = 0
         text = re.sub(r'//[^\n]*|/\*.*?\*/', ' ', text, flags=re.S)
         while text[place:].strip():
             found = TOKEN.match(text, place)
             if not found:
-                raise Unknown(text[place:place + 20].strip())
+                raise Unknown(text[place : place + 20].strip())
             self.words.append(found[1])
             place = found.end()
         self.current: Set[str] = set()
-        self.output: List[Tuple[str, str]] = []         # keys, and how they are written
+        self.output: List[Tuple[str, str]] = []  # keys, and how they are written
 
     def run(self) -> None:
         """Runs all statements; `output` has what they write."""
@@ -123,8 +123,11 @@ class Query:
             tests.append(self._tag() if self._peek() == '[' else self._place())
         if not tests:
             raise Unknown('a query without a filter')
-        return {element.key for element in self.database.all()
-                if element.visible and element.key[0] in letters and all(t(element) for t in tests)}
+        return {
+            element.key
+            for element in self.database.all()
+            if element.visible and element.key[0] in letters and all(t(element) for t in tests)
+        }
 
     def _tag(self) -> Callable[[Element], bool]:
         self._take('[')
@@ -151,8 +154,11 @@ class Query:
             if element.kind == 'node':
                 return west <= (element.lon or 0) <= east and south <= (element.lat or 0) <= north
             members = map(self.database.current, element.references)
-            return any(one is not None and one.visible and one.kind != 'relation' and is_in(one)
-                       for one in members)
+            return any(
+                one is not None and one.visible and one.kind != 'relation' and is_in(one)
+                for one in members
+            )
+
         return is_in
 
     def _below(self, keys: Iterable[str]) -> Set[str]:
@@ -178,8 +184,9 @@ class StrictOverpass:
         self.headers: List[Dict[str, str]] = []
         self._http = Listener(('127.0.0.1', 0), Handler)
         self._http.owner = self
-        self._thread = threading.Thread(target=self._http.serve_forever,
-                                        kwargs={'poll_interval': 0.02}, daemon=True)
+        self._thread = threading.Thread(
+            target=self._http.serve_forever, kwargs={'poll_interval': 0.02}, daemon=True
+        )
 
     def __enter__(self) -> 'StrictOverpass':
         self._thread.start()
@@ -205,7 +212,7 @@ class StrictOverpass:
         children = [ElementTree.Element('note'), ElementTree.Element('meta', osm_base=BASE)]
         children[0].text = 'The data included in this document is from www.openstreetmap.org.'
         found = [shown(self.database.current(key), how) for key, how in query.output]
-        children += found[:self.most]
+        children += found[: self.most]
         if len(found) > self.most or 'remark' in self.faults[:1]:
             remark = ElementTree.Element('remark')
             remark.text = TIMED_OUT
@@ -235,9 +242,10 @@ def shown(element: Optional[Element], how: str) -> ElementTree.Element:
 def page(text: str) -> bytes:
     """A page of HTML, as the live server has for errors."""
     text = text.replace('&', '&amp;').replace('<', '&lt;')
-    return ('<!DOCTYPE html><html><head><title>OSM3S Response</title><style>p {color: red}</style>'
-            f'</head><body><p><strong style="color:#FF0000">Error</strong>: {text} </p></body></html>'
-            ).encode()
+    return (
+        '<!DOCTYPE html><html><head><title>OSM3S Response</title><style>p {color: red}</style>'
+        f'</head><body><p><strong style="color:#FF0000">Error</strong>: {text} </p></body></html>'
+    ).encode()
 
 
 class Listener(http.server.ThreadingHTTPServer):
@@ -253,10 +261,10 @@ class Handler(http.server.BaseHTTPRequestHandler):
 
     server: Listener
 
-    def log_message(self, format: str, *words: Any) -> None:    # pylint: disable=redefined-builtin
+    def log_message(self, format: str, *words: Any) -> None:  # pylint: disable=redefined-builtin
         """Keeps no log."""
 
-    def do_POST(self) -> None:      # pylint: disable=invalid-name
+    def do_POST(self) -> None:  # pylint: disable=invalid-name
         """Answers a query."""
         owner = self.server.owner
         body = self.rfile.read(int(self.headers.get('Content-Length') or 0)).decode('utf-8')
@@ -277,20 +285,24 @@ class Handler(http.server.BaseHTTPRequestHandler):
             del owner.faults[:1]
         if fault.startswith(('429', '504', '500')):
             status, wait = int(fault[:3]), fault[4:]
-            return self._send(status, page('The server is probably too busy to handle your request.'
-                                           ), {'Retry-After': wait} if wait else {})
+            return self._send(
+                status,
+                page('The server is probably too busy to handle your request.'),
+                {'Retry-After': wait} if wait else {},
+            )
         if fault == 'redirect':
             return self._send(302, b'', {'Location': owner.address})
         if fault == 'half':
             return self._send(status, data, half=True)
         return self._send(status, data)
 
-    def _send(self, status: int, data: bytes, headers: Optional[Dict[str, str]] = None,
-              half: bool = False) -> None:
+    def _send(
+        self, status: int, data: bytes, headers: Optional[Dict[str, str]] = None, half: bool = False
+    ) -> None:
         self.send_response(status)
         self.send_header('Content-Type', 'application/osm3s+xml')
         self.send_header('Content-Length', str(len(data)))
         for name, value in (headers or {}).items():
             self.send_header(name, value)
         self.end_headers()
-        self.wfile.write(data[:len(data) // 2] if half else data)
+        self.wfile.write(data[: len(data) // 2] if half else data)

@@ -10,17 +10,20 @@ prints its address and serves until it is ended. In a test:
         client(server.address, token=TOKEN)
         assert server.created_twice() == []
 
-It has the rules of API 0.6 that are written in `database.py` and here, and no others: it was made from what is known of the
-live server, and not compared with it. `TOKEN` is the token of the user who is tried; `server.edit` changes the data as
-somebody else. Each operation has a name, by which faults and hooks find it: `capabilities`, `permissions`, `details`,
-`create`, `changeset`, `close`, `upload`, `download`, `map`, `element`, `version`, `history`, `full`, `many` and `users`.
+It has the rules of API 0.6 that are written in `database.py` and here, and no others: it was made
+from what is known of the live server, and not compared with it. `TOKEN` is the token of the user
+who is tried; `server.edit` changes the data as somebody else. Each operation has a name, by which
+faults and hooks find it: `capabilities`, `permissions`, `details`, `create`, `changeset`, `close`,
+`upload`, `download`, `map`, `element`, `version`, `history`, `full`, `many` and `users`.
 
-`server.scopes` says what a token may do, and `server.blocks` which account may do nothing. Answers are compressed for who
-asks for it, and `server.connections` counts how many connections were opened.
+`server.scopes` says what a token may do, and `server.blocks` which account may do nothing. Answers
+are compressed for who asks for it, and `server.connections` counts how many connections were
+opened.
 
-Another process sets the same by `POST /control/faults`, `/control/edit`, `/control/limits`, `/control/account` and
-`/control/redact`, each with a JSON object of the arguments, and reads `GET /control/history` and `GET /control/elements`.
-`/control/edit` may have `before_upload`, the number of the upload before which it is to happen.
+Another process sets the same by `POST /control/faults`, `/control/edit`, `/control/limits`,
+`/control/account` and `/control/redact`, each with a JSON object of the arguments, and reads `GET
+/control/history` and `GET /control/elements`. `/control/edit` may have `before_upload`, the number
+of the upload before which it is to happen.
 """
 import argparse
 import gzip
@@ -39,7 +42,18 @@ from xml.etree import ElementTree
 
 from yoke.testing.authorisation import PATHS, Authorisation
 from yoke.testing.database import (
-    Change, Database, Limits, Refusal, User, document, stamp, too_fast, too_many, too_much, too_wide)
+    Change,
+    Database,
+    Limits,
+    Refusal,
+    User,
+    document,
+    stamp,
+    too_fast,
+    too_many,
+    too_much,
+    too_wide,
+)
 from yoke.testing.elements import KIND_OF_LETTER, Element, Member, as_xml, opl, read_file, units
 from yoke.testing.faults import Faults
 
@@ -47,24 +61,31 @@ TOKEN = 'token-of-the-mapper'
 MAPPER = User(1001, 'mapper')
 SOMEBODY = User(1002, 'somebody')
 USERS = {TOKEN: MAPPER, 'token-of-somebody': SOMEBODY}
-SCOPES = ('read_prefs', 'write_prefs', 'write_api')      # what a token may do, unless the server says otherwise
-BLOCKS = {      # the texts by which an account is told that it may do nothing, by their causes
+SCOPES = (
+    'read_prefs',
+    'write_prefs',
+    'write_api',
+)  # what a token may do, unless the server says otherwise
+BLOCKS = {  # the texts by which an account is told that it may do nothing, by their causes
     'block': 'Your access to the API has been blocked. Please log-in to the web interface to find out more.',
     'message': 'You have an urgent message on the OpenStreetMap web site. You need to read the message before you will be able to '
-               'save your edits.',
+    'save your edits.',
     'terms': 'Your access to the API is temporarily suspended. Please log-in to the web interface to view the Contributor Terms. '
-             'You do not need to agree, but you must view them.',
+    'You do not need to agree, but you must view them.',
 }
-NO_SCOPE = {    # the texts by which a token is told that it may not do something, by the scope that it lacks
-    'write_api': 'You have not granted the modify map permission',
-    'read_prefs': 'You have not permitted the application access to this facility',
-}
-MOST_BYTES = 64 * 1024 * 1024       # of a request
+NO_SCOPE = (
+    {  # the texts by which a token is told that it may not do something, by the scope that it lacks
+        'write_api': 'You have not granted the modify map permission',
+        'read_prefs': 'You have not permitted the application access to this facility',
+    }
+)
+MOST_BYTES = 64 * 1024 * 1024  # of a request
 KIND = '(node|way|relation)'
 
 
 class Answer(NamedTuple):
     """An answer of HTTP."""
+
     status: int
     body: bytes = b''
     type: str = 'text/plain; charset=utf-8'
@@ -72,8 +93,10 @@ class Answer(NamedTuple):
 
 
 class Request(NamedTuple):
-    """A request: what stands in its path at the places of the route, its query, its body, whose it is, if anybody's, and what its
-    token may do."""
+    """A request: what stands in its path at the places of the route, its query, its body, whose it
+    is, if anybody's, and what its token may do.
+    """
+
     parts: Tuple[str, ...]
     query: Dict[str, str]
     body: bytes
@@ -83,6 +106,7 @@ class Request(NamedTuple):
 
 class Hook(NamedTuple):
     """What is called before or after the request of an operation with a number."""
+
     when: str
     operation: str
     number: int
@@ -90,7 +114,9 @@ class Hook(NamedTuple):
 
 
 class Late:
-    """A request that is done later, although its connection is closed, and how many requests come before that."""
+    """A request that is done later, although its connection is closed, and how many requests come
+    before that.
+    """
 
     def __init__(self, route: 'Route', request: Request, requests: int):
         self.route, self.request, self.requests = route, request, requests
@@ -107,12 +133,19 @@ def elements(found: Iterable[Element]) -> Answer:
 
 
 def refused(why: Refusal) -> Answer:
-    """The answer of a refusal: its text stands in the header `Error` too, as the live server has it."""
+    """The answer of a refusal: its text stands in the header `Error` too, as the live server has
+    it.
+    """
     line = ' '.join(why.text.split()).encode('ascii', 'replace').decode('ascii')
-    return Answer(why.status, why.text.encode('utf-8'), headers=tuple(why.headers.items()) + ((('Error', line),) if why.text else ()))
+    return Answer(
+        why.status,
+        why.text.encode('utf-8'),
+        headers=tuple(why.headers.items()) + ((('Error', line),) if why.text else ()),
+    )
 
 
 # ---- the operations ----
+
 
 def capabilities(database: Database, request: Request) -> Answer:
     return xml(database.capabilities())
@@ -127,8 +160,14 @@ def permissions(database: Database, request: Request) -> Answer:
 
 def details(database: Database, request: Request) -> Answer:
     user = request.user
-    found = ElementTree.Element('user', id=str(user.number), display_name=user.name, account_created=stamp(0))
-    ElementTree.SubElement(found, 'changesets', count=str(sum(one.user == user for one in database.changesets.values())))
+    found = ElementTree.Element(
+        'user', id=str(user.number), display_name=user.name, account_created=stamp(0)
+    )
+    ElementTree.SubElement(
+        found,
+        'changesets',
+        count=str(sum(one.user == user for one in database.changesets.values())),
+    )
     return xml(document('osm', [found]))
 
 
@@ -187,7 +226,10 @@ def key_of(request: Request) -> str:
 
 
 class Route(NamedTuple):
-    """A method and a path with the operation that it names; some need a user whose token has a scope."""
+    """A method and a path with the operation that it names; some need a user whose token has a
+    scope.
+    """
+
     method: str
     path: str
     operation: str
@@ -217,38 +259,67 @@ ROUTES = [
 
 
 def route_of(method: str, path: str) -> Tuple[Route, Tuple[str, ...]]:
-    """The route of a request and what stands at its places; 404 where there is none, 405 where the method isn't meant."""
-    found = [(route, match.groups()) for route in ROUTES for match in [re.fullmatch(route.path, path)] if match]
+    """The route of a request and what stands at its places; 404 where there is none, 405 where the
+    method isn't meant.
+    """
+    found = [
+        (route, match.groups())
+        for route in ROUTES
+        for match in [re.fullmatch(route.path, path)]
+        if match
+    ]
     for route, parts in found:
         if route.method == method:
             return route, parts
     if found:
-        raise Refusal(405, 'Only method {} is supported on this URI'.format(found[0][0].method), {'Allow': found[0][0].method})
+        raise Refusal(
+            405,
+            f'Only method {found[0][0].method} is supported on this URI',
+            {'Allow': found[0][0].method},
+        )
     raise Refusal(404)
 
 
 # ---- the server ----
 
-class StrictServer:
-    """The server, which listens in a thread of its own while it is used as a context; without that its data can be used all the same.
 
-    `users` are the users by their tokens. With `first_id` the next id of a new node, way or relation is this one, or the
-    one after the highest that is there where that is higher.
+class StrictServer:
+    """The server, which listens in a thread of its own while it is used as a context; without that
+    its data can be used all the same.
+
+    `users` are the users by their tokens. With `first_id` the next id of a new node, way or
+    relation is this one, or the one after the highest that is there where that is higher.
     """
 
-    def __init__(self, elements: Iterable[Element] = (), port: int = 0, limits: Optional[Limits] = None,
-                 users: Optional[Dict[str, User]] = None, first_id: int = 1):
+    def __init__(
+        self,
+        elements: Iterable[Element] = (),
+        port: int = 0,
+        limits: Optional[Limits] = None,
+        users: Optional[Dict[str, User]] = None,
+        first_id: int = 1,
+    ):
         self.database = Database(elements, limits, first_id)
         self.users = dict(USERS if users is None else users)
-        self.scopes: Dict[str, Tuple[str, ...]] = {}    # what tokens may do; SCOPES where a token isn't in it
-        self.blocks: Dict[str, str] = {}        # names of users who may do nothing, each with a cause, which is a key of BLOCKS
-        self.connections = 0                    # how many were opened
-        self.authorisation: Optional[Authorisation] = None      # answers below /oauth2 where it is there
+        self.scopes: Dict[
+            str, Tuple[str, ...]
+        ] = {}  # what tokens may do; SCOPES where a token isn't in it
+        self.blocks: Dict[
+            str, str
+        ] = {}  # names of users who may do nothing, each with a cause, which is a key of BLOCKS
+        self.connections = 0  # how many were opened
+        self.authorisation: Optional[
+            Authorisation
+        ] = None  # answers below /oauth2 where it is there
         self.faults = Faults()
-        self.requests: List[str] = []           # the operations asked for, in their order
-        self.answers: Counter = Counter()       # how many answers of each status were made, faults apart, such as `upload 409`
-        self.lock = threading.RLock()           # held while an operation is done, so that each is done whole
-        self.watch: Optional[Callable[[str, str], Any]] = None      # called with `before` or `after`, and the operation
+        self.requests: List[str] = []  # the operations asked for, in their order
+        self.answers: Counter = (
+            Counter()
+        )  # how many answers of each status were made, faults apart, such as `upload 409`
+        self.lock = threading.RLock()  # held while an operation is done, so that each is done whole
+        self.watch: Optional[
+            Callable[[str, str], Any]
+        ] = None  # called with `before` or `after`, and the operation
         self._hooks: List[Hook] = []
         self._late: List[Late] = []
         self._port = port
@@ -257,7 +328,9 @@ class StrictServer:
 
     def __enter__(self) -> 'StrictServer':
         self._http = Listener(('127.0.0.1', self._port), self)
-        self._thread = threading.Thread(target=self._http.serve_forever, kwargs={'poll_interval': 0.02}, daemon=True)
+        self._thread = threading.Thread(
+            target=self._http.serve_forever, kwargs={'poll_interval': 0.02}, daemon=True
+        )
         self._thread.start()
         return self
 
@@ -269,7 +342,7 @@ class StrictServer:
     @property
     def address(self) -> str:
         """The address without a path, such as `http://127.0.0.1:8080`, while it listens."""
-        return 'http://127.0.0.1:{}'.format(self._http.server_address[1])
+        return f'http://127.0.0.1:{self._http.server_address[1]}'
 
     @property
     def api(self) -> str:
@@ -291,21 +364,34 @@ class StrictServer:
 
     def created_by(self, user: str = MAPPER.name) -> List[Element]:
         """What a user created, in its first version."""
-        return [change.element for change in self.history if change.verb == 'create' and change.user == user]
+        return [
+            change.element
+            for change in self.history
+            if change.verb == 'create' and change.user == user
+        ]
 
     def created_twice(self, user: str = MAPPER.name) -> List[Tuple[Element, Element]]:
         """Pairs of what a user created with the same kind, tags, place, nodes and members."""
         first: Dict[tuple, Element] = {}
         twice = []
         for element in self.created_by(user):
-            place = (element.kind, tuple(sorted(element.tags.items())), element.lon, element.lat, element.nodes, element.members)
+            place = (
+                element.kind,
+                tuple(sorted(element.tags.items())),
+                element.lon,
+                element.lat,
+                element.nodes,
+                element.members,
+            )
             if place in first:
                 twice.append((first[place], element))
             first.setdefault(place, element)
         return twice
 
     def elements(self) -> List[Element]:
-        """The last version of each element, the deleted ones too, nodes before ways before relations."""
+        """The last version of each element, the deleted ones too, nodes before ways before
+        relations.
+        """
         with self.lock:
             return self.database.all()
 
@@ -320,31 +406,58 @@ class StrictServer:
         self._hooks.append(Hook('before', operation, number, call))
 
     def after(self, operation: str, number: int, call: Callable[[], Any]) -> None:
-        """Calls something when the request of an operation with a number was done, before it is answered."""
+        """Calls something when the request of an operation with a number was done, before it is
+        answered.
+        """
         self._hooks.append(Hook('after', operation, number, call))
 
     def close_idle(self) -> None:
-        """Closes all changesets that are open, as the live server does with those in which nothing came for an hour."""
+        """Closes all changesets that are open, as the live server does with those in which nothing
+        came for an hour.
+        """
         with self.lock:
             for changeset in self.database.changesets.values():
                 if changeset.closed_at is None:
                     changeset.closed_at = self.database.clock()
 
-    def edit(self, verb: str, key: str, user: User = SOMEBODY, tags: Optional[Dict[str, str]] = None, place: Optional[Tuple[str, str]] = None,
-             nodes: Optional[Iterable[int]] = None, members: Optional[Iterable[Tuple[str, int, str]]] = None) -> str:
-        """Changes the data as another user, in a changeset of its own, and gives the key; Refusal where the API doesn't let it.
+    def edit(
+        self,
+        verb: str,
+        key: str,
+        user: User = SOMEBODY,
+        tags: Optional[Dict[str, str]] = None,
+        place: Optional[Tuple[str, str]] = None,
+        nodes: Optional[Iterable[int]] = None,
+        members: Optional[Iterable[Tuple[str, int, str]]] = None,
+    ) -> str:
+        """Changes the data as another user, in a changeset of its own, and gives the key; Refusal
+        where the API doesn't let it.
 
-        What isn't named stays. A place is a longitude and a latitude in degrees, a member a kind, an id and a role. A new
-        element has a key with a negative id.
+        What isn't named stays. A place is a longitude and a latitude in degrees, a member a kind,
+        an id and a role. A new element has a key with a negative id.
         """
         with self.lock:
             database = self.database
             old = database.current(key) or Element(KIND_OF_LETTER[key[0]], int(key[1:]), version=0)
-            lon, lat = (units(degree) for degree in place) if place is not None else (old.lon, old.lat)
+            lon, lat = (
+                (units(degree) for degree in place) if place is not None else (old.lon, old.lat)
+            )
             number = database.create_changeset(user, b'<osm><changeset/></osm>')
-            new = Element(old.kind, old.number, old.version, True, number, '', 0, '', dict(old.tags if tags is None else tags), lon, lat,
-                          old.nodes if nodes is None else tuple(nodes),
-                          old.members if members is None else tuple(Member(*member) for member in members))
+            new = Element(
+                old.kind,
+                old.number,
+                old.version,
+                True,
+                number,
+                '',
+                0,
+                '',
+                dict(old.tags if tags is None else tags),
+                lon,
+                lat,
+                old.nodes if nodes is None else tuple(nodes),
+                old.members if members is None else tuple(Member(*member) for member in members),
+            )
             block = ElementTree.Element(verb)
             block.append(as_xml(new))
             database.upload(number, user, document('osmChange', [block]))
@@ -354,7 +467,9 @@ class StrictServer:
     # ---- one request ----
 
     def answer(self, method: str, target: str, headers, body: bytes) -> Tuple[str, Answer]:
-        """The fault that a request meets, or an empty text, and the answer that it would have without."""
+        """The fault that a request meets, or an empty text, and the answer that it would have
+        without.
+        """
         path, _, query = target.partition('?')
         try:
             if self.authorisation is not None and path.startswith(PATHS):
@@ -362,7 +477,7 @@ class StrictServer:
                     found = self.authorisation.answer(method, target, headers, body)
                 return '', Answer(found.status, found.body, found.type, found.headers)
             if path.startswith('/control/'):
-                return '', self._control(method, path[len('/control/'):], body)
+                return '', self._control(method, path[len('/control/') :], body)
             route, parts = route_of(method, path)
             words = dict(urllib.parse.parse_qsl(query, keep_blank_values=True))
             user, scopes = self._user(route, headers)
@@ -371,14 +486,19 @@ class StrictServer:
             return '', refused(why)
 
     def _user(self, route: Route, headers) -> Tuple[Optional[User], Tuple[str, ...]]:
-        """Whose request it is, and what the token may do; 401 where the operation needs a user and there is none, 403 where the account
-        is blocked or the token may not do it."""
+        """Whose request it is, and what the token may do; 401 where the operation needs a user and
+        there is none, 403 where the account is blocked or the token may not do it.
+        """
         found = re.fullmatch('[Bb]earer +(.+)', headers.get('Authorization') or '')
         token = found[1].strip() if found else ''
         user = self.users.get(token)
         if user is None:
             if route.scope:
-                raise Refusal(401, 'Couldn\'t authenticate you', {'WWW-Authenticate': 'Bearer realm="Web Password"'})
+                raise Refusal(
+                    401,
+                    'Couldn\'t authenticate you',
+                    {'WWW-Authenticate': 'Bearer realm="Web Password"'},
+                )
             return None, ()
         scopes = self.scopes.get(token, SCOPES)
         if user.name in self.blocks and (route.scope or route.operation == 'permissions'):
@@ -396,12 +516,15 @@ class StrictServer:
             number = self.requests.count(route.operation)
         self._call('before', route.operation, number)
         if fault.startswith('late-'):
-            self._late.append(Late(route, request, int(fault[len('late-'):])))
+            self._late.append(Late(route, request, int(fault[len('late-') :])))
         if fault.startswith('late-') or fault.endswith('-before'):
             return fault, self._faulty(fault)
         answer = self._act(route, request)
         self._call('after', route.operation, number)
-        return fault, self._faulty(fault) if fault in ('500-after', '504-after', '302-after') else answer
+        return (
+            fault,
+            self._faulty(fault) if fault in ('500-after', '504-after', '302-after') else answer,
+        )
 
     def _act(self, route: Route, request: Request) -> Answer:
         """Does an operation, and gives its answer."""
@@ -410,7 +533,7 @@ class StrictServer:
                 answer = route.act(self.database, request)
             except Refusal as why:
                 answer = refused(why)
-            self.answers['{} {}'.format(route.operation, answer.status)] += 1
+            self.answers[f'{route.operation} {answer.status}'] += 1
             return answer
 
     def _do_late(self) -> None:
@@ -435,9 +558,13 @@ class StrictServer:
             return refused(REFUSALS[fault](self.limits))
         if fault.startswith(('50', '302')):
             phrase = HTTPStatus(int(fault[:3])).phrase
-            return Answer(int(fault[:3]),
-                          '<html><head><title>{0} {1}</title></head><body><h1>{1}</h1></body></html>\n'.format(fault[:3], phrase).encode(),
-                          'text/html; charset=iso-8859-1')
+            return Answer(
+                int(fault[:3]),
+                '<html><head><title>{0} {1}</title></head><body><h1>{1}</h1></body></html>\n'.format(
+                    fault[:3], phrase
+                ).encode(),
+                'text/html; charset=iso-8859-1',
+            )
         return Answer(200)
 
     # ---- from another process ----
@@ -447,13 +574,21 @@ class StrictServer:
         if (method, what) == ('GET', 'elements'):
             return Answer(200, self.opl().encode('utf-8'))
         if (method, what) == ('GET', 'history'):
-            return Answer(200, json.dumps([told(change) for change in self.history]).encode(), 'application/json')
+            return Answer(
+                200,
+                json.dumps([told(change) for change in self.history]).encode(),
+                'application/json',
+            )
         if (method, what) == ('DELETE', 'faults'):
             self.faults.clear()
             return Answer(200)
         acts: Dict[str, Callable[..., Optional[str]]] = {
-            'faults': self._set_fault, 'edit': self._set_edit, 'limits': self._set_limits, 'account': self._set_account,
-            'redact': self.database.redact}
+            'faults': self._set_fault,
+            'edit': self._set_edit,
+            'limits': self._set_limits,
+            'account': self._set_account,
+            'redact': self.database.redact,
+        }
         act = acts.get(what) if method == 'POST' else None
         if act is None:
             raise Refusal(404)
@@ -462,7 +597,14 @@ class StrictServer:
         except (TypeError, ValueError, KeyError) as error:
             raise Refusal(400, str(error))
 
-    def _set_fault(self, kind: str, operation: str = 'upload', skip: int = 0, chance: Optional[float] = None, seed: int = 0) -> None:
+    def _set_fault(
+        self,
+        kind: str,
+        operation: str = 'upload',
+        skip: int = 0,
+        chance: Optional[float] = None,
+        seed: int = 0,
+    ) -> None:
         if chance is None:
             self.faults.once(kind, operation, skip)
         else:
@@ -477,11 +619,15 @@ class StrictServer:
     def _set_limits(self, **words) -> None:
         for name, value in words.items():
             if not hasattr(self.limits, name):
-                raise ValueError('no limit {!r}'.format(name))
+                raise ValueError(f'no limit {name!r}')
             setattr(self.limits, name, value)
 
-    def _set_account(self, token: str = TOKEN, scopes: Optional[List[str]] = None, block: Optional[str] = None) -> None:
-        """Sets what a token may do, and the cause for which its account is blocked; an empty one lets it do all again."""
+    def _set_account(
+        self, token: str = TOKEN, scopes: Optional[List[str]] = None, block: Optional[str] = None
+    ) -> None:
+        """Sets what a token may do, and the cause for which its account is blocked; an empty one
+        lets it do all again.
+        """
         user = self.users[token]
         if scopes is not None:
             self.scopes[token] = tuple(scopes)
@@ -491,7 +637,9 @@ class StrictServer:
             self.blocks.pop(user.name, None)
 
 
-REFUSALS: Dict[str, Callable[[Limits], Refusal]] = {    # of faults, which are met although no limit is reached
+REFUSALS: Dict[
+    str, Callable[[Limits], Refusal]
+] = {  # of faults, which are met although no limit is reached
     '429-before': lambda limits: too_fast(limits.retry_after),
     '429-bare-before': lambda limits: too_fast(None),
     '509-before': lambda limits: too_much(limits.retry_after),
@@ -511,12 +659,21 @@ def known_block(cause: str) -> str:
 
 def told(change: Change) -> Dict[str, Any]:
     """A change as another process is told of it."""
-    return {'number': change.number, 'verb': change.verb, 'key': change.element.key, 'version': change.element.version,
-            'user': change.user, 'changeset': change.element.changeset, 'old_id': change.old_id, 'opl': opl(change.element)}
+    return {
+        'number': change.number,
+        'verb': change.verb,
+        'key': change.element.key,
+        'version': change.element.version,
+        'user': change.user,
+        'changeset': change.element.changeset,
+        'old_id': change.old_id,
+        'opl': opl(change.element),
+    }
 
 
 class Listener(http.server.ThreadingHTTPServer):
     """What listens for the server, with a thread for each connection."""
+
     daemon_threads = True
     block_on_close = False
 
@@ -537,8 +694,9 @@ class Listener(http.server.ThreadingHTTPServer):
 
 class Handler(http.server.BaseHTTPRequestHandler):
     """Reads requests from a connection, and answers them as their faults let it."""
+
     protocol_version = 'HTTP/1.1'
-    wbufsize = -1                       # an answer leaves in one piece
+    wbufsize = -1  # an answer leaves in one piece
     disable_nagle_algorithm = True
     server_version = 'StrictServer'
 
@@ -560,19 +718,25 @@ class Handler(http.server.BaseHTTPRequestHandler):
     def _body(self) -> Optional[bytes]:
         """The body of the request; None where there is none to be had, which is answered then."""
         length = self.headers.get('Content-Length') or '0'
-        if self.headers.get('Transfer-Encoding') or not length.isdigit() or int(length) > MOST_BYTES:
+        if (
+            self.headers.get('Transfer-Encoding')
+            or not length.isdigit()
+            or int(length) > MOST_BYTES
+        ):
             status = 411 if self.headers.get('Transfer-Encoding') or not length.isdigit() else 413
             self.close_connection = True
             self._send(Answer(status, HTTPStatus(status).phrase.encode()))
             return None
         body = self.rfile.read(int(length))
-        if len(body) < int(length):     # the client went away
+        if len(body) < int(length):  # the client went away
             self._hang_up()
             return None
         return body
 
     def _send(self, answer: Answer, half: bool = False) -> None:
-        phrase = 'Bandwidth Limit Exceeded' if answer.status == 509 else HTTPStatus(answer.status).phrase
+        phrase = (
+            'Bandwidth Limit Exceeded' if answer.status == 509 else HTTPStatus(answer.status).phrase
+        )
         body, headers = answer.body, answer.headers
         if body and 'gzip' in (self.headers.get('Accept-Encoding') or ''):
             body, headers = gzip.compress(body, 6), (('Content-Encoding', 'gzip'), *headers)
@@ -584,7 +748,7 @@ class Handler(http.server.BaseHTTPRequestHandler):
         if self.close_connection:
             self.send_header('Connection', 'close')
         self.end_headers()
-        self.wfile.write(body[:len(body) // 2] if half else body)
+        self.wfile.write(body[: len(body) // 2] if half else body)
         self.wfile.flush()
         if half:
             self._hang_up()
@@ -601,22 +765,31 @@ def write_number(path: str, number: int) -> None:
     """Writes a number to a file, which is there whole or not at all."""
     part = path + '.part'
     with open(part, 'w', encoding='ascii') as file:
-        file.write('{}\n'.format(number))
+        file.write(f'{number}\n')
     os.replace(part, path)
 
 
 def main() -> None:
-    words = argparse.ArgumentParser(description=__doc__, formatter_class=argparse.RawDescriptionHelpFormatter)
+    words = argparse.ArgumentParser(
+        description=__doc__, formatter_class=argparse.RawDescriptionHelpFormatter
+    )
     words.add_argument('--port', type=int, default=0, help='the port; a free one if not said')
-    words.add_argument('--changeset-elements', type=int, default=Limits.changeset_elements, help='changes that a changeset takes')
-    words.add_argument('--pid', metavar='FILE', help='write the number of the process to FILE once it answers')
+    words.add_argument(
+        '--changeset-elements',
+        type=int,
+        default=Limits.changeset_elements,
+        help='changes that a changeset takes',
+    )
+    words.add_argument(
+        '--pid', metavar='FILE', help='write the number of the process to FILE once it answers'
+    )
     words.add_argument('data', help='a file in OPL, or OSM XML where its name ends in .osm')
     said = words.parse_args()
     limits = Limits(changeset_elements=said.changeset_elements)
     try:
         found = read_file(said.data)
     except (OSError, ValueError) as error:
-        sys.exit('{}: {}'.format(said.data, error))
+        sys.exit(f'{said.data}: {error}')
     with StrictServer(found, said.port, limits) as server:
         print(server.address, flush=True)
         if said.pid:

@@ -1,4 +1,6 @@
-"""The truths of conflations and reverts that random days are held against fail where something is wrong."""
+"""The truths of conflations and reverts that random days are held against fail where something is
+wrong.
+"""
 import random
 import unittest
 from typing import Any, Dict, Optional
@@ -16,13 +18,25 @@ def session(**lines: str) -> Session:
     found = {}
     for name, line in lines.items():
         element = of_opl(line)
-        found[element.key] = Known(None if element.number < 0 else of_opl(SHOP), element, None, 'none')
+        found[element.key] = Known(
+            None if element.number < 0 else of_opl(SHOP), element, None, 'none'
+        )
     return found
 
 
 class Conflations(unittest.TestCase):
-    row = matching.Row('n1', 130_010_000, 520_010_000, {'shop': 'kiosk', 'name': 'Linden', 'phone': '7', matching.MARK: 'a'})
-    new = matching.Row('', 130_020_000, 520_010_000, {'shop': 'kiosk', 'name': 'Neu', 'phone': '8', matching.MARK: 'b'})
+    row = matching.Row(
+        'n1',
+        130_010_000,
+        520_010_000,
+        {'shop': 'kiosk', 'name': 'Linden', 'phone': '7', matching.MARK: 'a'},
+    )
+    new = matching.Row(
+        '',
+        130_020_000,
+        520_010_000,
+        {'shop': 'kiosk', 'name': 'Neu', 'phone': '8', matching.MARK: 'b'},
+    )
     made = 'n-1 v0 dV Tfeature=b,name=Neu,phone=8,shop=kiosk x13.002 y52.001'
 
     def check(self, **lines: str) -> int:
@@ -34,9 +48,13 @@ class Conflations(unittest.TestCase):
 
     def test_anything_else_fails(self) -> None:
         twice = self.made.replace('n-1', 'n-2')
-        for lines in ({'n': SHOP.replace('Linden', 'Other')}, {'n': SHOP.replace('Linden', 'Linden,phone=8')},
-                      {'n': SHOP, 'made': self.made, 'twice': twice}, {'n': SHOP, 'made': self.made.replace('13.002', '13.003')},
-                      {'n': SHOP, 'made': self.made.replace('feature=b', 'feature=a')}):
+        for lines in (
+            {'n': SHOP.replace('Linden', 'Other')},
+            {'n': SHOP.replace('Linden', 'Linden,phone=8')},
+            {'n': SHOP, 'made': self.made, 'twice': twice},
+            {'n': SHOP, 'made': self.made.replace('13.002', '13.003')},
+            {'n': SHOP, 'made': self.made.replace('feature=b', 'feature=a')},
+        ):
             with self.subTest(lines), self.assertRaises(Failed):
                 self.check(**lines)
 
@@ -46,19 +64,28 @@ class Conflations(unittest.TestCase):
             matching.check_once([of_opl(self.made), of_opl(self.made.replace('n-1', 'n5'))])
 
     def test_rows_are_of_shops_and_of_none(self) -> None:
-        rows = [row for seed in range(20) for row in matching.rows_of(session(n=SHOP), random.Random(seed), 'x')]
+        rows = [
+            row
+            for seed in range(20)
+            for row in matching.rows_of(session(n=SHOP), random.Random(seed), 'x')
+        ]
         self.assertEqual({'n1', ''}, {row.shop for row in rows})
 
 
 class Reverts(unittest.TestCase):
     def undone(self, before: Optional[str], left: str, now: str) -> reverting.Undone:
         sides: Dict[str, Optional[Element]] = {
-            name: of_opl('n1 v1 ' + text) if text else None for name, text in (('before', before), ('left', left), ('now', now))}
+            name: of_opl('n1 v1 ' + text) if text else None
+            for name, text in (('before', before), ('left', left), ('now', now))
+        }
         return reverting.Undone(sides['before'], of_opl('n1 v1 ' + left), of_opl('n1 v1 ' + now))
 
     def test_only_what_the_changesets_changed_goes_back(self) -> None:
         one = self.undone('Ta=1 x1 y1', 'Ta=2 x1 y1', 'Ta=2,b=3 x2 y1')
-        self.assertEqual({'tag a': '1', 'tag b': '3', 'place': (20_000_000, 10_000_000), 'there': True}, reverting.wanted(one))
+        self.assertEqual(
+            {'tag a': '1', 'tag b': '3', 'place': (20_000_000, 10_000_000), 'there': True},
+            reverting.wanted(one),
+        )
         self.assertFalse(reverting.clashes(one))
 
     def test_what_was_made_goes_and_what_was_deleted_comes_back(self) -> None:
@@ -73,11 +100,13 @@ class Reverts(unittest.TestCase):
 
 
 class EditedBesides(unittest.TestCase):
-    """An object that isn't of the changesets, and that the session has come back as it was before it was deleted."""
+    """An object that isn't of the changesets, and that the session has come back as it was before
+    it was deleted.
+    """
 
     was = 'n1 v1 dV c1 Ta=1 x1 y1'
     gone = 'n1 v2 dD c2 T x y'
-    back = 'n1 v3 dV c3 Tb=2 x2 y2'                     # by somebody else, while the revert asks or before
+    back = 'n1 v3 dV c3 Tb=2 x2 y2'  # by somebody else, while the revert asks or before
 
     def check(self, *lines: str, seen: int, base: str = gone, mine: str = was) -> None:
         known = Known(of_opl(base), of_opl(mine), None, 'none')

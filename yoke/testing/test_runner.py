@@ -54,7 +54,6 @@ def lines():
 
 
 class Runs(unittest.TestCase):
-
     def setUp(self):
         place = tempfile.TemporaryDirectory()
         self.addCleanup(place.cleanup)
@@ -69,7 +68,9 @@ class Runs(unittest.TestCase):
         """The exit code of a run, and what it wrote."""
         output = self.folder / 'output'
         process = self.runner.start(list(words), str(self.folder), {'WORD': 'w'}, str(output), line)
-        return self.runner.wait(process, seconds), output.read_text(encoding='utf-8').replace(str(self.folder), 'HERE')
+        return self.runner.wait(process, seconds), output.read_text(encoding='utf-8').replace(
+            str(self.folder), 'HERE'
+        )
 
     def test_words_folder_environment_and_code(self):
         self.assertEqual(self.run_it('ends', '0'), (0, 'w HERE ends 0\n'))
@@ -86,8 +87,13 @@ class Runs(unittest.TestCase):
 
     def test_a_run_dies_before_a_line(self):
         for line, written in [(1, ''), (2, 'one\n'), (3, 'one\ntwo\n')]:
-            self.assertEqual(self.run_it('lines', '0', line=line), (-signal.SIGKILL, 'w HERE lines 0\n' + written))
-        self.assertEqual(self.run_it('lines', '0', line=4), (0, 'w HERE lines 0\none\ntwo\nthree\n'))
+            self.assertEqual(
+                self.run_it('lines', '0', line=line),
+                (-signal.SIGKILL, 'w HERE lines 0\n' + written),
+            )
+        self.assertEqual(
+            self.run_it('lines', '0', line=4), (0, 'w HERE lines 0\none\ntwo\nthree\n')
+        )
 
     def test_a_run_that_hangs_is_killed(self):
         with self.assertRaises(TimeoutError):
@@ -95,7 +101,9 @@ class Runs(unittest.TestCase):
         self.assertEqual(self.run_it('ends', '3')[0], 3)
 
     def test_a_run_that_ended_long_before_it_is_waited_for(self):
-        process = self.runner.start(['ends', '3'], str(self.folder), {}, str(self.folder / 'output'))
+        process = self.runner.start(
+            ['ends', '3'], str(self.folder), {}, str(self.folder / 'output')
+        )
         time.sleep(0.5)
         self.assertEqual(self.runner.wait(process, 60), 3)
 
@@ -105,7 +113,17 @@ class Runs(unittest.TestCase):
 
     def test_who_asks_may_be_gone_before_a_run_ends(self):
         code = 'import os\nfrom yoke.testing.runner import Runner\nrunner = Runner({0!r}).__enter__()\nrunner.start(["takes", "0.5"], {0!r}, {{}}, {1!r})\nos._exit(0)\n'
-        done = subprocess.run([sys.executable, '-B', '-c', code.format(str(self.folder), str(self.folder / 'output'))], cwd=TOP, stdout=subprocess.PIPE, stderr=subprocess.PIPE)
+        done = subprocess.run(
+            [
+                sys.executable,
+                '-B',
+                '-c',
+                code.format(str(self.folder), str(self.folder / 'output')),
+            ],
+            cwd=TOP,
+            stdout=subprocess.PIPE,
+            stderr=subprocess.PIPE,
+        )
         self.assertEqual((done.returncode, done.stdout, done.stderr), (0, b'', b''))
 
 

@@ -1,8 +1,10 @@
-"""A random script over a random town, by tiles and by one session over all: the same changes, object by object.
+"""A random script over a random town, by tiles and by one session over all: the same changes,
+object by object.
 
     python3 -m yoke.testing.tiles_trial [--nights] FIRST LAST        seeds; needs osmium and the program, $YOKE_EDITOR
 
-Prints a line for each seed, and ends with 1 where a difference is none of the classes that docs/HOWTO/tiles.md names.
+Prints a line for each seed, and ends with 1 where a difference is none of the classes that
+docs/HOWTO/tiles.md names.
 """
 from __future__ import annotations
 
@@ -25,11 +27,19 @@ from yoke.tiles import edit, engine, extracts, merge, script, worker
 from yoke.tiles.cluster import Where
 from yoke.tiles.worker import Done, Job
 
-BOX = (Decimal(13), Decimal(52), Decimal('13.01'), Decimal('52.007'))      # of a town of some 50 blocks
-QUERIES = ['tag ( Tcreated_by=* ) Tcreated_by=', 'tag ( way and Thighway=residential and not Tmaxspeed=* ) Tsource:maxspeed=DE:urban',
-           'tag ( relation and Troute=bus ) Tnetwork=Town', 'tag ( node and Tshop=bakery ) Tcheck=1', 'move ( node and Tnatural=tree ) 0.0000100 0',
-           'delete ( node and Tnatural=tree and Tcheck=1 )', 'erase ( way and Taddr:housenumber=7 )', 'tag ( parent Tbuilding=house ) Tcorner=yes',
-           'tag ( way and child Tcheck=1 ) Thas_check=yes', 'tag ( Tcheck=1 and not Tname=* ) Tcheck=']
+BOX = (Decimal(13), Decimal(52), Decimal('13.01'), Decimal('52.007'))  # of a town of some 50 blocks
+QUERIES = [
+    'tag ( Tcreated_by=* ) Tcreated_by=',
+    'tag ( way and Thighway=residential and not Tmaxspeed=* ) Tsource:maxspeed=DE:urban',
+    'tag ( relation and Troute=bus ) Tnetwork=Town',
+    'tag ( node and Tshop=bakery ) Tcheck=1',
+    'move ( node and Tnatural=tree ) 0.0000100 0',
+    'delete ( node and Tnatural=tree and Tcheck=1 )',
+    'erase ( way and Taddr:housenumber=7 )',
+    'tag ( parent Tbuilding=house ) Tcorner=yes',
+    'tag ( way and child Tcheck=1 ) Thas_check=yes',
+    'tag ( Tcheck=1 and not Tname=* ) Tcheck=',
+]
 
 
 def in_turn(jobs: Sequence[Job], where: Where, folder: pathlib.Path) -> Iterator[Done]:
@@ -38,7 +48,9 @@ def in_turn(jobs: Sequence[Job], where: Where, folder: pathlib.Path) -> Iterator
 
 
 def random_script(dice: random.Random, town: Town, count: int) -> list[str]:
-    """Lines of all kinds that tiles take, over objects that are there, and now and then over one that isn't."""
+    """Lines of all kinds that tiles take, over objects that are there, and now and then over one
+    that isn't.
+    """
     lines = dice.sample(QUERIES, dice.randint(0, 4))
     for _ in range(count):
         lines.insert(dice.randint(0, len(lines)), _line(dice, town))
@@ -50,8 +62,28 @@ def _line(dice: random.Random, town: Town) -> str:
     way = dice.randint(1, ways)
     refs, _ = town.ways[way - 1]
     node = dice.choice(refs)
-    verb = dice.choice(['tag', 'tag', 'split', 'split', 'combine', 'erase', 'squeeze', 'fuse', 'reverse', 'nodes', 'members', 'node', 'way', 'group', 'move',
-                        'place', 'delete', 'tags of many'])
+    verb = dice.choice(
+        [
+            'tag',
+            'tag',
+            'split',
+            'split',
+            'combine',
+            'erase',
+            'squeeze',
+            'fuse',
+            'reverse',
+            'nodes',
+            'members',
+            'node',
+            'way',
+            'group',
+            'move',
+            'place',
+            'delete',
+            'tags of many',
+        ]
+    )
     if verb == 'tag':
         return f'tag {dice.choice([f"w{way}", f"n{node}", f"r{dice.randint(1, len(town.relations))}"])} Tnote={dice.randint(1, 9)}'
     if verb == 'tags of many':
@@ -60,11 +92,17 @@ def _line(dice: random.Random, town: Town) -> str:
     if verb == 'split' and len(refs) > 2:
         return f'split w{way} n{dice.choice(refs[1:-1])}'
     if verb == 'combine':
-        street = dice.choice([ways for ways in town.streets.values() if len(ways) > 1] or [[way, way % ways + 1]])
+        street = dice.choice(
+            [ways for ways in town.streets.values() if len(ways) > 1] or [[way, way % ways + 1]]
+        )
         at = dice.randrange(len(street) - 1)
         return f'combine w{street[at]},w{street[at + 1]}'
     if verb == 'fuse':
-        return f'fuse n{node},n{dice.choice(refs)}' if dice.random() < .3 else f'fuse {_doubled(dice, town)}'
+        return (
+            f'fuse n{node},n{dice.choice(refs)}'
+            if dice.random() < 0.3
+            else f'fuse {_doubled(dice, town)}'
+        )
     if verb == 'nodes':
         return f'nodes w{way} N{",".join(f"n{ref}" for ref in refs + [dice.randint(1, nodes)])}'
     if verb == 'members':
@@ -79,7 +117,11 @@ def _line(dice: random.Random, town: Town) -> str:
         return f'place n{node} x{opl.degrees(town.nodes[node - 1][0] + .00001)} y{opl.degrees(town.nodes[node - 1][1])}'
     if verb == 'delete':
         return f'delete n{dice.randint(1, nodes)}'
-    return f'{verb} w{way}' if verb in ('erase', 'squeeze', 'reverse') else f'tag w{way},w{way % ways + 1} Tgroup=yes'
+    return (
+        f'{verb} w{way}'
+        if verb in ('erase', 'squeeze', 'reverse')
+        else f'tag w{way},w{way % ways + 1} Tgroup=yes'
+    )
 
 
 def _doubled(dice: random.Random, town: Town) -> str:
@@ -92,38 +134,58 @@ def _doubled(dice: random.Random, town: Town) -> str:
 
 
 def new_ones(dice: random.Random, town: Town, folder: pathlib.Path, seed: int) -> list[str]:
-    """Lines that make objects across borders: an import, a turn restriction, and a path whose parts have names."""
+    """Lines that make objects across borders: an import, a turn restriction, and a path whose parts
+    have names.
+    """
+
     def node() -> int:
         return dice.randint(1, len(town.nodes))
+
     lon, lat, _ = town.nodes[node() - 1]
     place = f'x{opl.degrees(lon)} y{opl.degrees(lat + .00002)}'
     file = folder / f'{seed}-new.opl'
-    file.write_text(f'n-1 {place} Tshop=kiosk\nw-2 Thighway=path Nn-1,n{node()},n{node()}\nr-3 Ttype=site Mw-2@,n{node()}@entrance\n',
-                    encoding='utf-8')
+    file.write_text(
+        f'n-1 {place} Tshop=kiosk\nw-2 Thighway=path Nn-1,n{node()},n{node()}\nr-3 Ttype=site Mw-2@,n{node()}@entrance\n',
+        encoding='utf-8',
+    )
     refs, _ = town.ways[via_way := dice.randrange(len(town.ways))]
     other = dice.randint(1, len(town.ways))
-    return [f'import {opl.escape(str(file))}',
-            f'relation Ttype=restriction,restriction=no_u_turn Mw{via_way + 1}@from,n{dice.choice(refs)}@via,w{other}@to',
-            f'node {place} Tbarrier=gate as gate\nway Thighway=path Nn{node()},gate as path\ntag path Tsurface=gravel']
+    return [
+        f'import {opl.escape(str(file))}',
+        f'relation Ttype=restriction,restriction=no_u_turn Mw{via_way + 1}@from,n{dice.choice(refs)}@via,w{other}@to',
+        f'node {place} Tbarrier=gate as gate\nway Thighway=path Nn{node()},gate as path\ntag path Tsurface=gravel',
+    ]
 
 
 def with_new_ones(dice: random.Random, lines: list[str], more: list[str]) -> list[str]:
-    """The script with some of these lines at random places; names stand first, since all lines up to the last one make a group."""
+    """The script with some of these lines at random places; names stand first, since all lines up
+    to the last one make a group.
+    """
     found = list(lines)
     for line in more[:-1]:
-        if dice.random() < .4:
+        if dice.random() < 0.4:
             found.insert(dice.randint(0, len(found)), line)
-    return more[-1].split('\n') + found if dice.random() < .3 else found
+    return more[-1].split('\n') + found if dice.random() < 0.3 else found
 
 
 def content(verb: str, thing: opl.Object) -> tuple[object, ...]:
     """A change as something to compare; new objects have ids of their own."""
     if verb == 'delete':
         return verb, thing.key, thing.version
+
     def name(key: str) -> str:
         return key if key[1] != '-' else key[0] + '?'
-    return (verb, name(thing.key), thing.version, tuple(sorted(thing.tags.items())), str(thing.lon), str(thing.lat),
-            tuple(map(name, thing.nodes)), tuple((name(key), role) for key, role in thing.members))
+
+    return (
+        verb,
+        name(thing.key),
+        thing.version,
+        tuple(sorted(thing.tags.items())),
+        str(thing.lon),
+        str(thing.lat),
+        tuple(map(name, thing.nodes)),
+        tuple((name(key), role) for key, role in thing.members),
+    )
 
 
 def trial(program: Program, seed: int, blocks: int, folder: pathlib.Path) -> tuple[int, list[str]]:
@@ -141,19 +203,32 @@ def trial(program: Program, seed: int, blocks: int, folder: pathlib.Path) -> tup
     if not units:
         return 0, []
     one = edit.run(program, str(file), units, lambda there: lambda key: True, is_whole=True)
-    asked = engine.Asked(pbf, 'script', lines, dice.randint(1, 5), dice.randint(1, 5), folder / f'work-{seed}', Where(1))
-    with mock.patch('yoke.tiles.extracts.MOST_MEMORY', more.choice([0, extracts.MOST_MEMORY])):     # with ids of their own or not
+    asked = engine.Asked(
+        pbf,
+        'script',
+        lines,
+        dice.randint(1, 5),
+        dice.randint(1, 5),
+        folder / f'work-{seed}',
+        Where(1),
+    )
+    with mock.patch(
+        'yoke.tiles.extracts.MOST_MEMORY', more.choice([0, extracts.MOST_MEMORY])
+    ):  # with ids of their own or not
         many = engine.run(program, asked, in_turn)
     expected = sorted(map(repr, (content(change.verb, change.thing) for change in one.changes)))
     got = sorted(map(repr, (content(verb, thing) for verb, thing in many.changes)))
     missing, more = set(expected) - set(got), set(got) - set(expected)
     if not missing and not more and len(expected) != len(got):
         more = {'a change stands twice'}
-    return len(expected), [f'one session only: {text}' for text in sorted(missing)] + [f'tiles only: {text}' for text in sorted(more)]
+    return len(expected), [f'one session only: {text}' for text in sorted(missing)] + [
+        f'tiles only: {text}' for text in sorted(more)
+    ]
 
 
 def night(program: Program, seed: int, blocks: int, folder: pathlib.Path) -> tuple[int, list[str]]:
-    """How many changes all tiles make after others' edits of a day, and what those tiles make otherwise in which something differs.
+    """How many changes all tiles make after others' edits of a day, and what those tiles make
+    otherwise in which something differs.
 
     On the day before the script was done, and its changes were sent.
     """
@@ -165,56 +240,106 @@ def night(program: Program, seed: int, blocks: int, folder: pathlib.Path) -> tup
     wide, high = dice.randint(1, 5), dice.randint(1, 5)
 
     def run(name: str, script_lines: list[str], since: str = '') -> list[tuple[str, opl.Object]]:
-        asked = engine.Asked(str(folder / f'{name}.osm.pbf'), 'script', script_lines, wide, high, folder / f'work-{name}{since and "-since"}', Where(1),
-                             since, BOX)
+        asked = engine.Asked(
+            str(folder / f'{name}.osm.pbf'),
+            'script',
+            script_lines,
+            wide,
+            high,
+            folder / f'work-{name}{since and "-since"}',
+            Where(1),
+            since,
+            BOX,
+        )
         return engine.run(program, asked, in_turn).changes
 
     _write(before, folder / 'first')
     old = applied(before, run('first', lines))
     _write(old, folder / 'old')
     edits = random_script(dice, town, 12)
-    new = applied(old, run('old', [line for line in edits if not line.startswith('tag (')] + ['tag n1 Tcheck=1']))
+    new = applied(
+        old,
+        run('old', [line for line in edits if not line.startswith('tag (')] + ['tag n1 Tcheck=1']),
+    )
     for key in dice.sample(sorted(new), 5):
-        new[key] = replace(new[key], tags={**new[key].tags, 'created_by': 'x', 'check': '1'}, version=new[key].version + 1)
+        new[key] = replace(
+            new[key],
+            tags={**new[key].tags, 'created_by': 'x', 'check': '1'},
+            version=new[key].version + 1,
+        )
     _write(new, folder / 'new')
-    whole, part = ({repr(content(verb, thing)) for verb, thing in run('new', lines, since)} for since in ('', str(folder / 'old.osm.pbf')))
-    return len(whole), [f'all tiles only: {text}' for text in sorted(whole - part)] + [f'some tiles only: {text}' for text in sorted(part - whole)]
+    whole, part = (
+        {repr(content(verb, thing)) for verb, thing in run('new', lines, since)}
+        for since in ('', str(folder / 'old.osm.pbf'))
+    )
+    return len(whole), [f'all tiles only: {text}' for text in sorted(whole - part)] + [
+        f'some tiles only: {text}' for text in sorted(part - whole)
+    ]
 
 
-def applied(things: dict[str, opl.Object], changes: list[tuple[str, opl.Object]]) -> dict[str, opl.Object]:
+def applied(
+    things: dict[str, opl.Object], changes: list[tuple[str, opl.Object]]
+) -> dict[str, opl.Object]:
     """What a server has after these changes."""
     found = dict(things)
-    names = {thing.key: f'{thing.key[0]}{1_000_000 + int(thing.key[2:])}' for _, thing in changes if thing.key[1] == '-'}
+    names = {
+        thing.key: f'{thing.key[0]}{1_000_000 + int(thing.key[2:])}'
+        for _, thing in changes
+        if thing.key[1] == '-'
+    }
     for verb, thing in changes:
         thing = merge.renamed(thing, names)
         found.pop(thing.key, None)
         if verb != 'delete':
-            found[thing.key] = replace(thing, version=thing.version + 1, changeset=2, time='2024-05-07T07:10:00Z', uid=23, user='mapper')
+            found[thing.key] = replace(
+                thing,
+                version=thing.version + 1,
+                changeset=2,
+                time='2024-05-07T07:10:00Z',
+                uid=23,
+                user='mapper',
+            )
     return found
 
 
 def _write(things: dict[str, opl.Object], to: pathlib.Path) -> None:
     """Writes objects as `TO.osm.pbf`."""
     path = to.with_suffix('.opl')
-    path.write_text(''.join(opl.line(things[key]) + '\n' for key in sorted(things, key=opl.rank)), encoding='utf-8')
+    path.write_text(
+        ''.join(opl.line(things[key]) + '\n' for key in sorted(things, key=opl.rank)),
+        encoding='utf-8',
+    )
     extracts.osmium('cat', '-O', '-o', f'{to}.osm.pbf', path)
 
 
 def main() -> int:
-    words = argparse.ArgumentParser(description=__doc__, formatter_class=argparse.RawDescriptionHelpFormatter)
+    words = argparse.ArgumentParser(
+        description=__doc__, formatter_class=argparse.RawDescriptionHelpFormatter
+    )
     words.add_argument('first', type=int)
     words.add_argument('last', type=int)
     words.add_argument('--blocks', type=int, default=30)
-    words.add_argument('--nights', action='store_true', help='tiles in which something differs since the day before, beside all tiles')
+    words.add_argument(
+        '--nights',
+        action='store_true',
+        help='tiles in which something differs since the day before, beside all tiles',
+    )
     said = words.parse_args()
     program, bad, changes = Program(os.environ['YOKE_EDITOR']), 0, 0
     for seed in range(said.first, said.last + 1):
         with tempfile.TemporaryDirectory(prefix='yoke-tiles-') as place:
-            count, differences = (night if said.nights else trial)(program, seed, said.blocks, pathlib.Path(place))
+            count, differences = (night if said.nights else trial)(
+                program, seed, said.blocks, pathlib.Path(place)
+            )
         changes += count
         if differences:
             bad += 1
-            print(f'seed {seed}: {len(differences)} differences', *differences[:4], sep='\n    ', flush=True)
+            print(
+                f'seed {seed}: {len(differences)} differences',
+                *differences[:4],
+                sep='\n    ',
+                flush=True,
+            )
     print(f'{said.last - said.first + 1} scripts, {changes} changes, {bad} with a difference')
     return 1 if bad else 0
 

@@ -1,4 +1,6 @@
-"""A headless Chromium for tests: Debian's chromium, chromium-driver and python3-selenium. Without them `MISSING` says what isn't there."""
+"""A headless Chromium for tests: Debian's chromium, chromium-driver and python3-selenium. Without
+them `MISSING` says what isn't there.
+"""
 
 from __future__ import annotations
 
@@ -14,11 +16,12 @@ try:
     from selenium.webdriver.chrome.service import Service
     from selenium.webdriver.common.action_chains import ActionChains
     from selenium.webdriver.common.keys import Keys
-except ImportError:     # Debian: apt-get install python3-selenium
+except ImportError:  # Debian: apt-get install python3-selenium
     webdriver = Service = ActionChains = Keys = None
 
 MISSING = ', '.join(
-    [name for name in ('chromium', 'chromedriver') if shutil.which(name) is None] + ([] if webdriver else ['python3-selenium'])
+    [name for name in ('chromium', 'chromedriver') if shutil.which(name) is None]
+    + ([] if webdriver else ['python3-selenium'])
 )
 SECONDS = 20.0
 
@@ -48,7 +51,10 @@ class Browser:
 
     def size(self, wide: int, high: int) -> None:
         """Makes the part of the window that shows the page so large."""
-        self.driver.execute_cdp_cmd('Emulation.setDeviceMetricsOverride', {'width': wide, 'height': high, 'deviceScaleFactor': 1, 'mobile': False})
+        self.driver.execute_cdp_cmd(
+            'Emulation.setDeviceMetricsOverride',
+            {'width': wide, 'height': high, 'deviceScaleFactor': 1, 'mobile': False},
+        )
 
     def messages(self) -> list[str]:
         """What the browser complained about."""
@@ -58,9 +64,18 @@ class Browser:
 @contextlib.contextmanager
 def started() -> Iterator[Browser]:
     """A browser with a profile of its own, which goes with it."""
-    with tempfile.TemporaryDirectory(prefix='yoke-chromium-', ignore_cleanup_errors=True) as profile:
+    with tempfile.TemporaryDirectory(
+        prefix='yoke-chromium-', ignore_cleanup_errors=True
+    ) as profile:
         options = webdriver.ChromeOptions()
-        for word in ('--headless=new', '--no-sandbox', '--disable-gpu', '--disable-dev-shm-usage', '--window-size=1400,950', f'--user-data-dir={profile}'):
+        for word in (
+            '--headless=new',
+            '--no-sandbox',
+            '--disable-gpu',
+            '--disable-dev-shm-usage',
+            '--window-size=1400,950',
+            f'--user-data-dir={profile}',
+        ):
             options.add_argument(word)
         options.set_capability('goog:loggingPrefs', {'browser': 'ALL'})
         driver = webdriver.Chrome(service=Service(shutil.which('chromedriver')), options=options)

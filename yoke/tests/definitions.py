@@ -1,23 +1,51 @@
-"""Which line of a script is the first bad one, read off the definitions that the program is proved against.
+"""Which line of a script is the first bad one, read off the definitions that the program is proved
+against.
 
-Each function is a definition of `crates/edit_script/specs`, `map_search`, `opl_line`, `opl_text` or `osm_base`, in its words
-and over bytes as there, and nothing of `yoke/scripts/grammar.py` is in it. So the two are readings of one grammar that can
-be held against each other where the program isn't there.
+Each function is a definition of `crates/edit_script/specs`, `map_search`, `opl_line`, `opl_text` or
+`osm_base`, in its words and over bytes as there, and nothing of `yoke/scripts/grammar.py` is in it.
+So the two are readings of one grammar that can be held against each other where the program isn't
+there.
 """
 from __future__ import annotations
 
 from collections.abc import Callable
 
 LETTERS = {ord('n'): 'node', ord('w'): 'way', ord('r'): 'relation'}
-ALONE = {b'begin', b'end', b'print', b'count', b'conflicts', b'save', b'check', b'rehearse', b'answer', b'lost'}
+ALONE = {
+    b'begin',
+    b'end',
+    b'print',
+    b'count',
+    b'conflicts',
+    b'save',
+    b'check',
+    b'rehearse',
+    b'answer',
+    b'lost',
+}
 FILES = {b'import', b'resume', b'confirm', b'serve'}
-MOST = {b'generate': 100000, b'undo': 1000000, b'redo': 1000000, b'upload': 10000, b'send': 10000, b'editor': 4}
-KEY_LISTS = {b'delete': 1, b'erase': 1, b'purge': 1, b'squeeze': 1, b'combine': 2, b'fuse': 2}      # with the fewest keys
+MOST = {
+    b'generate': 100000,
+    b'undo': 1000000,
+    b'redo': 1000000,
+    b'upload': 10000,
+    b'send': 10000,
+    b'editor': 4,
+}
+KEY_LISTS = {
+    b'delete': 1,
+    b'erase': 1,
+    b'purge': 1,
+    b'squeeze': 1,
+    b'combine': 2,
+    b'fuse': 2,
+}  # with the fewest keys
 OPENINGS = {b'not': 'not', b'child': 'child', b'parent': 'parent', b'(': 'bracket'}
 ASKS = {b'node', b'way', b'relation', b'new', b'changed', b'deleted', b'incomplete', b'conflict'}
 
 
 # ---- numbers, keys, places: osm_base ----
+
 
 def number_text(most: int, text: bytes) -> int | None:
     """The number that 1 to `most` decimal digits spell."""
@@ -32,30 +60,45 @@ def signed_text(plain: Callable[[bytes], int | None], text: bytes) -> int | None
 
 def id_size(text: bytes) -> int | None:
     number = number_text(19, text)
-    return number if number is not None and 1 <= number <= 10 ** 18 else None
+    return number if number is not None and 1 <= number <= 10**18 else None
 
 
 def key_text(text: bytes) -> bytes | None:
     """A letter and an id text."""
-    return None if not text or text[0] not in LETTERS or signed_text(id_size, text[1:]) is None else text
+    return (
+        None
+        if not text or text[0] not in LETTERS or signed_text(id_size, text[1:]) is None
+        else text
+    )
 
 
 def size_text(text: bytes) -> int | None:
     """1 to 3 digits, and perhaps a point and 1 to 7 digits."""
     before, point, after = text.partition(b'.')
     whole, part = number_text(3, before), number_text(7, after) if point else 0
-    return None if whole is None or part is None else whole * 10 ** 7 + part * 10 ** (7 - len(after) if point else 0)
+    return (
+        None
+        if whole is None or part is None
+        else whole * 10**7 + part * 10 ** (7 - len(after) if point else 0)
+    )
 
 
 def place_texts(lon_text: bytes, lat_text: bytes) -> tuple[int, int] | None:
     lon, lat = signed_text(size_text, lon_text), signed_text(size_text, lat_text)
-    return None if lon is None or lat is None or abs(lon) > 1800000000 or abs(lat) > 900000000 else (lon, lat)
+    return (
+        None
+        if lon is None or lat is None or abs(lon) > 1800000000 or abs(lat) > 900000000
+        else (lon, lat)
+    )
 
 
 # ---- texts, tags, references, members: opl_text and opl_line ----
 
+
 def unescaped(field: bytes) -> str | None:
-    """The characters that the bytes of a field spell; a character that is none, and an escape that doesn't end, give none."""
+    """The characters that the bytes of a field spell; a character that is none, and an escape that
+    doesn't end, give none.
+    """
     try:
         characters = field.decode('utf-8')
     except UnicodeDecodeError:
@@ -71,7 +114,7 @@ def unescaped(field: bytes) -> str | None:
             found.append(character)
         elif character == '%':
             code = int(escape or '0', 16)
-            if code == 0 or code > 0x10ffff or 0xd800 <= code <= 0xdfff:
+            if code == 0 or code > 0x10FFFF or 0xD800 <= code <= 0xDFFF:
                 return None
             found.append(chr(code))
             escape = None
@@ -106,6 +149,7 @@ def is_member(item: bytes) -> bool:
 
 # ---- words: edit_script, Items ----
 
+
 def behind(letter: bytes, word: bytes) -> bytes | None:
     return word[1:] if word[:1] == letter else None
 
@@ -122,7 +166,11 @@ def is_tags(word: bytes) -> bool:
 
 def is_refs(word: bytes) -> bool:
     text = behind(b'N', word)
-    return text is not None and b'x' not in text and all(map(is_reference, text.split(b',') if text else []))
+    return (
+        text is not None
+        and b'x' not in text
+        and all(map(is_reference, text.split(b',') if text else []))
+    )
 
 
 def is_members(word: bytes) -> bool:
@@ -146,7 +194,9 @@ def is_number(most: int, word: bytes) -> bool:
 
 def is_area(text: bytes) -> bool:
     texts = text.split(b',')
-    low, high = (place_texts(*texts[:2]), place_texts(*texts[2:])) if len(texts) == 4 else (None, None)
+    low, high = (
+        (place_texts(*texts[:2]), place_texts(*texts[2:])) if len(texts) == 4 else (None, None)
+    )
     return low is not None and high is not None and low[0] <= high[0] and low[1] <= high[1]
 
 
@@ -174,6 +224,7 @@ def is_tag_keys(word: bytes) -> bool:
 
 
 # ---- queries: map_search, Reading. What waits stands with the innermost first ----
+
 
 def takes_factor(waiting: list[str]) -> bool:
     return bool(waiting) and waiting[0] in ('not', 'child', 'parent', 'and')
@@ -217,24 +268,34 @@ def is_query(words: list[bytes]) -> bool:
 
 # ---- lines: edit_script, Forms and Meeting ----
 
+
 def is_choice(words: list[bytes]) -> bool:
     if words[:1] in ([b'mine'], [b'theirs']):
         return len(words) == 1
     if words[:1] == [b'mix']:
         return len(words) == 3 and is_side(words[1]) and is_side(words[2])
-    return words[:1] == [b'parts'] and len(words) == 3 and is_side(words[1]) and is_tag_keys(words[2])
+    return (
+        words[:1] == [b'parts'] and len(words) == 3 and is_side(words[1]) and is_tag_keys(words[2])
+    )
 
 
 def is_key(word: bytes) -> bool:
     return key_text(word) is not None
 
 
-TESTS: dict[bytes, tuple[int, Callable[..., bool]]] = {       # of the words behind a verb, where they are as many
-    b'node': (3, lambda x, y, tags: is_place(x, y) and is_tags(tags)), b'way': (2, lambda tags, refs: is_tags(tags) and is_refs(refs)),
-    b'relation': (2, lambda tags, members: is_tags(tags) and is_members(members)), b'tag': (2, lambda keys, tags: is_keys(keys) and is_tags(tags)),
-    b'move': (3, lambda keys, dx, dy: is_keys(keys) and is_coordinate(dx) and is_coordinate(dy)), b'place': (3, lambda key, x, y: is_key(key) and is_place(x, y)),
-    b'nodes': (2, lambda key, refs: is_key(key) and is_refs(refs)), b'members': (2, lambda key, members: is_key(key) and is_members(members)),
-    b'split': (2, lambda key, keys: is_key(key) and is_keys(keys)), b'reverse': (1, is_key),
+TESTS: dict[
+    bytes, tuple[int, Callable[..., bool]]
+] = {  # of the words behind a verb, where they are as many
+    b'node': (3, lambda x, y, tags: is_place(x, y) and is_tags(tags)),
+    b'way': (2, lambda tags, refs: is_tags(tags) and is_refs(refs)),
+    b'relation': (2, lambda tags, members: is_tags(tags) and is_members(members)),
+    b'tag': (2, lambda keys, tags: is_keys(keys) and is_tags(tags)),
+    b'move': (3, lambda keys, dx, dy: is_keys(keys) and is_coordinate(dx) and is_coordinate(dy)),
+    b'place': (3, lambda key, x, y: is_key(key) and is_place(x, y)),
+    b'nodes': (2, lambda key, refs: is_key(key) and is_refs(refs)),
+    b'members': (2, lambda key, members: is_key(key) and is_members(members)),
+    b'split': (2, lambda key, keys: is_key(key) and is_keys(keys)),
+    b'reverse': (1, is_key),
 }
 
 
@@ -260,9 +321,22 @@ def is_line(verb: bytes, words: list[bytes]) -> bool:
 
 # ---- where lines stand: edit_script, Order and Place ----
 
+
 def may_stand(is_inside: bool, verb: bytes) -> bool:
     if is_inside:
-        return verb not in (b'begin', b'undo', b'redo', b'rehearse', b'upload', b'confirm', b'resume', b'editor', b'send', b'answer', b'lost')
+        return verb not in (
+            b'begin',
+            b'undo',
+            b'redo',
+            b'rehearse',
+            b'upload',
+            b'confirm',
+            b'resume',
+            b'editor',
+            b'send',
+            b'answer',
+            b'lost',
+        )
     return verb != b'end'
 
 
@@ -275,7 +349,9 @@ def belongs(in_meeting: bool, verb: bytes) -> bool:
 
 
 def first_bad(script: bytes) -> int:
-    """The number of the first line outside the grammar, or that may not stand where it does; 0 where there is none."""
+    """The number of the first line outside the grammar, or that may not stand where it does; 0
+    where there is none.
+    """
     is_start, in_meeting, is_inside = True, False, False
     lines = script.split(b'\n')
     for number, line in enumerate(lines if lines[-1] else lines[:-1], 1):
@@ -286,7 +362,9 @@ def first_bad(script: bytes) -> int:
         if line[:1] in b' \t' or line[-1:] in b' \t' or not is_line(words[0], words[1:]):
             return number
         begins_meeting = is_start and words[0] == b'serve'
-        if not begins_meeting and not (belongs(in_meeting, words[0]) and may_stand(is_inside, words[0])):
+        if not begins_meeting and not (
+            belongs(in_meeting, words[0]) and may_stand(is_inside, words[0])
+        ):
             return number
         is_start, in_meeting = False, in_meeting or begins_meeting
         is_inside = words[0] == b'begin' or is_inside and words[0] != b'end'

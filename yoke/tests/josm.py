@@ -1,4 +1,5 @@
-"""A layer of JOSM, as far as `yoke to-josm` and `yoke josm` meet it: what it makes of a file, and what it saves.
+"""A layer of JOSM, as far as `yoke to-josm` and `yoke josm` meet it: what it makes of a file, and
+what it saves.
 
 Written from the form of the files that JOSM saves:
 
@@ -17,7 +18,16 @@ from typing import Dict, List, Optional, Tuple
 from xml.etree import ElementTree
 
 KINDS = ('node', 'way', 'relation')
-SIGNS = {'<': '&lt;', '>': '&gt;', '"': '&quot;', "'": '&apos;', '&': '&amp;', '\n': '&#xA;', '\r': '&#xD;', '\t': '&#x9;'}
+SIGNS = {
+    '<': '&lt;',
+    '>': '&gt;',
+    '"': '&quot;',
+    "'": '&apos;',
+    '&': '&amp;',
+    '\n': '&#xA;',
+    '\r': '&#xD;',
+    '\t': '&#x9;',
+}
 METADATA = ('timestamp', 'uid', 'user', 'visible', 'version', 'changeset')
 
 
@@ -45,7 +55,11 @@ class Layer:
         self.upload, self.next_id = root.get('upload'), next_id
         self.bounds = [box.attrib for box in root.iter('bounds')]
         self.things: Dict[Tuple[str, int], Primitive] = {}
-        numbers = {(one.tag, int(one.get('id'))): self._number(int(one.get('id'))) for one in root if one.tag in KINDS}
+        numbers = {
+            (one.tag, int(one.get('id'))): self._number(int(one.get('id')))
+            for one in root
+            if one.tag in KINDS
+        }
         for one in root:
             if one.tag in KINDS:
                 thing = _read(one, numbers)
@@ -63,7 +77,9 @@ class Layer:
     def add(self, kind: str, **what) -> int:
         """A new object; gives its id."""
         number = self._number(-1)
-        self.things[kind, number] = Primitive(kind, number, {'visible': 'true'}, modified=True, **what)
+        self.things[kind, number] = Primitive(
+            kind, number, {'visible': 'true'}, modified=True, **what
+        )
         return number
 
     def change(self, kind: str, number: int, **what) -> None:
@@ -74,14 +90,22 @@ class Layer:
         thing.modified = True
 
     def delete(self, kind: str, number: int) -> None:
-        """Deletes an object; of a way the nodes too that nothing else uses and that have no tags. What refers to it loses it."""
+        """Deletes an object; of a way the nodes too that nothing else uses and that have no tags.
+        What refers to it loses it.
+        """
         thing = self.things[kind, number]
         nodes = list(thing.nodes)
         for other in self.living():
             if kind == 'node' and number in other.nodes:
-                self.change('way', other.number, nodes=[node for node in other.nodes if node != number])
+                self.change(
+                    'way', other.number, nodes=[node for node in other.nodes if node != number]
+                )
             if any(member[:2] == (kind, number) for member in other.members):
-                self.change('relation', other.number, members=[member for member in other.members if member[:2] != (kind, number)])
+                self.change(
+                    'relation',
+                    other.number,
+                    members=[member for member in other.members if member[:2] != (kind, number)],
+                )
         thing.nodes, thing.members, thing.deleted, thing.modified = [], [], True, True
         for node in dict.fromkeys(nodes):
             found = self.things.get(('node', node))
@@ -90,7 +114,13 @@ class Layer:
 
     def uses(self, kind: str, number: int) -> List[Primitive]:
         """What refers to an object."""
-        return [one for one in self.living() if kind == 'node' and number in one.nodes or any(member[:2] == (kind, number) for member in one.members)]
+        return [
+            one
+            for one in self.living()
+            if kind == 'node'
+            and number in one.nodes
+            or any(member[:2] == (kind, number) for member in one.members)
+        ]
 
     def living(self) -> List[Primitive]:
         return [one for one in self.things.values() if not one.deleted]
@@ -99,11 +129,29 @@ class Layer:
 
     def save(self) -> bytes:
         """What JOSM writes."""
-        lines = ["<?xml version='1.0' encoding='UTF-8'?>", "<osm version='0.6'{} generator='JOSM'>".format(" upload='{}'".format(self.upload) if self.upload else '')]
+        lines = [
+            "<?xml version='1.0' encoding='UTF-8'?>",
+            "<osm version='0.6'{} generator='JOSM'>".format(
+                f" upload='{self.upload}'" if self.upload else ''
+            ),
+        ]
         for box in self.bounds:
-            lines.append('  <bounds {} />'.format(_words([(name, box[name]) for name in ('minlat', 'minlon', 'maxlat', 'maxlon', 'origin') if name in box])))
+            lines.append(
+                '  <bounds {} />'.format(
+                    _words(
+                        [
+                            (name, box[name])
+                            for name in ('minlat', 'minlon', 'maxlat', 'maxlon', 'origin')
+                            if name in box
+                        ]
+                    )
+                )
+            )
         for kind in KINDS:
-            for thing in sorted((one for one in self.things.values() if one.kind == kind), key=lambda one: one.number):
+            for thing in sorted(
+                (one for one in self.things.values() if one.kind == kind),
+                key=lambda one: one.number,
+            ):
                 if thing.number > 0 or not thing.deleted:
                     lines += _lines(thing)
         return '\n'.join(lines + ['</osm>', '']).encode()
@@ -115,27 +163,49 @@ def _read(one, numbers) -> Primitive:
 
     action = one.get('action')
     return Primitive(
-        one.tag, name(one.tag, int(one.get('id'))), {word: one.get(word) for word in METADATA if one.get(word)}, {tag.get('k'): tag.get('v') for tag in one.iter('tag')},
-        one.get('lat') and Decimal(one.get('lat')), one.get('lon') and Decimal(one.get('lon')), [name('node', int(node.get('ref'))) for node in one.iter('nd')],
-        [(member.get('type'), name(member.get('type'), int(member.get('ref'))), member.get('role') or '') for member in one.iter('member')],
-        action in ('modify', 'delete'), action == 'delete')
+        one.tag,
+        name(one.tag, int(one.get('id'))),
+        {word: one.get(word) for word in METADATA if one.get(word)},
+        {tag.get('k'): tag.get('v') for tag in one.iter('tag')},
+        one.get('lat') and Decimal(one.get('lat')),
+        one.get('lon') and Decimal(one.get('lon')),
+        [name('node', int(node.get('ref'))) for node in one.iter('nd')],
+        [
+            (
+                member.get('type'),
+                name(member.get('type'), int(member.get('ref'))),
+                member.get('role') or '',
+            )
+            for member in one.iter('member')
+        ],
+        action in ('modify', 'delete'),
+        action == 'delete',
+    )
 
 
 def _lines(thing: Primitive) -> List[str]:
-    pairs = [('id', str(thing.number))] + ([('action', 'delete' if thing.deleted else 'modify')] if thing.modified else [])
+    pairs = [('id', str(thing.number))] + (
+        [('action', 'delete' if thing.deleted else 'modify')] if thing.modified else []
+    )
     pairs += [(word, thing.words[word]) for word in METADATA if word in thing.words]
     if thing.kind == 'node':
         pairs += [('lat', _degrees(thing.lat)), ('lon', _degrees(thing.lon))]
-    inner = ["    <nd ref='{}' />".format(node) for node in thing.nodes]
-    inner += ["    <member type='{}' ref='{}' role='{}' />".format(kind, number, _escaped(role)) for kind, number, role in thing.members]
-    inner += ["    <tag k='{}' v='{}' />".format(_escaped(key), _escaped(value)) for key, value in sorted(thing.tags.items())]
+    inner = [f"    <nd ref='{node}' />" for node in thing.nodes]
+    inner += [
+        f"    <member type='{kind}' ref='{number}' role='{_escaped(role)}' />"
+        for kind, number, role in thing.members
+    ]
+    inner += [
+        f"    <tag k='{_escaped(key)}' v='{_escaped(value)}' />"
+        for key, value in sorted(thing.tags.items())
+    ]
     if thing.kind == 'node' and not inner:
-        return ['  <node {} />'.format(_words(pairs))]
-    return ['  <{} {}>'.format(thing.kind, _words(pairs))] + inner + ['  </{}>'.format(thing.kind)]
+        return [f'  <node {_words(pairs)} />']
+    return [f'  <{thing.kind} {_words(pairs)}>'] + inner + [f'  </{thing.kind}>']
 
 
 def _words(pairs) -> str:
-    return ' '.join("{}='{}'".format(name, _escaped(value)) for name, value in pairs)
+    return ' '.join(f"{name}='{_escaped(value)}'" for name, value in pairs)
 
 
 def _escaped(text: str) -> str:
@@ -143,5 +213,5 @@ def _escaped(text: str) -> str:
 
 
 def _degrees(number: Decimal) -> str:
-    text = '{:.11f}'.format(number).rstrip('0')
+    text = f'{number:.11f}'.rstrip('0')
     return text + '0' if text.endswith('.') else text

@@ -1,4 +1,5 @@
-"""killed.py K WORDS: `yoke WORDS`, killed by the signal KILL at its step K (`yoke/tests/stops.py`)."""
+"""killed.py K WORDS: `yoke WORDS`, killed by the signal KILL at its step K (`yoke/tests/stops.py`).
+"""
 import os
 import signal
 import sys

@@ -45,12 +45,16 @@ def goes_on(text, lines, **files):
 
 @functools.lru_cache(maxsize=None)
 def has_program():
-    """Whether the program itself is there, which alone knows which lines are none: the second editor takes them for granted."""
+    """Whether the program itself is there, which alone knows which lines are none: the second
+    editor takes them for granted.
+    """
     program = support.program()
     if isinstance(program, support.Model):
         return False
     with folder_with({'bad_script': 'print\nundo 0\n'}):
-        done = subprocess.run([program.path, 'bad.script'], stdout=subprocess.PIPE, stderr=subprocess.PIPE)
+        done = subprocess.run(
+            [program.path, 'bad.script'], stdout=subprocess.PIPE, stderr=subprocess.PIPE
+        )
     return done.returncode == 4 and done.stderr == b'editor: bad script line 2\n'
 
 

@@ -1,9 +1,11 @@
-"""Stops a program at its K-th step, as a loss of power does: a step is what changes the disk, or a call to the server.
+"""Stops a program at its K-th step, as a loss of power does: a step is what changes the disk, or a
+call to the server.
 
     with stop_at(5): ...       # raises Stopped at the fifth step, and at each one after it
 
-Before and after each of these is a step: a file appears under its name, gets another one, or is removed; a call goes out.
-What comes after the first Stopped can change nothing any more, so an `except` or a `finally` can't help.
+Before and after each of these is a step: a file appears under its name, gets another one, or is
+removed; a call goes out. What comes after the first Stopped can change nothing any more, so an
+`except` or a `finally` can't help.
 """
 import contextlib
 import os
@@ -35,13 +37,22 @@ class Steps:
             self.stop()
 
     def around(self, function, name):
-        """The function with a step before and after it. Of a call to a server the name has the method and the path."""
+        """The function with a step before and after it. Of a call to a server the name has the
+        method and the path.
+        """
+
         def stepped(*given, **named):
-            words = ' '.join([name] + [pathlib.Path(one).name for one in given if isinstance(one, (str, os.PathLike))][-2:])
+            words = ' '.join(
+                [name]
+                + [pathlib.Path(one).name for one in given if isinstance(one, (str, os.PathLike))][
+                    -2:
+                ]
+            )
             self.step('before ' + words)
             done = function(*given, **named)
             self.step('after ' + words)
             return done
+
         return stepped
 
 
@@ -50,8 +61,13 @@ def stop_at(last, stop=None):
     """Stops at this step; at none where it is None. Gives the Steps."""
     steps = Steps(last, stop)
     once = steps.around(api.Server._once, 'call')
-    with mock.patch('os.replace', steps.around(os.replace, 'write')), \
-            mock.patch('os.rename', steps.around(os.rename, 'rename')), \
-            mock.patch.object(pathlib.Path, 'unlink', steps.around(pathlib.Path.unlink, 'remove')), \
-            mock.patch.object(api.Server, '_once', lambda server, method, path, document=None: once(server, method, path, document)):
+    with mock.patch('os.replace', steps.around(os.replace, 'write')), mock.patch(
+        'os.rename', steps.around(os.rename, 'rename')
+    ), mock.patch.object(
+        pathlib.Path, 'unlink', steps.around(pathlib.Path.unlink, 'remove')
+    ), mock.patch.object(
+        api.Server,
+        '_once',
+        lambda server, method, path, document=None: once(server, method, path, document),
+    ):
         yield steps

@@ -1,7 +1,8 @@
 """What the tests share: a program, a folder, a small town, and the command as a user runs it.
 
-The program is $YOKE_EDITOR where it is set, so that the tests can be run with the built program; else `bench/model`, the
-second editor in Python, in this process, which is as good here and starts at once.
+The program is $YOKE_EDITOR where it is set, so that the tests can be run with the built program;
+else `bench/model`, the second editor in Python, in this process, which is as good here and starts
+at once.
 """
 import contextlib
 import io
@@ -22,7 +23,9 @@ from yoke.testing.elements import lines_of_opl
 from yoke.testing.server import TOKEN, Limits, StrictServer
 
 TOP = pathlib.Path(__file__).resolve().parent.parent.parent
-MEMORY = '/dev/shm' if os.access('/dev/shm', os.W_OK) else None      # a folder in memory, where there is one
+MEMORY = (
+    '/dev/shm' if os.access('/dev/shm', os.W_OK) else None
+)  # a folder in memory, where there is one
 TOWN = '''n1 v1 x13.001 y52
 n2 v1 x13.002 y52
 n3 v1 x13.003 y52
@@ -39,7 +42,9 @@ class Model(Program):
     def output(self, lines):
         limits = model.Limits(objects=self.max_objects or 2_000_000, file=1_073_741_824)
         try:
-            output = ''.join(model.written(model.Session(limits), ''.join(line + '\n' for line in lines)))
+            output = ''.join(
+                model.written(model.Session(limits), ''.join(line + '\n' for line in lines))
+            )
         except SystemExit as bad:
             number = int(re.search('script line ([0-9]+)', str(bad))[1])
             raise BadLine(words.bad_line(lines[number - 1]), number) from None
@@ -53,7 +58,9 @@ def program():
 
 
 class FolderTest(unittest.TestCase):
-    """A folder of its own for each test, in which it runs, without waits, and without waiting for the disk (test_day does)."""
+    """A folder of its own for each test, in which it runs, without waits, and without waiting for
+    the disk (test_day does).
+    """
 
     def setUp(self):
         holder = tempfile.TemporaryDirectory(prefix='yoke-test-', dir=MEMORY)
@@ -62,8 +69,12 @@ class FolderTest(unittest.TestCase):
         self.addCleanup(os.chdir, os.getcwd())
         os.chdir(self.folder)
         self.waited = []
-        for patch in (mock.patch('yoke.api.pause', self.waited.append), mock.patch('os.fsync', lambda handle: None), mock.patch('yoke.program.Program.of', lambda arguments: program()),
-                      mock.patch.dict(os.environ, {'YOKE_TOKEN': TOKEN, 'no_proxy': '127.0.0.1'})):
+        for patch in (
+            mock.patch('yoke.api.pause', self.waited.append),
+            mock.patch('os.fsync', lambda handle: None),
+            mock.patch('yoke.program.Program.of', lambda arguments: program()),
+            mock.patch.dict(os.environ, {'YOKE_TOKEN': TOKEN, 'no_proxy': '127.0.0.1'}),
+        ):
             patch.start()
             self.addCleanup(patch.stop)
         os.environ.pop('YOKE_DAY', None)
@@ -121,7 +132,9 @@ class ServerTest(FolderTest):
 
     def serve(self, **limits):
         """A server that has the town."""
-        server = StrictServer(lines_of_opl(self.town.splitlines()), limits=Limits(**limits), first_id=1000)
+        server = StrictServer(
+            lines_of_opl(self.town.splitlines()), limits=Limits(**limits), first_id=1000
+        )
         server.__enter__()
         self.addCleanup(server.__exit__)
         return server

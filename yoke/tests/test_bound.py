@@ -13,8 +13,10 @@ class Bound(FolderTest):
         self.begin()
 
     def test_over_its_own_session(self) -> None:
-        self.assertEqual(self.done('tag', 'a=b', '--keys', 'n1,w5', '--to', 'a.script'),
-                         'wrote a.script: yoke do a.script tags\n')
+        self.assertEqual(
+            self.done('tag', 'a=b', '--keys', 'n1,w5', '--to', 'a.script'),
+            'wrote a.script: yoke do a.script tags\n',
+        )
         self.assertEqual(self.day.last().number, 1)
         self.done('do', 'a.script')
         self.assertEqual(self.session.known()['w5'].mine.tags['a'], 'b')
@@ -23,8 +25,11 @@ class Bound(FolderTest):
         self.done('tag', 'a=b', '--find', 'way', '--to', 'a.script')
         self.do('tag n8 Tref=7')
         self.assertEqual(Refused.code, self.yoke('do', 'a.script'))
-        self.assertIn('a.script:1: this script was made from the session 000001-start of day, and '
-                      'the session now is 000002-do', self.err)
+        self.assertIn(
+            'a.script:1: this script was made from the session 000001-start of day, and '
+            'the session now is 000002-do',
+            self.err,
+        )
         self.assertEqual(self.day.last().number, 2)
         self.done('do', '--any-session', 'a.script')
         self.assertEqual(self.session.known()['w5'].mine.tags['a'], 'b')
@@ -40,7 +45,10 @@ class Bound(FolderTest):
         self.write('b.script', 'tag n8 Tref=7\n# for session 0000000000000000\ntag n1 Tref=8\n')
         self.assertEqual(Refused.code, self.yoke('do', 'b.script'))
         self.assertIn('b.script:2: this script was made from the session another one', self.err)
-        self.write('c.script', '# for session, as I remember\n#for session 0000000000000000\ntag n8 Tref=7\n')
+        self.write(
+            'c.script',
+            '# for session, as I remember\n#for session 0000000000000000\ntag n8 Tref=7\n',
+        )
         self.done('do', 'c.script')
 
     def test_a_table_and_an_expanded_script(self) -> None:
@@ -68,7 +76,9 @@ class Bound(FolderTest):
 
     def test_no_other_file_is_overwritten(self) -> None:
         self.write('notes.txt', 'mine\n')
-        self.assertEqual(Refused.code, self.yoke('tag', 'a=b', '--find', 'way', '--to', 'notes.txt'))
+        self.assertEqual(
+            Refused.code, self.yoke('tag', 'a=b', '--find', 'way', '--to', 'notes.txt')
+        )
         self.assertEqual((self.folder / 'notes.txt').read_text(encoding='utf-8'), 'mine\n')
         self.done('tag', 'a=b', '--find', 'way', '--to', 'notes.txt', '--force')
         self.done('tag', 'a=c', '--find', 'way', '--to', 'notes.txt')

@@ -21,7 +21,9 @@ class BuildsTest(unittest.TestCase):
         self.program = self.folder / 'prefix' / 'bin' / builds.NAME
         self.put(self.program, BYTES.decode()).chmod(0o755)
         self.checkout = self.folder / 'checkout'
-        environment = mock.patch.dict(os.environ, {'YOKE_EDITOR': '', 'PATH': str(self.folder / 'empty')})
+        environment = mock.patch.dict(
+            os.environ, {'YOKE_EDITOR': '', 'PATH': str(self.folder / 'empty')}
+        )
         environment.start()
         self.addCleanup(environment.stop)
 
@@ -73,8 +75,17 @@ class BuildsTest(unittest.TestCase):
 
     def test_spoiled_records_are_of_unknown_build(self) -> None:
         whole = builds.Build('proved', '0.2.0', SUM).text()
-        for text in ('', '{', '[]', '7', '{}', whole[:-9], whole.replace('proved', 'sound'),
-                     whole.replace('"0.2.0"', '7'), whole.replace(SUM, SUM.upper())):
+        for text in (
+            '',
+            '{',
+            '[]',
+            '7',
+            '{}',
+            whole[:-9],
+            whole.replace('proved', 'sound'),
+            whole.replace('"0.2.0"', '7'),
+            whole.replace(SUM, SUM.upper()),
+        ):
             self.record(text)
             self.assertIsNone(self.build(), text)
 
@@ -99,7 +110,10 @@ class BuildsTest(unittest.TestCase):
         with mock.patch('yoke.builds.HERE', self.folder / 'prefix'):
             self.assertIn('of unknown build', builds.described())
             self.record(builds.Build('plain', '0.2.0', SUM).text())
-            self.assertIn(f'{self.program}, yokeorange 0.2.0, a plain build, not proved\nsha256: {SUM}', builds.described())
+            self.assertIn(
+                f'{self.program}, yokeorange 0.2.0, a plain build, not proved\nsha256: {SUM}',
+                builds.described(),
+            )
             self.record(builds.Build('proved', '0.2.0', SUM).text())
             self.assertIn('0.2.0, the proved build', builds.described())
 

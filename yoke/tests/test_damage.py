@@ -9,9 +9,20 @@ from yoke.tests.support import FolderTest
 from yoke.trouble import Trouble
 
 VERBS = (
-    ('show', 'n1'), ('show', 'w-2'), ('diff',), ('conflicts',), ('status',), ('geojson', 'a.geojson'), ('log',),
-    ('do', 'steps.script'), ('tag', 'name=x', '--find', 'Tamenity=bench'), ('to-josm', 'a.osm'),
-    ('add-member', 'n1', 'r9'), ('insert', 'n1', 'w5'), ('send', '--dry'), ('send', '--dry', '--only', 'n1'),
+    ('show', 'n1'),
+    ('show', 'w-2'),
+    ('diff',),
+    ('conflicts',),
+    ('status',),
+    ('geojson', 'a.geojson'),
+    ('log',),
+    ('do', 'steps.script'),
+    ('tag', 'name=x', '--find', 'Tamenity=bench'),
+    ('to-josm', 'a.osm'),
+    ('add-member', 'n1', 'r9'),
+    ('insert', 'n1', 'w5'),
+    ('send', '--dry'),
+    ('send', '--dry', '--only', 'n1'),
     ('import', 'bench.geojson', '--columns', 'amenity', '--anywhere'),
 )
 BENCH = '{"type": "Feature", "properties": {"amenity": "bench"}, "geometry": {"type": "Point", "coordinates": [13.1, 52]}}'
@@ -19,7 +30,6 @@ EDITS = ('node x13.004 y52 Tmark=a', 'way Tmark=b Nn1,n-1', 'tag w5 Tname=c', 'd
 
 
 class Damage(FolderTest):
-
     def break_last(self, data: bytes) -> pathlib.Path:
         """Lets the last session be these bytes."""
         path: pathlib.Path = self.day.last().path
@@ -34,7 +44,10 @@ class Damage(FolderTest):
         path = self.break_last(bad.encode())
         for words in (('show', 'w5'), ('diff',), ('do', 'steps.script')):
             self.assertEqual(Trouble.code, self.yoke(*words), self.err)
-            self.assertIn(f'{path.name} is broken: line {number} is none of a saved session: known w5 live own;', self.err)
+            self.assertIn(
+                f'{path.name} is broken: line {number} is none of a saved session: known w5 live own;',
+                self.err,
+            )
             self.assertIn('yoke undo goes back to session 1 by start', self.err)
         self.done('undo')
         self.done('do', 'steps.script')
@@ -44,7 +57,9 @@ class Damage(FolderTest):
         self.break_last(b'session 1 1\nknown n1 live same none\n')
         for words in (('show', 'n1'), ('conflicts',), ('send', '--dry')):
             self.assertEqual(Trouble.code, self.yoke(*words), self.err)
-            self.assertRegex(self.err, 'is broken: line [0-9]+ is none .* begin another day by yoke start')
+            self.assertRegex(
+                self.err, 'is broken: line [0-9]+ is none .* begin another day by yoke start'
+            )
 
     def test_no_damage_is_told_as_a_fault_of_yoke(self) -> None:
         self.write('bench.geojson', BENCH)
@@ -70,9 +85,9 @@ def damaged(data: bytes, chance: random.Random) -> bytes:
     if kind == 0:
         return data[:at]
     if kind == 1:
-        return data[:at] + bytes([chance.choice(b'\n \0\xffa0-,=@')]) + data[at + 1:]
+        return data[:at] + bytes([chance.choice(b'\n \0\xffa0-,=@')]) + data[at + 1 :]
     if kind == 2:
-        return data[:at] + data[at + chance.randrange(1, 20):]
+        return data[:at] + data[at + chance.randrange(1, 20) :]
     if kind == 3:
         lines.insert(one, lines[other])
     elif kind == 4:

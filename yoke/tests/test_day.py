@@ -29,13 +29,14 @@ class Files(DayTest):
         fsync, replace = os.fsync, os.replace
 
         def synced(handle):
-            done.append('folder' if os.path.isdir('/proc/self/fd/{}'.format(handle)) else 'file')
+            done.append('folder' if os.path.isdir(f'/proc/self/fd/{handle}') else 'file')
             fsync(handle)
 
         def replaced(old, new):
             done.append('name')
             self.assertEqual('text\n', pathlib.Path(old).read_text())
             replace(old, new)
+
         with mock.patch('os.fsync', synced), mock.patch('os.replace', replaced):
             write_whole(self.folder / 'a', 'text\n')
         self.assertEqual(['file', 'name', 'folder'], done)
@@ -75,7 +76,10 @@ class Sessions(DayTest):
     def test_the_highest_number_is_the_session(self):
         for verb in ('start', 'do', 'add-member'):
             self.day.keep(verb, verb)
-        self.assertEqual((3, 'add-member', 'add-member'), (self.day.last().number, self.day.last().verb, self.day.last().text()))
+        self.assertEqual(
+            (3, 'add-member', 'add-member'),
+            (self.day.last().number, self.day.last().verb, self.day.last().text()),
+        )
         (self.folder / '000004-do.saved.new').write_text('half')
         (self.folder / 'notes.saved').write_text('')
         self.assertEqual(3, self.day.last().number)
@@ -111,11 +115,15 @@ class Sessions(DayTest):
         self.day.keep('start', '')
         for _ in range(50):
             self.day.keep('do', '')
-        self.assertEqual([1] + list(range(52 - BACK, 52)), [state.number for state in self.day.states()])
+        self.assertEqual(
+            [1] + list(range(52 - BACK, 52)), [state.number for state in self.day.states()]
+        )
         for _ in range(10):
             self.day.write(self.day.beside(self.day.last(), 'answers'), '')
             self.day.keep('send', '')
-        self.assertEqual([1] + list(range(62 - LAST, 62)), [state.number for state in self.day.states()])
+        self.assertEqual(
+            [1] + list(range(62 - LAST, 62)), [state.number for state in self.day.states()]
+        )
         self.assertEqual(10, len(self.names('answers')))
         self.day.keep('do', '')
         self.day.keep('do', '')
@@ -148,8 +156,12 @@ class Sessions(DayTest):
 class Locks(DayTest):
     def test_one_at_a_time_and_the_lock_goes_with_its_process(self):
         script = 'import sys, time; from yoke.day import Day\nwith Day(sys.argv[1]).locked(): print("held", flush=True); time.sleep(60)'
-        with subprocess.Popen([sys.executable, '-c', script, str(self.folder)], stdout=subprocess.PIPE, text=True,
-                              env=dict(os.environ, PYTHONPATH=str(pathlib.Path(days.__file__).parent.parent))) as other:
+        with subprocess.Popen(
+            [sys.executable, '-c', script, str(self.folder)],
+            stdout=subprocess.PIPE,
+            text=True,
+            env=dict(os.environ, PYTHONPATH=str(pathlib.Path(days.__file__).parent.parent)),
+        ) as other:
             self.assertEqual('held\n', other.stdout.readline())
             with self.assertRaises(Busy), self.day.locked():
                 pass
@@ -158,7 +170,16 @@ class Locks(DayTest):
             pass
 
     def test_what_a_stopped_one_left_half_written_goes(self):
-        for name in ('000001-start.saved', '000002.osc', '000002.answers', 'changeset', 'server', 'forgotten', 'josm-1-ab12.start', 'refresh'):
+        for name in (
+            '000001-start.saved',
+            '000002.osc',
+            '000002.answers',
+            'changeset',
+            'server',
+            'forgotten',
+            'josm-1-ab12.start',
+            'refresh',
+        ):
             (self.folder / (name + '.new')).write_text('half')
         (self.folder / 'bench.opl.new').write_text('the user\'s')
         with self.day.locked():
@@ -172,8 +193,12 @@ class Locks(DayTest):
     def test_no_folder(self):
         with self.assertRaisesRegex(Trouble, 'yoke start'), Day(self.folder / 'none').locked():
             pass
-        with mock.patch('yoke.day.sync_folder') as synced, Day(self.folder / 'new' / 'one').locked(make=True):
-            self.assertEqual([mock.call(self.folder / 'new'), mock.call(self.folder)], synced.call_args_list)
+        with mock.patch('yoke.day.sync_folder') as synced, Day(self.folder / 'new' / 'one').locked(
+            make=True
+        ):
+            self.assertEqual(
+                [mock.call(self.folder / 'new'), mock.call(self.folder)], synced.call_args_list
+            )
             self.assertTrue((self.folder / 'new' / 'one').is_dir())
 
 

@@ -1,4 +1,6 @@
-"""What comes in and goes out at the edges: signs of a terminal, closed streams, signals, tokens, files without an end."""
+"""What comes in and goes out at the edges: signs of a terminal, closed streams, signals, tokens,
+files without an end.
+"""
 from __future__ import annotations
 
 import gzip
@@ -16,7 +18,6 @@ from yoke.trouble import Trouble, Usage
 
 
 class Printing(unittest.TestCase):
-
     def test_what_is_hidden_is_shown(self) -> None:
         self.assertEqual('a%1b%[2J%202e%b\n%9b%c\td', printing.shown('a\x1b[2J\u202eb\n\x9bc\td'))
         self.assertEqual('a%a%b%9%%d%', printing.line('a\nb\t\r'))
@@ -31,7 +32,9 @@ class Printing(unittest.TestCase):
 
     def test_a_terminal_of_another_encoding(self) -> None:
         raw = io.BytesIO()
-        with mock.patch('sys.stdout', io.TextIOWrapper(raw, encoding='iso-8859-1')), printing.guarded():
+        with mock.patch(
+            'sys.stdout', io.TextIOWrapper(raw, encoding='iso-8859-1')
+        ), printing.guarded():
             print('ä Łódź →')
             sys.stdout.flush()
             self.assertEqual('ä %141%ód%17a% %2192%\n'.encode('iso-8859-1'), raw.getvalue())
@@ -47,7 +50,11 @@ class Slips(FolderTest):
 
     def test_words_that_are_no_keys(self) -> None:
         self.begin()
-        for given in (('insert', '', 'w5'), ('insert', 'n3', ''), ('insert', 'n3', 'w5', '--after', '²')):
+        for given in (
+            ('insert', '', 'w5'),
+            ('insert', 'n3', ''),
+            ('insert', 'n3', 'w5', '--after', '²'),
+        ):
             self.assertIn(self.yoke(*given), (1, Usage.code), self.err)
 
     def test_a_file_without_an_end(self) -> None:
@@ -78,7 +85,11 @@ class Slips(FolderTest):
         with mock.patch.dict(os.environ, YOKE_TOKEN='a-secret'):
             with api.token_held():
                 self.assertEqual('a-secret', api.token_of_environment())
-                said = subprocess.run([sys.executable, '-c', 'import os; print(os.environ.get("YOKE_TOKEN"))'], stdout=subprocess.PIPE, text=True)
+                said = subprocess.run(
+                    [sys.executable, '-c', 'import os; print(os.environ.get("YOKE_TOKEN"))'],
+                    stdout=subprocess.PIPE,
+                    text=True,
+                )
                 self.assertEqual('None\n', said.stdout)
             self.assertEqual('a-secret', os.environ['YOKE_TOKEN'])
 
@@ -92,8 +103,12 @@ class Slips(FolderTest):
             self.assertIs(signal.SIG_DFL, signal.getsignal(number))
 
     def test_a_closed_standard_output(self) -> None:
-        done = subprocess.run(['sh', '-c', f'exec {sys.executable} -m yoke status --program sh >&-'], stderr=subprocess.PIPE, text=True,
-                              env=dict(os.environ, PYTHONPATH=str(TOP)))
+        done = subprocess.run(
+            ['sh', '-c', f'exec {sys.executable} -m yoke status --program sh >&-'],
+            stderr=subprocess.PIPE,
+            text=True,
+            env=dict(os.environ, PYTHONPATH=str(TOP)),
+        )
         self.assertEqual(3, done.returncode, done.stderr)
 
 

@@ -1,5 +1,6 @@
-"""A send walked through with every single fault over two of the plans. `./check` walks through all of them; two faults and more
-are for a run by hand."""
+"""A send walked through with every single fault over two of the plans. `./check` walks through all
+of them; two faults and more are for a run by hand.
+"""
 import time
 import unittest
 from typing import Optional
@@ -18,7 +19,9 @@ class Explore(unittest.TestCase):
 
     def test_neither_the_time_nor_the_caller_is_part_of_a_state(self) -> None:
         """Else a walk never comes where it was, and grows with the load of the machine."""
-        seconds: list[int] = []     # a clock that is read again and again, and a variable of the caller that changes
+        seconds: list[
+            int
+        ] = []  # a clock that is read again and again, and a variable of the caller that changes
 
         def later(given: Optional[float] = None) -> time.struct_time:
             seconds.append(len(seconds))

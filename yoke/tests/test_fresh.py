@@ -189,9 +189,7 @@ class Send(ServerTest):
         tags = {'shop': 'bakery', 'name': 'Bäckerei Koch'}
         key = self.server.edit('create', 'n-1', place=('13.5', '52.5'), tags=tags)
         self.assertEqual(Refused.code, self.send())
-        self.assertIn(
-            f'n-1 may be {key} Bäckerei Koch: the same kind and name, 1 m away', self.out
-        )
+        self.assertIn(f'n-1 may be {key} Bäckerei Koch: the same kind and name, 1 m away', self.out)
 
     def test_unseen_passes(self) -> None:
         self.begin('node x13.5 y52.5 Tshop=bakery,name=Koch')

@@ -71,21 +71,29 @@ class OfApi(GetTest):
         with mock.patch('yoke.extracts.map_calls.time.time', lambda: 1_700_000_000.7):
             self.get(bbox='13,52,13.1,52.1')
         first = (self.folder / 'area.opl').read_text().split('\n')[0]
-        self.assertRegex(first, '# as of 20..-..-..T..:..:..Z, from http://127.0.0.1:[0-9]+/api/0.6')
+        self.assertRegex(
+            first, '# as of 20..-..-..T..:..:..Z, from http://127.0.0.1:[0-9]+/api/0.6'
+        )
         self.assertEqual(first.split(' ')[3].rstrip(','), header.moment_of('area.opl'))
         self.assertIn(f'as of {header.moment_of("area.opl")}', self.out)
 
     def test_the_extract_begins_a_session(self):
         self.get(bbox='13,52,13.1,52.1')
-        self.assertEqual('144 nodes, 132 ways, 1 relations\n', self.done('start', 'area.opl')
-                         .split('kept')[0])
+        self.assertEqual(
+            '144 nodes, 132 ways, 1 relations\n', self.done('start', 'area.opl').split('kept')[0]
+        )
 
     def test_a_box_is_cut_by_area_and_by_nodes(self):
-        for limits, least in (({'area': '0.00002'}, 6), ({'map_nodes': 20}, 8),
-                              ({'area': '0.00004', 'map_nodes': 15}, 8)):
+        for limits, least in (
+            ({'area': '0.00002'}, 6),
+            ({'map_nodes': 20}, 8),
+            ({'area': '0.00004', 'map_nodes': 15}, 8),
+        ):
             with self.subTest(limits):
                 self.server = self.serve(**limits)
-                self.assertEqual(0, self.get(bbox='13,52,13.011,52.011', to=f'{least}.opl'), self.err)
+                self.assertEqual(
+                    0, self.get(bbox='13,52,13.011,52.011', to=f'{least}.opl'), self.err
+                )
                 self.assertEqual(self.there(), self.got(f'{least}.opl'))
                 self.assertGreaterEqual(self.server.requests.count('map'), least)
                 (self.folder / f'{least}.opl').unlink()
@@ -154,8 +162,9 @@ class OfApi(GetTest):
 
     def test_no_answer_keeps_the_parts_and_says_so(self):
         self.server = self.serve(map_nodes=20)
-        self.server.before('map', 4, lambda: [
-            self.server.faults.once('500-before', 'map') for _ in range(9)])
+        self.server.before(
+            'map', 4, lambda: [self.server.faults.once('500-before', 'map') for _ in range(9)]
+        )
         self.assertEqual(5, self.get(bbox='13,52,13.011,52.011'))
         self.assertRegex(self.err.splitlines()[-1], 'parts are kept: the same command goes on')
         self.assertFalse((self.folder / 'area.opl').exists())
@@ -201,11 +210,24 @@ class OfApi(GetTest):
 
     def test_an_edit_between_two_calls(self):
         self.server = self.serve(map_nodes=20)
-        self.server.before('map', 5, lambda: [
-            self.server.edit('modify', 'n1', tags={'natural': 'tree'}),
-            self.server.edit('modify', f'w{5 * 12 + 6}', tags={'highway': 'track'}),
-            self.server.edit('modify', 'w1', nodes=[1, 2, self.server.edit(
-                'create', 'n-1', place=('13.5', '52.5')) and self.server.database.last['node']])])
+        self.server.before(
+            'map',
+            5,
+            lambda: [
+                self.server.edit('modify', 'n1', tags={'natural': 'tree'}),
+                self.server.edit('modify', f'w{5 * 12 + 6}', tags={'highway': 'track'}),
+                self.server.edit(
+                    'modify',
+                    'w1',
+                    nodes=[
+                        1,
+                        2,
+                        self.server.edit('create', 'n-1', place=('13.5', '52.5'))
+                        and self.server.database.last['node'],
+                    ],
+                ),
+            ],
+        )
         self.assertEqual(0, self.get(bbox='13,52,13.011,52.011'), self.err)
         got = self.got()
         refs = {key for one in got.values() if one.kind == 'way' for key in one.references}
@@ -218,7 +240,8 @@ class OfApi(GetTest):
         def without(words):
             text = whole(words).decode()
             at = text.index('<node id="7"')
-            return (text[:at] + text[text.index('/>', at) + 2:]).encode()
+            return (text[:at] + text[text.index('/>', at) + 2 :]).encode()
+
         self.server.database.map = without
         self.assertEqual(0, self.get(bbox='13,52,13.1,52.1'), self.err)
         self.assertEqual(self.there(), self.got())
@@ -242,18 +265,19 @@ class OfApi(GetTest):
 
     def test_words(self):
         for words, said in (
-                ([], 'one of --api, --overpass and --from'),
-                (['--api', self.server.api], 'wants --bbox'),
-                (['--api', self.server.api, '--from', 'x'], 'one of'),
-                (['--api', self.server.api, '--bbox', '13,52,14'], 'is no box'),
-                (['--api', self.server.api, '--bbox', '13,52,13,53'], 'no area'),
-                (['--api', self.server.api, '--bbox', '13,53,14,52'], 'no box on the map'),
-                (['--api', self.server.api, '--bbox', ALL, '--query', 'q'], '--query goes with'),
-                (['--overpass', 'http://127.0.0.1:1/'], 'wants --query'),
-                (['--from', 'x.pbf'], 'wants --bbox or --polygon'),
-                (['--from', 'x.pbf', '--bbox', ALL, '--polygon', 'p'], 'wants --bbox or --polygon'),
-                (['--overpass', 'http://example.org/', '--query', 'q'], 'wants https'),
-                (['--overpass', 'https://me:secret@h/', '--query', 'q'], 'wants an address')):
+            ([], 'one of --api, --overpass and --from'),
+            (['--api', self.server.api], 'wants --bbox'),
+            (['--api', self.server.api, '--from', 'x'], 'one of'),
+            (['--api', self.server.api, '--bbox', '13,52,14'], 'is no box'),
+            (['--api', self.server.api, '--bbox', '13,52,13,53'], 'no area'),
+            (['--api', self.server.api, '--bbox', '13,53,14,52'], 'no box on the map'),
+            (['--api', self.server.api, '--bbox', ALL, '--query', 'q'], '--query goes with'),
+            (['--overpass', 'http://127.0.0.1:1/'], 'wants --query'),
+            (['--from', 'x.pbf'], 'wants --bbox or --polygon'),
+            (['--from', 'x.pbf', '--bbox', ALL, '--polygon', 'p'], 'wants --bbox or --polygon'),
+            (['--overpass', 'http://example.org/', '--query', 'q'], 'wants https'),
+            (['--overpass', 'https://me:secret@h/', '--query', 'q'], 'wants an address'),
+        ):
             with self.subTest(words):
                 self.assertEqual(2, self.yoke('get', '--to', 'area.opl', *words), self.err)
                 self.assertIn(said, self.err)
@@ -270,12 +294,15 @@ def stop_after(count):
         calls.append(name)
         if len(calls) == count:
             raise KeyboardInterrupt
+
     return stopping
 
 
 class OverTheMeridian(GetTest):
-    town = ('n1 v1 x179.9 y10\nn2 v1 x-179.9 y10\nn3 v1 x179.95 y10\nn4 v1 x0 y10\n'
-            'w1 v1 Tferry=yes Nn1,n2\n')
+    town = (
+        'n1 v1 x179.9 y10\nn2 v1 x-179.9 y10\nn3 v1 x179.95 y10\nn4 v1 x0 y10\n'
+        'w1 v1 Tferry=yes Nn1,n2\n'
+    )
 
     def test_both_sides(self):
         self.assertEqual(0, self.get(bbox='179.85,9.9,-179.85,10.1'), self.err)
@@ -290,11 +317,14 @@ class OfOverpass(GetTest):
         self.overpass = StrictOverpass(self.server.database)
         self.overpass.__enter__()
         self.addCleanup(self.overpass.__exit__)
-        self.write('query', '[out:xml][timeout:25];\n(way["highway"]({{bbox}}););(._; >;);\nout meta;\n')
+        self.write(
+            'query', '[out:xml][timeout:25];\n(way["highway"]({{bbox}}););(._; >;);\nout meta;\n'
+        )
 
     def ask_overpass(self, *words, query='query'):
-        return self.yoke('get', '--overpass', self.overpass.address, '--query', query,
-                         '--to', 'area.opl', *words)
+        return self.yoke(
+            'get', '--overpass', self.overpass.address, '--query', query, '--to', 'area.opl', *words
+        )
 
     def query(self, text):
         self.write('query', text)
@@ -346,19 +376,25 @@ class OfOverpass(GetTest):
         self.assertNotIn('<', self.err)
 
     def test_answers_without_what_an_edit_needs(self):
-        for text, said in (('node(1);out;', 'n1 has no version'), ('way(1);out ids;', 'no version'),
-                           ('node(1);out count;', '<count>, which is no object'),
-                           ('node(999);out meta;', 'finds nothing')):
+        for text, said in (
+            ('node(1);out;', 'n1 has no version'),
+            ('way(1);out ids;', 'no version'),
+            ('node(1);out count;', '<count>, which is no object'),
+            ('node(999);out meta;', 'finds nothing'),
+        ):
             with self.subTest(text):
                 self.assertEqual(1, self.query(text))
                 self.assertIn(said, self.err)
                 self.no_rest('query')
 
     def test_queries_that_are_refused_unasked(self):
-        for text, said in (('[out:json];node(1);out meta;', 'another form than XML'),
-                           ('[out : csv(::id)];node(1);out meta;', 'another form than XML'),
-                           ('[diff:"2026-01-01T00:00:00Z"];node(1);out meta;', 'a difference'),
-                           ('node({{bbox}});out meta;', 'say which one by --bbox'), (' ', 'empty')):
+        for text, said in (
+            ('[out:json];node(1);out meta;', 'another form than XML'),
+            ('[out : csv(::id)];node(1);out meta;', 'another form than XML'),
+            ('[diff:"2026-01-01T00:00:00Z"];node(1);out meta;', 'a difference'),
+            ('node({{bbox}});out meta;', 'say which one by --bbox'),
+            (' ', 'empty'),
+        ):
             with self.subTest(text):
                 self.assertEqual(1, self.query(text))
                 self.assertIn(said, self.err)
@@ -383,8 +419,18 @@ class OfFile(GetTest):
     def setUp(self):
         super().setUp()
         self.write('town.opl', self.server.opl())
-        subprocess.run([OSMIUM, 'cat', 'town.opl', '-o', 'town.osm.pbf', '--output-header',
-                        'osmosis_replication_timestamp=2026-05-04T03:02:01Z'], check=True)
+        subprocess.run(
+            [
+                OSMIUM,
+                'cat',
+                'town.opl',
+                '-o',
+                'town.osm.pbf',
+                '--output-header',
+                'osmosis_replication_timestamp=2026-05-04T03:02:01Z',
+            ],
+            check=True,
+        )
 
     def cut(self, *words, to='area.opl'):
         return self.yoke('get', '--from', 'town.osm.pbf', '--to', to, *words)
@@ -393,23 +439,33 @@ class OfFile(GetTest):
         self.assertEqual(0, self.cut('--bbox', '13.0025,52.0025,13.0075,52.0075'), self.err)
         self.get(bbox='13.0025,52.0025,13.0075,52.0075', to='api.opl')
         got, api = self.got(), self.got('api.opl')
-        self.assertEqual({key: one for key, one in api.items() if key[0] != 'r'},
-                         {key: one for key, one in got.items() if key[0] != 'r'})
+        self.assertEqual(
+            {key: one for key, one in api.items() if key[0] != 'r'},
+            {key: one for key, one in got.items() if key[0] != 'r'},
+        )
         self.assertEqual('2026-05-04T03:02:01Z', header.moment_of('area.opl'))
         self.assertEqual(0, self.yoke('start', 'area.opl'), self.err)
         self.no_rest('area.opl', 'api.opl', 'town.osm.pbf', 'day')
 
     def test_a_polygon(self):
-        self.write('p.geojson', '{"type":"Feature","properties":{},"geometry":{"type":"Polygon",'
-                   '"coordinates":[[[13,52],[13.0035,52],[13.0035,52.0035],[13,52]]]}}')
+        self.write(
+            'p.geojson',
+            '{"type":"Feature","properties":{},"geometry":{"type":"Polygon",'
+            '"coordinates":[[[13,52],[13.0035,52],[13.0035,52.0035],[13,52]]]}}',
+        )
         self.assertEqual(0, self.cut('--polygon', 'p.geojson'), self.err)
         self.assertIn('n1', self.got())
         self.assertNotIn('n144', self.got())
 
     def test_a_box_across_the_meridian(self):
         self.write('far.opl', OverTheMeridian.town)
-        self.assertEqual(0, self.yoke('get', '--from', 'far.opl', '--bbox', '179.85,9.9,-179.85,10.1',
-                                      '--to', 'area.opl'), self.err)
+        self.assertEqual(
+            0,
+            self.yoke(
+                'get', '--from', 'far.opl', '--bbox', '179.85,9.9,-179.85,10.1', '--to', 'area.opl'
+            ),
+            self.err,
+        )
         self.assertEqual({'n1', 'n2', 'n3', 'w1'}, set(self.got()))
 
     def test_nothing_there_and_no_metadata(self):
@@ -421,8 +477,19 @@ class OfFile(GetTest):
         self.no_rest('town.osm.pbf', 'bare.opl')
 
     def test_beyond_the_bounds_of_the_file(self):
-        subprocess.run([OSMIUM, 'extract', '--set-bounds', '-b', '13,52,13.005,52.005',
-                        'town.osm.pbf', '-o', 'part.osm.pbf'], check=True)
+        subprocess.run(
+            [
+                OSMIUM,
+                'extract',
+                '--set-bounds',
+                '-b',
+                '13,52,13.005,52.005',
+                'town.osm.pbf',
+                '-o',
+                'part.osm.pbf',
+            ],
+            check=True,
+        )
         words = ['get', '--from', 'part.osm.pbf', '--to', 'area.opl', '--bbox']
         self.assertEqual(1, self.yoke(*words, '13.001,52.001,13.006,52.004'))
         self.assertIn('reaches beyond part.osm.pbf, which has 13,52,13.005,52.005', self.err)
@@ -431,8 +498,10 @@ class OfFile(GetTest):
         self.assertEqual(0, self.yoke(*words, '13.001,52.001,13.006,52.004', '--beyond'), self.err)
 
     def test_files_that_are_none(self):
-        for name, text, said in (('no.osm.pbf', None, 'there is no file'),
-                                 ('junk.osm.pbf', 'junk', 'osmium doesn\'t read')):
+        for name, text, said in (
+            ('no.osm.pbf', None, 'there is no file'),
+            ('junk.osm.pbf', 'junk', 'osmium doesn\'t read'),
+        ):
             if text:
                 self.write(name, text)
             self.assertEqual(3, self.yoke('get', '--from', name, '--bbox', ALL, '--to', 'area.opl'))
@@ -443,10 +512,15 @@ class OfFile(GetTest):
         self.assertIn('osmium doesn\'t cut', self.err)
 
     def test_an_old_version_beside_the_newest(self):
-        self.write('old.osh.opl', 'n1 v1 dV c1 t2020-01-01T00:00:00Z i1 ua T x13.001 y52\n'
-                   'n1 v2 dV c2 t2021-01-01T00:00:00Z i1 ua T x13.001 y52\n')
+        self.write(
+            'old.osh.opl',
+            'n1 v1 dV c1 t2020-01-01T00:00:00Z i1 ua T x13.001 y52\n'
+            'n1 v2 dV c2 t2021-01-01T00:00:00Z i1 ua T x13.001 y52\n',
+        )
         subprocess.run([OSMIUM, 'cat', 'old.osh.opl', '-o', 'old.osh.pbf'], check=True)
-        self.assertEqual(1, self.yoke('get', '--from', 'old.osh.pbf', '--bbox', ALL, '--to', 'a.opl'))
+        self.assertEqual(
+            1, self.yoke('get', '--from', 'old.osh.pbf', '--bbox', ALL, '--to', 'a.opl')
+        )
         self.assertIn('has old versions too', self.err)
 
     def test_without_osmium(self):
@@ -456,10 +530,14 @@ class OfFile(GetTest):
 
 
 class Boxes(unittest.TestCase):
-    @given(strategies.lists(strategies.integers(-1_799_999_999, 1_799_999_999), min_size=2,
-                            max_size=2, unique=True),
-           strategies.lists(strategies.integers(-900_000_000, 900_000_000), min_size=2, max_size=2,
-                            unique=True))
+    @given(
+        strategies.lists(
+            strategies.integers(-1_799_999_999, 1_799_999_999), min_size=2, max_size=2, unique=True
+        ),
+        strategies.lists(
+            strategies.integers(-900_000_000, 900_000_000), min_size=2, max_size=2, unique=True
+        ),
+    )
     @settings(max_examples=200, deadline=None)
     def test_halves_are_the_box(self, lons, lats):
         (west, east), (south, north) = sorted(lons), sorted(lats)
@@ -467,27 +545,51 @@ class Boxes(unittest.TestCase):
         self.assertEqual([box], boxes.read(boxes.words(box)))
         one, other = boxes.halves(box)
         self.assertEqual(boxes.area(box), boxes.area(one) + boxes.area(other))
-        self.assertEqual(box, (min(one[0], other[0]), min(one[1], other[1]),
-                               max(one[2], other[2]), max(one[3], other[3])))
+        self.assertEqual(
+            box,
+            (
+                min(one[0], other[0]),
+                min(one[1], other[1]),
+                max(one[2], other[2]),
+                max(one[3], other[3]),
+            ),
+        )
         self.assertTrue(one[2] == other[0] or one[3] == other[1])
 
     def test_across_the_meridian(self):
-        self.assertEqual([(1_790_000_000, 0, 1_800_000_000, 10_000_000),
-                          (-1_800_000_000, 0, -1_790_000_000, 10_000_000)],
-                         boxes.read('179,0,-179,1'))
+        self.assertEqual(
+            [
+                (1_790_000_000, 0, 1_800_000_000, 10_000_000),
+                (-1_800_000_000, 0, -1_790_000_000, 10_000_000),
+            ],
+            boxes.read('179,0,-179,1'),
+        )
         self.assertEqual(Decimal('1'), boxes.area(boxes.read('179,0,-179,1')[0]))
 
     def test_no_boxes(self):
-        for text in ('', '1,2,3', '1,2,3,x', 'nan,1,2,3', '1,2,1,3', '1,4,2,3', '-181,0,1,1',
-                     '0,-91,1,1', '0,0,181,1', 'inf,0,-1,1', '200,0,1,1'):
+        for text in (
+            '',
+            '1,2,3',
+            '1,2,3,x',
+            'nan,1,2,3',
+            '1,2,1,3',
+            '1,4,2,3',
+            '-181,0,1,1',
+            '0,-91,1,1',
+            '0,0,181,1',
+            'inf,0,-1,1',
+            '200,0,1,1',
+        ):
             with self.assertRaises(ValueError, msg=text):
                 boxes.read(text)
 
 
 class WholeTest(unittest.TestCase):
     def test_the_newest_version_counts_in_any_order(self):
-        things = [Object('n1', version, tags={'v': str(version)}, lon=Decimal(1), lat=Decimal(2))
-                  for version in (1, 2, 3)]
+        things = [
+            Object('n1', version, tags={'v': str(version)}, lon=Decimal(1), lat=Decimal(2))
+            for version in (1, 2, 3)
+        ]
         for _ in range(6):
             random.Random(_).shuffle(things)
             whole = Whole()
@@ -509,8 +611,12 @@ class WholeTest(unittest.TestCase):
 class Header(unittest.TestCase):
     def test_lines(self):
         for moment in ('2026-12-02T04:13:00Z', None):
-            with mock.patch('builtins.open', mock.mock_open(
-                    read_data=(header.line(moment, 'https://h/\nx') + '\nn1 v1\n').encode())):
+            with mock.patch(
+                'builtins.open',
+                mock.mock_open(
+                    read_data=(header.line(moment, 'https://h/\nx') + '\nn1 v1\n').encode()
+                ),
+            ):
                 self.assertEqual(moment, header.moment_of('x'))
         self.assertFalse(header.is_stamp(None))
         self.assertFalse(header.is_stamp('2026-12-02'))

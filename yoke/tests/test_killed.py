@@ -1,7 +1,8 @@
-"""`yoke send` as a process of its own, which the signal KILL ends at a step; the next start goes on.
+"""`yoke send` as a process of its own, which the signal KILL ends at a step; the next start goes
+on.
 
-`test_send` stops it at each step, in the tests' own process; here are some of these steps, as an operating system ends a
-process, with the lock that it held.
+`test_send` stops it at each step, in the tests' own process; here are some of these steps, as an
+operating system ends a process, with the lock that it held.
 """
 import os
 import shutil
@@ -19,8 +20,18 @@ class Killed(SendTest):
 
     def process(self, *words):
         """The status of a process, and what it said."""
-        environment = dict(os.environ, PYTHONPATH=str(TOP), YOKE_EDITOR=os.environ.get('YOKE_EDITOR') or str(TOP / 'bench' / 'model' / 'model'))
-        done = subprocess.run([sys.executable, *words], env=environment, stdout=subprocess.PIPE, stderr=subprocess.STDOUT, text=True)
+        environment = dict(
+            os.environ,
+            PYTHONPATH=str(TOP),
+            YOKE_EDITOR=os.environ.get('YOKE_EDITOR') or str(TOP / 'bench' / 'model' / 'model'),
+        )
+        done = subprocess.run(
+            [sys.executable, *words],
+            env=environment,
+            stdout=subprocess.PIPE,
+            stderr=subprocess.STDOUT,
+            text=True,
+        )
         return done.returncode, done.stdout
 
     def test_by_a_signal(self):
@@ -43,7 +54,7 @@ class Killed(SendTest):
         self.begin(*self.edits)
 
 
-del SendTest        # it has no tests of its own, but unittest would look for them here too
+del SendTest  # it has no tests of its own, but unittest would look for them here too
 
 if __name__ == '__main__':
     unittest.main()

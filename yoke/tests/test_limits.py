@@ -1,4 +1,6 @@
-"""`yoke send` at a server with limits: by time, by the size of a document, by the box of a changeset, and by who sends."""
+"""`yoke send` at a server with limits: by time, by the size of a document, by the box of a
+changeset, and by who sends.
+"""
 from __future__ import annotations
 
 import json
@@ -32,18 +34,24 @@ class LimitsTest(ServerTest):
         def wait(seconds: float) -> None:
             self.waited.append(seconds)
             self.now += seconds
+
         patch = mock.patch('yoke.api.pause', wait)
         patch.start()
         self.addCleanup(patch.stop)
 
     def send(self, *given: str) -> int:
-        """The exit code of a send, which doesn't look at what stands there already: that asks the server too."""
+        """The exit code of a send, which doesn't look at what stands there already: that asks the
+        server too.
+        """
         code: int = super().send('--unseen', *given)
         return code
 
     def sizes(self) -> list[int]:
         """How many changes each document had that was taken."""
-        found = [json.loads(size) for size in re.findall(r'changeset [0-9]+: ([0-9]+) changes taken', self.err)]
+        found = [
+            json.loads(size)
+            for size in re.findall(r'changeset [0-9]+: ([0-9]+) changes taken', self.err)
+        ]
         self.assertEqual(len(self.server.history), sum(found))
         return found
 
@@ -57,9 +65,10 @@ class LimitsTest(ServerTest):
 
 
 class ByTime(LimitsTest):
-
     def test_a_document_that_is_larger_than_an_hour_takes(self) -> None:
-        """The server doesn't say how long to wait: the documents get smaller, and nothing is lost where the send ends."""
+        """The server doesn't say how long to wait: the documents get smaller, and nothing is lost
+        where the send ends.
+        """
         self.begin(*nodes(30))
         self.server.limits.changes_per_hour, self.server.limits.retry_after = 10, None
         self.assertEqual(Later.code, self.send('--chunk', '30'), self.err)
@@ -91,7 +100,10 @@ class ByTime(LimitsTest):
         self.begin(*nodes(25))
         self.server.limits.changes_per_hour = 10
         self.assertEqual(Later.code, self.send('--chunk', '10'), self.err)
-        self.assertRegex(self.err, r'it asks to wait 3[0-9]{3} s, and 900 s are left to wait: run the same command again after [0-9:]+')
+        self.assertRegex(
+            self.err,
+            r'it asks to wait 3[0-9]{3} s, and 900 s are left to wait: run the same command again after [0-9:]+',
+        )
         self.assertEqual(10, len(self.server.history))
         self.assertEqual(0, self.send('--chunk', '10', '--wait', '1d'), self.err)
         self.is_all_sent(25)
@@ -116,6 +128,7 @@ class ByTime(LimitsTest):
                     act(number, user, text)
                     self.server.database.upload = act
                     raise self.server_refusal(kind)
+
                 self.server.database.upload = twice
                 self.assertEqual(0, self.send(), self.err)
                 self.assertEqual([], self.server.created_twice())
@@ -125,14 +138,16 @@ class ByTime(LimitsTest):
     def server_refusal(self, kind: str) -> Exception:
         """What the strict server raises for a fault."""
         from yoke.testing import server
+
         return server.REFUSALS[kind](self.server.limits)
 
 
 class BySize(LimitsTest):
-
     def test_a_document_with_too_many_changes_is_halved_for_good(self) -> None:
         self.begin(*nodes(12))
-        self.server.before('upload', 1, lambda: setattr(self.server.limits, 'changeset_elements', 4))
+        self.server.before(
+            'upload', 1, lambda: setattr(self.server.limits, 'changeset_elements', 4)
+        )
         self.assertEqual(0, self.send('--chunk', '12'), self.err)
         self.is_all_sent(12)
         self.assertEqual([3, 3, 3, 3], self.sizes())
@@ -164,10 +179,15 @@ class ByBox(LimitsTest):
 
     def changesets(self) -> list[tuple[int, int]]:
         """How many changes each changeset has, and the extent of its box."""
-        return [(one.changes, one.box.extent if one.box else 0) for one in self.server.database.changesets.values()]
+        return [
+            (one.changes, one.box.extent if one.box else 0)
+            for one in self.server.database.changesets.values()
+        ]
 
     def test_the_limit_of_the_server_is_found(self) -> None:
-        """Few documents are refused, no changeset stays empty, and the documents aren't smaller than they have to be."""
+        """Few documents are refused, no changeset stays empty, and the documents aren't smaller
+        than they have to be.
+        """
         self.begin(*nodes(200, 0.01))
         self.server.limits.changeset_extent = '0.3'
         self.assertEqual(0, self.send('--chunk', '50'), self.err)
@@ -202,14 +222,26 @@ class ByBox(LimitsTest):
         self.assertEqual([2, 4], [changes for changes, _ in self.changesets()])
 
     def test_a_change_that_spans_more_goes_out_alone(self) -> None:
-        self.begin('way Thighway=path Nn1,n3', 'node x13.5 y52 Tref=1', 'node x14.5 y52 Tref=2', 'way Thighway=path Nn-2,n-3')
+        self.begin(
+            'way Thighway=path Nn1,n3',
+            'node x13.5 y52 Tref=1',
+            'node x14.5 y52 Tref=2',
+            'way Thighway=path Nn-2,n-3',
+        )
         self.assertEqual(0, self.send('--max-extent', '0.1'), self.err)
         self.is_all_sent(4)
         self.assertEqual([(1, 0), (1, 0), (1, 10_000_000), (1, 20_000)], self.changesets())
 
     def test_boxes_are_those_of_the_server(self) -> None:
         """What yoke reckons before is what the server finds after."""
-        self.begin('tag n1 Tref=1', 'move n2 0.5 0.25', 'node x13.004 y52 Tref=2', 'way Thighway=path Nn3,n-1', 'tag r9 Tref=3', 'delete n8')
+        self.begin(
+            'tag n1 Tref=1',
+            'move n2 0.5 0.25',
+            'node x13.004 y52 Tref=2',
+            'way Thighway=path Nn3,n-1',
+            'tag r9 Tref=3',
+            'delete n8',
+        )
         chunk = self.session.ask(['upload 100']).first_chunk()
         box = extent.Boxes(stored.Stored(self.day.last().path)).of_all(chunk)
         self.assertEqual(0, self.send(), self.err)
@@ -221,7 +253,6 @@ class ByBox(LimitsTest):
 
 
 class Accounts(LimitsTest):
-
     def setUp(self) -> None:
         super().setUp()
         self.begin('tag n1 Tref=1')
@@ -300,21 +331,30 @@ class Accounts(LimitsTest):
 
 
 class Tags(LimitsTest):
-
     def setUp(self) -> None:
         super().setUp()
         self.begin('tag n1 Tref=1')
 
     def test_what_the_options_say(self) -> None:
-        self.assertEqual(0, self.send('--bot', '--import', '--review', '--tag', 'bot=yes'), self.err)
+        self.assertEqual(
+            0, self.send('--bot', '--import', '--review', '--tag', 'bot=yes'), self.err
+        )
         tags = self.server.database.changesets[1].tags
         self.assertEqual({'created_by', 'comment', 'bot', 'import', 'review_requested'}, set(tags))
         self.assertEqual({'yes'}, {tags[key] for key in ('bot', 'import', 'review_requested')})
 
     def test_what_none_may_take_away(self) -> None:
-        for given, said in [(('--tag', 'comment='), 'KEY=VALUE'), (('--tag', 'comment=x'), 'say it by -m'), (('--tag', 'created_by=JOSM'), 'it names the program'),
-                            (('--tag', 'source= '), 'KEY=VALUE'), (('--tag', '=x'), 'KEY=VALUE'), (('--bot', '--tag', 'bot=no'), 'something else'),
-                            (('--tag', 'a=b\x1b'), 'U+001B'), (('--source', 'a\x00b'), 'U+0000'), (('--source', 'M\udcfcnchen'), 'UTF-8')]:
+        for given, said in [
+            (('--tag', 'comment='), 'KEY=VALUE'),
+            (('--tag', 'comment=x'), 'say it by -m'),
+            (('--tag', 'created_by=JOSM'), 'it names the program'),
+            (('--tag', 'source= '), 'KEY=VALUE'),
+            (('--tag', '=x'), 'KEY=VALUE'),
+            (('--bot', '--tag', 'bot=no'), 'something else'),
+            (('--tag', 'a=b\x1b'), 'U+001B'),
+            (('--source', 'a\x00b'), 'U+0000'),
+            (('--source', 'M\udcfcnchen'), 'UTF-8'),
+        ]:
             self.assertEqual(Usage.code, self.send(*given), given)
             self.assertIn(said, self.err)
         self.assertEqual(Usage.code, self.ask('send', '-m', 'M\udcfcnchen'))
@@ -327,14 +367,16 @@ class Tags(LimitsTest):
 
 
 class Redactions(LimitsTest):
-
     def test_a_change_that_was_hidden_before_its_answer_came(self) -> None:
-        """The answer is lost; somebody changes the object, and a moderator hides the version that was sent."""
+        """The answer is lost; somebody changes the object, and a moderator hides the version that
+        was sent.
+        """
         self.begin('tag n1 Tref=1', 'tag n2 Tref=2')
 
         def hide() -> None:
             self.server.edit('modify', 'n1', tags={'ref': 'theirs'})
             self.server.database.redact('n1', 2)
+
         self.server.faults.once('drop-after')
         self.server.before('download', 1, hide)
         self.assertEqual(0, self.send(), self.err)
@@ -347,6 +389,7 @@ class Redactions(LimitsTest):
         def hide() -> None:
             self.server.edit('modify', 'n1', tags={'ref': 'theirs'})
             self.server.database.redact('n1', 2)
+
         self.server.faults.once('drop-after')
         self.server.faults.by_chance('500-before', 1.0, 0, 'download')
         self.server.before('version', 1, hide)

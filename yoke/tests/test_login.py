@@ -1,5 +1,6 @@
-"""`yoke login`: a token comes only to the one who asked for it, goes only to its server, and is seen
-nowhere else."""
+"""`yoke login`: a token comes only to the one who asked for it, goes only to its server, and is
+seen nowhere else.
+"""
 import http.client
 import io
 import json
@@ -52,7 +53,9 @@ class Browser:
         return True
 
     def answered(self):
-        """The answers, when the browser has them all: the login can end before it has read the last one."""
+        """The answers, when the browser has them all: the login can end before it has read the last
+        one.
+        """
         for thread in self.threads:
             thread.join(60)
             assert not thread.is_alive(), 'the browser still waits'
@@ -73,7 +76,7 @@ class Browser:
         back = headers['Location']
         if self.before:
             self.before(self, back)
-        for target in (self.change(back) if self.change else [back]):
+        for target in self.change(back) if self.change else [back]:
             self.answers.append(call('GET', target))
 
 
@@ -84,7 +87,8 @@ class LoginTest(ServerTest):
         for name in ('config', 'state'):
             os.environ[f'XDG_{name.upper()}_HOME'] = str(self.folder / name)
         self.server.authorisation = self.site = Authorisation(
-            self.server.users, self.server.scopes, self.server.address)
+            self.server.users, self.server.scopes, self.server.address
+        )
         self.site.register(Client('my-app', ('http://127.0.0.1/', OUT_OF_BAND)))
         self.browser = Browser()
 
@@ -131,19 +135,19 @@ class Flow(LoginTest):
 
     def test_the_token_is_in_a_file_of_the_user_alone(self):
         self.login()
-        file, = self.files()
+        (file,) = self.files()
         self.assertEqual(0o600, stat.S_IMODE(file.stat().st_mode))
         self.assertEqual(0o700, stat.S_IMODE(file.parent.stat().st_mode))
         self.assertEqual(self.tokens()[0], json.loads(file.read_text())['token'])
 
     def test_a_file_that_others_can_read_is_refused(self):
         self.login()
-        file, = self.files()
+        (file,) = self.files()
         for mode in (0o640, 0o604, 0o660):
             file.chmod(mode)
             self.assertEqual(3, self.ask('whoami'))
             self.assertIn('others can read', self.err)
-        self.assertEqual(0, self.ask('logout'))     # it goes all the same
+        self.assertEqual(0, self.ask('logout'))  # it goes all the same
         self.assertEqual([], self.files())
 
     def test_the_token_is_seen_nowhere(self):
@@ -155,10 +159,14 @@ class Flow(LoginTest):
             self.ask(*words)
             texts.append(self.out + self.err)
         login = store.Login('https://h/api/0.6', 'the-token')
-        texts += [repr(login), str(login), repr(oauth.Granted('the-token')),
-                  repr(oauth.Request(oauth.Endpoints('i', 'a', 't'), 'c', 'r', 's'))]
+        texts += [
+            repr(login),
+            str(login),
+            repr(oauth.Granted('the-token')),
+            repr(oauth.Request(oauth.Endpoints('i', 'a', 't'), 'c', 'r', 's')),
+        ]
         token = self.tokens()[0]
-        code, = self.site.codes
+        (code,) = self.site.codes
         request = oauth.Request(oauth.Endpoints('i', 'a', 't'), 'c', 'r', 's')
         for text in texts:
             for secret in (token, code, 'the-token', request.verifier, request.state):
@@ -171,12 +179,17 @@ class Flow(LoginTest):
         held = threading.Event()
         self.server.before('details', 2, lambda: held.wait(10))
         environment = dict(os.environ, PYTHONPATH=str(TOP))
-        with subprocess.Popen([sys.executable, '-m', 'yoke', 'whoami', '--api', self.server.api],
-                              env=environment, stdout=subprocess.PIPE) as child:
+        with subprocess.Popen(
+            [sys.executable, '-m', 'yoke', 'whoami', '--api', self.server.api],
+            env=environment,
+            stdout=subprocess.PIPE,
+        ) as child:
             while self.server.requests.count('details') < 2 and child.poll() is None:
                 time.sleep(0.02)
-            seen = b''.join(pathlib.Path(f'/proc/{child.pid}/{name}').read_bytes()
-                            for name in ('cmdline', 'environ'))
+            seen = b''.join(
+                pathlib.Path(f'/proc/{child.pid}/{name}').read_bytes()
+                for name in ('cmdline', 'environ')
+            )
             held.set()
             self.assertIn(b'mapper', child.communicate(timeout=20)[0])
         self.assertNotIn(token.encode(), seen)
@@ -184,8 +197,18 @@ class Flow(LoginTest):
     def test_the_address_in_the_browser_has_no_secret(self):
         self.login()
         fields = dict(urllib.parse.parse_qsl(urllib.parse.urlsplit(self.browser.opened[0]).query))
-        self.assertEqual({'response_type', 'client_id', 'redirect_uri', 'scope', 'state',
-                          'code_challenge', 'code_challenge_method'}, set(fields))
+        self.assertEqual(
+            {
+                'response_type',
+                'client_id',
+                'redirect_uri',
+                'scope',
+                'state',
+                'code_challenge',
+                'code_challenge_method',
+            },
+            set(fields),
+        )
         verifier = dict(self.site.seen)['POST token']['code_verifier']
         self.assertEqual(fields['code_challenge'], oauth.challenge(verifier))
         self.assertNotIn(verifier, self.browser.opened[0])
@@ -207,6 +230,7 @@ class Flow(LoginTest):
                 super().open(address)
                 self.answered()
                 return True
+
         with short_wait(1):
             self.assertEqual(0, self.login(browser=Quick()), self.err)
         self.assertEqual([200], [answer[0] for answer in self.browser.answers])
@@ -219,15 +243,23 @@ class Flow(LoginTest):
 
     def test_out_of_band(self):
         """Without a browser here: the page shows the code, and it is pasted."""
+
         def paste():
             code = Browser().decide(self.shown())[2].split('id="code">')[1].split('<')[0]
             return code + ' \n'
+
         shown = []
         self.shown = lambda: shown[0].rsplit(' ', 1)[1]
         with mock.patch('yoke.verbs.login.note', shown.append), mock.patch(
-                'sys.stdin', types.SimpleNamespace(isatty=lambda: False, readline=paste)):
-            self.assertEqual(0, self.yoke('login', '--api', self.server.api, '--client-id', 'my-app',
-                                          '--no-browser'), self.err)
+            'sys.stdin', types.SimpleNamespace(isatty=lambda: False, readline=paste)
+        ):
+            self.assertEqual(
+                0,
+                self.yoke(
+                    'login', '--api', self.server.api, '--client-id', 'my-app', '--no-browser'
+                ),
+                self.err,
+            )
         self.assertIn('as mapper (1001)', self.out)
 
     def test_a_pasted_text_that_is_no_code(self):
@@ -252,17 +284,21 @@ class Flow(LoginTest):
         self.assertIn('can\'t be used', self.err)
 
     def test_words(self):
-        for words, said in ((['--api', self.server.api], '--client-id names'),
-                            (['--client-id', 'x'], '--api ADDRESS names the server'),
-                            (['--api', self.server.api, '--client-id', 'x', '--login',
-                              'http://example.org'], 'wants https'),
-                            (['--api', self.server.api, '--client-id', 'x', '--minutes', '0'],
-                             '--minutes wants'),
-                            (['--api', self.server.api, '--client-id', 'x', '--redirect',
-                              'http://example.org/'], 'an address of this machine')):
+        for words, said in (
+            (['--api', self.server.api], '--client-id names'),
+            (['--client-id', 'x'], '--api ADDRESS names the server'),
+            (
+                ['--api', self.server.api, '--client-id', 'x', '--login', 'http://example.org'],
+                'wants https',
+            ),
+            (['--api', self.server.api, '--client-id', 'x', '--minutes', '0'], '--minutes wants'),
+            (
+                ['--api', self.server.api, '--client-id', 'x', '--redirect', 'http://example.org/'],
+                'an address of this machine',
+            ),
+        ):
             self.assertEqual(2, self.yoke('login', *words), self.err)
             self.assertIn(said, self.err)
-
 
     def test_the_data_are_those_of_the_page(self):
         fields = documented()
@@ -281,16 +317,24 @@ class Refusals(LoginTest):
 
     def test_another_state_changes_nothing(self):
         """A page of another site sends codes of its own: the login goes on, and is the user's."""
+
         def attack(browser, back):
             parts = urllib.parse.urlsplit(back)
             base = f'{parts.scheme}://{parts.netloc}/'
             good = dict(urllib.parse.parse_qsl(parts.query))
-            for query in ('code=evil&state=wrong', 'code=evil', 'state=' + good['state'], '',
-                          'error=access_denied&state=wrong', 'error=access_denied',
-                          f'code=evil&code=x&state={good["state"]}',
-                          f'code=evil&error=x&state={good["state"]}',
-                          f'code=evil&state={good["state"]}&iss=https://evil.example'):
+            for query in (
+                'code=evil&state=wrong',
+                'code=evil',
+                'state=' + good['state'],
+                '',
+                'error=access_denied&state=wrong',
+                'error=access_denied',
+                f'code=evil&code=x&state={good["state"]}',
+                f'code=evil&error=x&state={good["state"]}',
+                f'code=evil&state={good["state"]}&iss=https://evil.example',
+            ):
                 browser.answers.append(call('GET', base + '?' + query))
+
         self.assertEqual(0, self.login(browser=Browser(before=attack)), self.err)
         self.assertEqual([400] * 9 + [200], [answer[0] for answer in self.browser.answered()])
         self.assertIn('9 calls that were no answer to this login were ignored', self.err)
@@ -298,23 +342,33 @@ class Refusals(LoginTest):
 
     def test_calls_of_other_pages_change_nothing(self):
         """Posts, frames, fetches, other hosts and paths are refused, even with the right words."""
+
         def attack(browser, back):
             port = urllib.parse.urlsplit(back).port
             for method, target, headers in (
-                    ('POST', back, {}), ('OPTIONS', back, {}), ('PUT', back, {}), ('HEAD', back, {}),
-                    ('GET', back, {'Host': 'evil.example'}), ('GET', back, {'Host': f'localhost:{port}'}),
-                    ('GET', back, {'Sec-Fetch-Mode': 'no-cors', 'Sec-Fetch-Dest': 'image'}),
-                    ('GET', back, {'Sec-Fetch-Mode': 'cors', 'Sec-Fetch-Dest': 'empty'}),
-                    ('GET', back, {'Sec-Fetch-Mode': 'navigate', 'Sec-Fetch-Dest': 'iframe'}),
-                    ('GET', back.replace('/?', '/other?'), {})):
+                ('POST', back, {}),
+                ('OPTIONS', back, {}),
+                ('PUT', back, {}),
+                ('HEAD', back, {}),
+                ('GET', back, {'Host': 'evil.example'}),
+                ('GET', back, {'Host': f'localhost:{port}'}),
+                ('GET', back, {'Sec-Fetch-Mode': 'no-cors', 'Sec-Fetch-Dest': 'image'}),
+                ('GET', back, {'Sec-Fetch-Mode': 'cors', 'Sec-Fetch-Dest': 'empty'}),
+                ('GET', back, {'Sec-Fetch-Mode': 'navigate', 'Sec-Fetch-Dest': 'iframe'}),
+                ('GET', back.replace('/?', '/other?'), {}),
+            ):
                 browser.answers.append(call(method, target, headers=headers))
+
         self.assertEqual(0, self.login(browser=Browser(before=attack)), self.err)
-        self.assertEqual([405, 405, 405, 405, 421, 421, 403, 403, 403, 404, 200],
-                         [answer[0] for answer in self.browser.answered()])
+        self.assertEqual(
+            [405, 405, 405, 405, 421, 421, 403, 403, 403, 404, 200],
+            [answer[0] for answer in self.browser.answered()],
+        )
         for _, headers, _ in self.browser.answered():
             self.assertNotIn('Access-Control-Allow-Origin', headers)
-            self.assertEqual(('no-store', 'no-referrer'),
-                             (headers['Cache-Control'], headers['Referrer-Policy']))
+            self.assertEqual(
+                ('no-store', 'no-referrer'), (headers['Cache-Control'], headers['Referrer-Policy'])
+            )
 
     def test_the_first_answer_counts(self):
         with listener.Listener() as loopback:
@@ -325,39 +379,60 @@ class Refusals(LoginTest):
             self.assertEqual('first', loopback.wait(1))
 
     def test_a_code_that_was_changed_on_the_way(self):
-        self.assertEqual(6, self.login(browser=Browser(
-            change=lambda back: [back.replace('code=', 'code=x')])))
+        self.assertEqual(
+            6, self.login(browser=Browser(change=lambda back: [back.replace('code=', 'code=x')]))
+        )
         self.assertIn('the code is over, was used already, or is of another login', self.err)
         self.no_login()
 
     def test_a_code_of_another_verifier(self):
         """Somebody else's code with the right state: its verifier is unknown here."""
+
         def other(browser, back):
-            request = oauth.Request(oauth.Endpoints('', self.server.address + '/oauth2/authorize', ''),
-                                    'my-app', back.split('?')[0], oauth.WRITE)
+            request = oauth.Request(
+                oauth.Endpoints('', self.server.address + '/oauth2/authorize', ''),
+                'my-app',
+                back.split('?')[0],
+                oauth.WRITE,
+            )
             _, headers, _ = Browser().decide(request.address())
-            browser.code = dict(urllib.parse.parse_qsl(
-                urllib.parse.urlsplit(headers['Location']).query))['code']
+            browser.code = dict(
+                urllib.parse.parse_qsl(urllib.parse.urlsplit(headers['Location']).query)
+            )['code']
+
         browser = Browser(before=other)
-        browser.change = lambda back: [back.split('?')[0] + '?' + urllib.parse.urlencode(
-            {'code': browser.code, 'state': urllib.parse.parse_qs(back.split('?')[1])['state'][0]})]
+        browser.change = lambda back: [
+            back.split('?')[0]
+            + '?'
+            + urllib.parse.urlencode(
+                {
+                    'code': browser.code,
+                    'state': urllib.parse.parse_qs(back.split('?')[1])['state'][0],
+                }
+            )
+        ]
         self.assertEqual(6, self.login(browser=browser))
         self.no_login()
 
     def test_a_code_twice(self):
         self.login()
         endpoints = oauth.discover(self.server.address)
-        code, = self.site.codes
+        (code,) = self.site.codes
         fields = dict(self.site.seen)['POST token']
-        request = oauth.Request(endpoints, 'my-app', fields['redirect_uri'], oauth.WRITE,
-                                verifier=fields['code_verifier'])
+        request = oauth.Request(
+            endpoints,
+            'my-app',
+            fields['redirect_uri'],
+            oauth.WRITE,
+            verifier=fields['code_verifier'],
+        )
         with self.assertRaises(ServerRefused):
             oauth.exchange(request, code)
-        self.assertEqual(6, self.ask('whoami'))     # the site took the first token back
+        self.assertEqual(6, self.ask('whoami'))  # the site took the first token back
         self.assertIn('yoke logout and yoke login', self.err)
 
     def test_a_code_that_is_over(self):
-        gone: list[str] = []        # where the browser went with the code
+        gone: list[str] = []  # where the browser went with the code
         self.site.clock = lambda: time.time() + (100 if gone else 0)
         self.assertEqual(6, self.login(browser=Browser(before=lambda _, back: gone.append(back))))
         self.assertIn('the code is over', self.err)
@@ -365,13 +440,20 @@ class Refusals(LoginTest):
 
     def test_redirects_and_clients_that_arent_registered(self):
         """The site shows a page of its own then, and nobody comes back: the login ends by its time."""
-        for client in (Client('my-app', ('https://example.org/',)), Client('other', ('http://127.0.0.1/',))):
+        for client in (
+            Client('my-app', ('https://example.org/',)),
+            Client('other', ('http://127.0.0.1/',)),
+        ):
             self.site.clients.clear()
             self.site.register(client)
             pages = []
-            with mock.patch('webbrowser.open', lambda address, pages=pages: pages.append(
-                    call('GET', address)[0])), short_wait(0.2):
-                self.assertEqual(5, self.yoke('login', '--api', self.server.api, '--client-id', 'my-app'))
+            with mock.patch(
+                'webbrowser.open',
+                lambda address, pages=pages: pages.append(call('GET', address)[0]),
+            ), short_wait(0.2):
+                self.assertEqual(
+                    5, self.yoke('login', '--api', self.server.api, '--client-id', 'my-app')
+                )
             self.assertIn('nobody logged in within', self.err)
             self.assertIn(pages, ([400], [401]))
             self.no_login()
@@ -381,7 +463,10 @@ class Refusals(LoginTest):
 
         def fewer(fields):
             found = json.loads(answer(fields).body)
-            return Reply(200, json.dumps({**found, 'scope': 'read_prefs'}).encode(), 'application/json')
+            return Reply(
+                200, json.dumps({**found, 'scope': 'read_prefs'}).encode(), 'application/json'
+            )
+
         self.site.token = fewer
         self.assertEqual(1, self.login())
         self.assertIn('lacks the right write_api', self.err)
@@ -394,12 +479,17 @@ class Refusals(LoginTest):
         self.assertIn('may: read_prefs\n', self.out)
 
     def test_answers_that_are_none(self):
-        for reply, code in ((Reply(200, b'<html>'), 5), (Reply(500, b'oops'), 5), (Reply(302), 5),
-                            (Reply(200, b'{"access_token": "a b", "token_type": "Bearer"}'), 5),
-                            (Reply(200, b'{"access_token": "ab", "token_type": "mac"}'), 5),
-                            (Reply(200, b'[' * 5000), 5), (Reply(200, b'x' * 2_000_000), 5),
-                            (Reply(400, b'{"error": "\\u001b[31mred\\nline"}'), 6),
-                            (Reply(401, b'{"error": "invalid_client"}'), 6)):
+        for reply, code in (
+            (Reply(200, b'<html>'), 5),
+            (Reply(500, b'oops'), 5),
+            (Reply(302), 5),
+            (Reply(200, b'{"access_token": "a b", "token_type": "Bearer"}'), 5),
+            (Reply(200, b'{"access_token": "ab", "token_type": "mac"}'), 5),
+            (Reply(200, b'[' * 5000), 5),
+            (Reply(200, b'x' * 2_000_000), 5),
+            (Reply(400, b'{"error": "\\u001b[31mred\\nline"}'), 6),
+            (Reply(401, b'{"error": "invalid_client"}'), 6),
+        ):
             self.site.faults['token'] = lambda reply=reply: reply
             self.assertEqual(code, self.login(), self.err)
             self.assertNotIn('\x1b', self.err)
@@ -414,9 +504,13 @@ class Refusals(LoginTest):
         self.assertIn('no answer', self.err)
 
     def test_metadata_of_another_server(self):
-        for name, value in (('issuer', 'https://evil.example'), ('token_endpoint', 'https://evil.example/t'),
-                            ('authorization_endpoint', 'javascript:alert(1)'), ('token_endpoint', ''),
-                            ('revocation_endpoint', 'http://127.0.0.1:9/')):
+        for name, value in (
+            ('issuer', 'https://evil.example'),
+            ('token_endpoint', 'https://evil.example/t'),
+            ('authorization_endpoint', 'javascript:alert(1)'),
+            ('token_endpoint', ''),
+            ('revocation_endpoint', 'http://127.0.0.1:9/'),
+        ):
             self.site.metadata = {name: value}
             with short_wait(0.2):
                 self.assertEqual(3, self.login())
@@ -431,8 +525,9 @@ class Refusals(LoginTest):
         self.assertEqual(0, self.login(), self.err)
         self.ask('logout')
         with short_wait(0.5):
-            self.assertEqual(5, self.login(browser=Browser(
-                change=lambda back: [back.split('&iss=')[0]])))
+            self.assertEqual(
+                5, self.login(browser=Browser(change=lambda back: [back.split('&iss=')[0]]))
+            )
 
     def test_without_metadata_and_without_revocation(self):
         self.site.has_metadata = self.site.has_revocation = False
@@ -444,7 +539,7 @@ class Refusals(LoginTest):
     def test_a_login_that_is_over(self):
         self.site.token_seconds = 3600
         self.assertEqual(0, self.login(), self.err)
-        file, = self.files()
+        (file,) = self.files()
         found = json.loads(file.read_text())
         self.assertTrue(found['expires'])
         file.write_text(json.dumps({**found, 'expires': '2020-01-01T00:00:00Z'}))
@@ -464,7 +559,7 @@ class Refusals(LoginTest):
 
     def test_a_broken_file(self):
         self.login()
-        file, = self.files()
+        (file,) = self.files()
         for text in ('', '{}', '[]', '{"server": 1, "token": "x", "more": 2}'):
             file.write_text(text)
             self.assertEqual(3, self.ask('whoami'), text)
@@ -478,8 +573,11 @@ ORIGINAL_POST = oauth.web.post_form
 
 def short_wait(seconds):
     """A login that waits so long for the browser."""
-    return mock.patch('yoke.login.listener.Listener.wait', autospec=True,
-                      side_effect=lambda one, _: ORIGINAL_WAIT(one, seconds))
+    return mock.patch(
+        'yoke.login.listener.Listener.wait',
+        autospec=True,
+        side_effect=lambda one, _: ORIGINAL_WAIT(one, seconds),
+    )
 
 
 def quick(address, fields, headers=types.MappingProxyType({})):
@@ -489,23 +587,31 @@ def quick(address, fields, headers=types.MappingProxyType({})):
 
 class Profiles(LoginTest):
     def test_a_profile_names_the_server_and_the_rest(self):
-        self.profile(server=self.server.api, comment='of the profile', source='a survey', chunk=1,
-                     client_id='my-app', account='mapper')
+        self.profile(
+            server=self.server.api,
+            comment='of the profile',
+            source='a survey',
+            chunk=1,
+            client_id='my-app',
+            account='mapper',
+        )
         with mock.patch('webbrowser.open', self.browser.open):
             self.assertEqual(0, self.yoke('login', '--profile', 'imports'), self.err)
         self.begin('tag n8 Tcolour=red', 'tag n1 Tcolour=blue')
         self.assertEqual(0, self.yoke('send', '--profile', 'imports'), self.err)
-        made, = self.server.database.changesets.values()
-        self.assertEqual(('of the profile', 'a survey'), (made.tags['comment'], made.tags['source']))
+        (made,) = self.server.database.changesets.values()
+        self.assertEqual(
+            ('of the profile', 'a survey'), (made.tags['comment'], made.tags['source'])
+        )
         self.assertEqual(2, self.server.requests.count('upload'))
-        self.assertEqual(1, self.ask('whoami'))     # a login of a profile is that profile's alone
+        self.assertEqual(1, self.ask('whoami'))  # a login of a profile is that profile's alone
 
     def test_words_of_the_command_line_win(self):
         self.profile(server='https://example.org/api/0.6', comment='of the profile', chunk=1)
         os.environ['YOKE_TOKEN'] = 'token-of-the-mapper'
         self.begin('tag n8 Tcolour=red', 'tag n1 Tcolour=blue')
         self.assertEqual(0, self.send('--profile', 'imports', '--chunk', '500'), self.err)
-        made, = self.server.database.changesets.values()
+        (made,) = self.server.database.changesets.values()
         self.assertEqual('a test', made.tags['comment'])
         self.assertEqual(1, self.server.requests.count('upload'))
 
@@ -513,7 +619,9 @@ class Profiles(LoginTest):
         self.profile(server=self.server.api, client_id='my-app', account='My import account')
         with mock.patch('webbrowser.open', self.browser.open):
             self.assertEqual(1, self.yoke('login', '--profile', 'imports'))
-        self.assertIn('logged in as mapper, and the profile imports wants My import account', self.err)
+        self.assertIn(
+            'logged in as mapper, and the profile imports wants My import account', self.err
+        )
         self.assertEqual(self.tokens(), self.site.revoked)
         self.no_login()
 
@@ -554,18 +662,20 @@ class Profiles(LoginTest):
     def test_files_that_are_none(self):
         file = self.folder / 'config' / 'yoke' / 'profiles.toml'
         for text, said in (
-                (None, 'there is no profile imports: write [imports] into'),
-                ('[other]\n', 'there are other'), ('', 'there are none'),
-                ('[imports]\ntoken = "x-secret"\n', 'a token doesn\'t belong into this file'),
-                ('[imports]\nclient_secret = "x-secret"\n', 'doesn\'t belong'),
-                ('[imports]\nservre = "x"\n', 'servre is no key of a profile'),
-                ('[imports]\nchunk = "5"\n', 'chunk wants a number'),
-                ('[imports]\nchunk = true\n', 'chunk wants a number'),
-                ('[imports]\nchunk = 0\n', 'from 1 to 10,000'),
-                ('[imports]\nserver = 5\n', 'server wants a text'),
-                ('[imports]\nkeyring = "yes"\n', 'keyring wants true or false'),
-                ('server = "x"\n[imports]\n', 'stands above the first'),
-                ('[imports\n', 'is no TOML')):
+            (None, 'there is no profile imports: write [imports] into'),
+            ('[other]\n', 'there are other'),
+            ('', 'there are none'),
+            ('[imports]\ntoken = "x-secret"\n', 'a token doesn\'t belong into this file'),
+            ('[imports]\nclient_secret = "x-secret"\n', 'doesn\'t belong'),
+            ('[imports]\nservre = "x"\n', 'servre is no key of a profile'),
+            ('[imports]\nchunk = "5"\n', 'chunk wants a number'),
+            ('[imports]\nchunk = true\n', 'chunk wants a number'),
+            ('[imports]\nchunk = 0\n', 'from 1 to 10,000'),
+            ('[imports]\nserver = 5\n', 'server wants a text'),
+            ('[imports]\nkeyring = "yes"\n', 'keyring wants true or false'),
+            ('server = "x"\n[imports]\n', 'stands above the first'),
+            ('[imports\n', 'is no TOML'),
+        ):
             if text is not None:
                 file.parent.mkdir(parents=True, exist_ok=True)
                 file.write_text(text)
@@ -609,7 +719,7 @@ class Keyring(LoginTest):
         with mock.patch('yoke.login.store.keyring', lambda: ring):
             self.assertEqual(0, self.login('--keyring'), self.err)
             self.assertIn('the token is in the keyring', self.out)
-            file, = self.files()
+            (file,) = self.files()
             self.assertNotIn(self.tokens()[0], file.read_text())
             self.assertEqual(self.tokens(), list(ring.kept.values()))
             self.assertEqual(0, self.ask('whoami'), self.err)
@@ -643,15 +753,25 @@ class Parts(FolderTest):
         self.assertEqual((0, '/'), listener.address_of(''))
         self.assertEqual((8771, '/'), listener.address_of('http://127.0.0.1:8771/'))
         self.assertEqual((0, '/x'), listener.address_of('http://127.0.0.1/x'))
-        for text in ('https://127.0.0.1:1/', 'http://localhost:1/', 'http://[::1]:1/', 'http://0.0.0.0:1/',
-                     'http://127.0.0.1:1/?x', 'http://127.0.0.1:99999/', 'http://me@127.0.0.1:1/', 'x'):
+        for text in (
+            'https://127.0.0.1:1/',
+            'http://localhost:1/',
+            'http://[::1]:1/',
+            'http://0.0.0.0:1/',
+            'http://127.0.0.1:1/?x',
+            'http://127.0.0.1:99999/',
+            'http://me@127.0.0.1:1/',
+            'x',
+        ):
             with self.assertRaises(Usage, msg=text):
                 listener.address_of(text)
 
     def test_the_challenge_of_the_standard(self):
         """The example of RFC 7636, appendix B."""
-        self.assertEqual('E9Melhoa2OwvFrEMTJguCHaoeK1t8URWbuGJSstw-cM',
-                         oauth.challenge('dBjftJeZ4CVP-mB92K27uhbUJU1p1r_wW1gFWFOEjXk'))
+        self.assertEqual(
+            'E9Melhoa2OwvFrEMTJguCHaoeK1t8URWbuGJSstw-cM',
+            oauth.challenge('dBjftJeZ4CVP-mB92K27uhbUJU1p1r_wW1gFWFOEjXk'),
+        )
 
     def test_causes(self):
         self.assertIn('said no', oauth.cause('access_denied'))
@@ -659,9 +779,13 @@ class Parts(FolderTest):
 
     def test_registered_redirects(self):
         for given, registered, is_same in (
-                ('http://127.0.0.1:5/', 'http://127.0.0.1/', True), ('http://127.0.0.1:5/x', 'http://127.0.0.1/', False),
-                ('http://127.0.0.1:5/', 'http://127.0.0.1:6/', False), ('http://localhost:5/', 'http://127.0.0.1/', False),
-                ('https://127.0.0.1:5/', 'http://127.0.0.1/', False), (OUT_OF_BAND, OUT_OF_BAND, True)):
+            ('http://127.0.0.1:5/', 'http://127.0.0.1/', True),
+            ('http://127.0.0.1:5/x', 'http://127.0.0.1/', False),
+            ('http://127.0.0.1:5/', 'http://127.0.0.1:6/', False),
+            ('http://localhost:5/', 'http://127.0.0.1/', False),
+            ('https://127.0.0.1:5/', 'http://127.0.0.1/', False),
+            (OUT_OF_BAND, OUT_OF_BAND, True),
+        ):
             self.assertEqual(is_same, is_same_redirect(given, registered), (given, registered))
 
     def test_the_listener_stops(self):
@@ -679,8 +803,9 @@ class Parts(FolderTest):
             request = oauth.Request(oauth.Endpoints('i', 'a', 't'), 'c', loopback.redirect, 's')
             loopback.expect(request)
             with socket.create_connection(('127.0.0.1', loopback.port)):
-                threading.Timer(0.05, lambda: call(
-                    'GET', f'{loopback.redirect}?code=abc&state={request.state}')).start()
+                threading.Timer(
+                    0.05, lambda: call('GET', f'{loopback.redirect}?code=abc&state={request.state}')
+                ).start()
                 self.assertEqual('abc', loopback.wait(5))
 
     def test_ends(self):

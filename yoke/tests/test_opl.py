@@ -7,7 +7,20 @@ from yoke import opl
 
 class Texts(unittest.TestCase):
     def test_all_kinds_go_out_and_come_back(self):
-        for text in ('', 'a b', 'a,b=c', 'x@y', '100%', 'tab\there', 'line\nfeed', '\u2028\u0085\xad', 'Straße', '中山路', '😀', '\x01'):
+        for text in (
+            '',
+            'a b',
+            'a,b=c',
+            'x@y',
+            '100%',
+            'tab\there',
+            'line\nfeed',
+            '\u2028\u0085\xad',
+            'Straße',
+            '中山路',
+            '😀',
+            '\x01',
+        ):
             self.assertEqual(text, opl.unescape(opl.escape(text)))
             self.assertNotRegex(opl.escape(text), '[ \t\n,=@]')
 
@@ -25,8 +38,15 @@ class Texts(unittest.TestCase):
 
 class Degrees(unittest.TestCase):
     def test_at_most_seven_digits_and_no_needless_ones(self):
-        for number, text in [(13.5, '13.5'), (0, '0'), (-0.00000001, '0'), (Decimal('-0.0000001'), '-0.0000001'), (100, '100'),
-                             (Decimal('52.0000000'), '52'), (1.123456789, '1.1234568')]:
+        for number, text in [
+            (13.5, '13.5'),
+            (0, '0'),
+            (-0.00000001, '0'),
+            (Decimal('-0.0000001'), '-0.0000001'),
+            (100, '100'),
+            (Decimal('52.0000000'), '52'),
+            (1.123456789, '1.1234568'),
+        ]:
             self.assertEqual(text, opl.degrees(number))
 
 
@@ -46,7 +66,18 @@ class Lines(unittest.TestCase):
 
     def test_the_parts_of_an_object(self):
         thing = opl.parse(self.LINES[0])
-        self.assertEqual(('n1', 3, False, 7, 5, 'A B', {'name': 'x y'}), (thing.key, thing.version, thing.deleted, thing.changeset, thing.uid, thing.user, thing.tags))
+        self.assertEqual(
+            ('n1', 3, False, 7, 5, 'A B', {'name': 'x y'}),
+            (
+                thing.key,
+                thing.version,
+                thing.deleted,
+                thing.changeset,
+                thing.uid,
+                thing.user,
+                thing.tags,
+            ),
+        )
         self.assertEqual((Decimal('13.5'), Decimal('-0.0000001')), (thing.lon, thing.lat))
         self.assertEqual(('n1', 'n2', 'n-3'), opl.parse(self.LINES[3]).references)
         self.assertEqual((('w5', ''), ('n4', 'stop@here')), opl.parse(self.LINES[4]).members)
@@ -61,7 +92,10 @@ class Lines(unittest.TestCase):
                 opl.parse(line)
 
     def test_rank(self):
-        self.assertEqual(['n1', 'n12', 'n-1', 'n-2', 'w1', 'r-1'], sorted(['r-1', 'w1', 'n-2', 'n-1', 'n12', 'n1'], key=opl.rank))
+        self.assertEqual(
+            ['n1', 'n12', 'n-1', 'n-2', 'w1', 'r-1'],
+            sorted(['r-1', 'w1', 'n-2', 'n-1', 'n12', 'n1'], key=opl.rank),
+        )
 
 
 if __name__ == '__main__':

@@ -36,14 +36,27 @@ TAKEN = '''<osmChange version="0.6">
 class Documents(unittest.TestCase):
     def test_what_is_written_is_read_again(self):
         text = osc.document(SENT, '7')
-        self.assertEqual(SENT[:3], osc.changes(text)[:3] and [(verb, with_changeset(thing, 0)) for verb, thing in osc.changes(text)[:3]])
-        self.assertEqual(('delete', 'n8', 3), (osc.changes(text)[3][0], osc.changes(text)[3][1].key, osc.changes(text)[3][1].version))
+        self.assertEqual(
+            SENT[:3],
+            osc.changes(text)[:3]
+            and [(verb, with_changeset(thing, 0)) for verb, thing in osc.changes(text)[:3]],
+        )
+        self.assertEqual(
+            ('delete', 'n8', 3),
+            (osc.changes(text)[3][0], osc.changes(text)[3][1].key, osc.changes(text)[3][1].version),
+        )
         self.assertEqual('7', osc.changeset_of(text))
 
     def test_neighbours_with_one_verb_share_an_element_and_the_order_stays(self):
-        self.assertEqual(['create', 'modify', 'delete'], [part.tag for part in ElementTree.fromstring(osc.document(SENT, '7'))])
+        self.assertEqual(
+            ['create', 'modify', 'delete'],
+            [part.tag for part in ElementTree.fromstring(osc.document(SENT, '7'))],
+        )
         mixed = [SENT[3], SENT[0], SENT[3]]
-        self.assertEqual(['delete', 'create', 'delete'], [part.tag for part in ElementTree.fromstring(osc.document(mixed, '7'))])
+        self.assertEqual(
+            ['delete', 'create', 'delete'],
+            [part.tag for part in ElementTree.fromstring(osc.document(mixed, '7'))],
+        )
 
     def test_blanks_of_all_kinds_come_back(self):
         sent = [('create', opl.Object('n-1', tags={'a': 'x\ty\nz\r', 'b': '  '}, lon=1, lat=2))]
@@ -56,7 +69,10 @@ class Documents(unittest.TestCase):
 
     def test_the_document_that_opens_a_changeset(self):
         root = ElementTree.fromstring(osc.changeset({'comment': 'a "b" & <c>', 'source': 'survey'}))
-        self.assertEqual([('comment', 'a "b" & <c>'), ('source', 'survey')], [(tag.get('k'), tag.get('v')) for tag in root.iter('tag')])
+        self.assertEqual(
+            [('comment', 'a "b" & <c>'), ('source', 'survey')],
+            [(tag.get('k'), tag.get('v')) for tag in root.iter('tag')],
+        )
 
 
 def with_changeset(thing, number):
@@ -67,11 +83,23 @@ class Elements(unittest.TestCase):
     def test_objects_of_a_server_as_opl(self):
         text = '''<osm><bounds/><node id="8" version="3" changeset="7" timestamp="2024-05-11T12:00:00Z" uid="5" user="A B" visible="true" lat="52.00100001" lon="13"/>
           <way id="5" visible="false" version="4" changeset="7" timestamp="2024-05-11T12:00:00Z" uid="5" user="A"/></osm>'''
-        self.assertEqual(['n8 v3 dV c7 t2024-05-11T12:00:00Z i5 uA%20%B T x13 y52.001', 'w5 v4 dD c7 t2024-05-11T12:00:00Z i5 uA'],
-                         [opl.line(thing) for thing in osc.things(text)])
+        self.assertEqual(
+            [
+                'n8 v3 dV c7 t2024-05-11T12:00:00Z i5 uA%20%B T x13 y52.001',
+                'w5 v4 dD c7 t2024-05-11T12:00:00Z i5 uA',
+            ],
+            [opl.line(thing) for thing in osc.things(text)],
+        )
 
     def test_what_is_no_document(self):
-        for text in ('', '<osm>', 'Version mismatch', '<osmChange/>', '<osm><node id="x" version="y"/></osm>', '<osm><node/></osm>'):
+        for text in (
+            '',
+            '<osm>',
+            'Version mismatch',
+            '<osmChange/>',
+            '<osm><node id="x" version="y"/></osm>',
+            '<osm><node/></osm>',
+        ):
             with self.assertRaises(osc.NoXml, msg=text):
                 osc.things(text)
 
@@ -81,10 +109,19 @@ class Answers(unittest.TestCase):
         self.assertEqual(LINES, osc.answers(SENT, RESULT))
 
     def test_a_diff_result_that_is_not_that_of_these_changes(self):
-        for old, new in [('<node old_id="8"/>', ''), ('new_version="5"', 'new_version="6"'), ('new_id="5"', 'new_id="6"'), ('new_id="91"', 'new_id="-91"'),
-                         ('<node old_id="8"/>', '<node old_id="8"/><node old_id="9"/>'), ('<node old_id="8"/>', '<node old_id="8"/><node old_id="8"/>'),
-                         ('<node old_id="8"/>', '<node/>'), ('diffResult', 'osmChange'), ('</diffResult>', ''), ('new_id="92"', 'new_id=""'),
-                         ('<node old_id="8"/>', '<area old_id="8"/>')]:
+        for old, new in [
+            ('<node old_id="8"/>', ''),
+            ('new_version="5"', 'new_version="6"'),
+            ('new_id="5"', 'new_id="6"'),
+            ('new_id="91"', 'new_id="-91"'),
+            ('<node old_id="8"/>', '<node old_id="8"/><node old_id="9"/>'),
+            ('<node old_id="8"/>', '<node old_id="8"/><node old_id="8"/>'),
+            ('<node old_id="8"/>', '<node/>'),
+            ('diffResult', 'osmChange'),
+            ('</diffResult>', ''),
+            ('new_id="92"', 'new_id=""'),
+            ('<node old_id="8"/>', '<area old_id="8"/>'),
+        ]:
             with self.assertRaises(osc.NoXml, msg=new):
                 osc.answers(SENT, RESULT.replace(old, new))
 
@@ -99,16 +136,27 @@ class LookedUp(unittest.TestCase):
         self.assertEqual(LINES, osc.looked_up(SENT, TAKEN))
 
     def test_among_other_changes_of_the_changeset(self):
-        more = TAKEN.replace('</osmChange>', '<create><node id="95" version="1" lat="1" lon="1"/></create></osmChange>')
+        more = TAKEN.replace(
+            '</osmChange>',
+            '<create><node id="95" version="1" lat="1" lon="1"/></create></osmChange>',
+        )
         self.assertEqual(LINES, osc.looked_up(SENT, more))
 
     def test_none_of_them(self):
-        for text in ('<osmChange/>', '<osmChange><create><node id="95" version="1" lat="1" lon="1"/></create></osmChange>'):
+        for text in (
+            '<osmChange/>',
+            '<osmChange><create><node id="95" version="1" lat="1" lon="1"/></create></osmChange>',
+        ):
             with self.assertRaises(osc.NotThere):
                 osc.looked_up(SENT, text)
 
     def test_some_of_them_alone(self):
-        for old, new in [('id="8" version="4"', 'id="8" version="5"'), ('v="footway"', 'v="path"'), ('ref="92"', 'ref="93"'), ('role="forward"', 'role=""')]:
+        for old, new in [
+            ('id="8" version="4"', 'id="8" version="5"'),
+            ('v="footway"', 'v="path"'),
+            ('ref="92"', 'ref="93"'),
+            ('role="forward"', 'role=""'),
+        ]:
             with self.assertRaises(ValueError) as raised:
                 osc.looked_up(SENT, TAKEN.replace(old, new))
             self.assertNotIsInstance(raised.exception, (osc.NotThere, osc.NoXml))

@@ -286,8 +286,7 @@ class Stops(PartTest):
         )
 
     def stopped(self, at: int, *given: str) -> Optional[str]:
-        """The name of the step at which a send was stopped; None where it came to its end before.
-        """
+        """The name of the step at which a send was stopped; None where it came to its end before."""
         with stop_at(at) as steps:
             try:
                 self.assertEqual(0, self.send(*given), self.err)

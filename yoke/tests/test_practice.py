@@ -1,4 +1,6 @@
-"""`yoke practice`: a server of this machine, from its start to its end, as a mapper tries a send on it."""
+"""`yoke practice`: a server of this machine, from its start to its end, as a mapper tries a send on
+it.
+"""
 from __future__ import annotations
 
 import os
@@ -26,7 +28,9 @@ class Practice(FolderTest):
 
     def serve(self) -> str:
         said: str = self.done('practice', 'town.opl', '--background', '--port', self.port)
-        self.addCleanup(lambda: self.pid_file.exists() and self.yoke('practice', '--stop', '--port', self.port))
+        self.addCleanup(
+            lambda: self.pid_file.exists() and self.yoke('practice', '--stop', '--port', self.port)
+        )
         return said
 
     @property
@@ -60,11 +64,15 @@ class Practice(FolderTest):
 
     def test_a_second_one_in_the_folder(self) -> None:
         self.serve()
-        self.assertEqual(Refused.code, self.yoke('practice', 'town.opl', '--background', '--port', self.port))
+        self.assertEqual(
+            Refused.code, self.yoke('practice', 'town.opl', '--background', '--port', self.port)
+        )
         self.assertIn('yoke practice --stop', self.err)
 
     def test_a_file_that_is_none(self) -> None:
-        self.assertEqual(Trouble.code, self.yoke('practice', 'none.opl', '--background', '--port', self.port))
+        self.assertEqual(
+            Trouble.code, self.yoke('practice', 'none.opl', '--background', '--port', self.port)
+        )
         self.assertIn('none.opl', self.err)
         self.assertFalse(self.pid_file.exists())
 
@@ -74,7 +82,12 @@ class Practice(FolderTest):
         self.assertIn('no practice server any more', self.err)
 
     def test_words_that_are_none(self) -> None:
-        for words in ([], ['town.opl', '--stop'], ['town.opl', '--port', '0'], ['--dump', '--stop']):
+        for words in (
+            [],
+            ['town.opl', '--stop'],
+            ['town.opl', '--port', '0'],
+            ['--dump', '--stop'],
+        ):
             self.assertEqual(Usage.code, self.yoke('practice', *words), words)
         self.assertEqual(Refused.code, self.yoke('practice', '--stop', '--port', self.port))
 

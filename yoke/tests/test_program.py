@@ -33,7 +33,17 @@ found 2
 n1
 w5
 '''
-LINES = ['download a', 'import b', '# nothing', 'delete n1', 'end', 'save', 'upload 2', 'count', 'find changed']
+LINES = [
+    'download a',
+    'import b',
+    '# nothing',
+    'delete n1',
+    'end',
+    'save',
+    'upload 2',
+    'count',
+    'find changed',
+]
 
 
 class Answers(unittest.TestCase):
@@ -43,15 +53,23 @@ class Answers(unittest.TestCase):
     def test_replies_with_their_steps(self):
         self.assertEqual([1, 2, 4, 5, 6, 7, 8, 9], [reply.line for reply in self.answer.replies])
         self.assertEqual(['n-1', 'w-2'], self.answer.replies[1].made())
-        refused, = self.answer.refused()
-        self.assertEqual(('delete n1', 'delete', 5, '5 n1 w5', []), (refused.step, refused.verb, refused.number, refused.rest, refused.made()))
+        (refused,) = self.answer.refused()
+        self.assertEqual(
+            ('delete n1', 'delete', 5, '5 n1 w5', []),
+            (refused.step, refused.verb, refused.number, refused.rest, refused.made()),
+        )
 
     def test_what_steps_wrote(self):
         self.assertEqual('session 1 1\nsession end\n', self.answer.saved())
-        self.assertEqual((1, 2), (self.answer.counts()['conflicts'], self.answer.counts()['changed']))
+        self.assertEqual(
+            (1, 2), (self.answer.counts()['conflicts'], self.answer.counts()['changed'])
+        )
         self.assertEqual(['n1', 'w5'], self.answer.found())
         self.assertEqual(3, self.answer.upload_size())
-        self.assertEqual([('create', 'n-1'), ('delete', 'n8')], [(verb, thing.key) for verb, thing in self.answer.first_chunk()])
+        self.assertEqual(
+            [('create', 'n-1'), ('delete', 'n8')],
+            [(verb, thing.key) for verb, thing in self.answer.first_chunk()],
+        )
 
     def test_what_is_cut_off(self):
         for end in ('session end\n', 'modify w5 v4 dV c0 t i0 u T Nn1,n2\n'):
@@ -62,7 +80,9 @@ class Answers(unittest.TestCase):
             Answer('1 refused 19\n', ['save']).saved()
 
     def test_nothing_to_send_and_an_upload_that_was_refused(self):
-        self.assertEqual([], Answer('1 ok\nupload changes 0 chunks 0\n', ['upload 2']).first_chunk())
+        self.assertEqual(
+            [], Answer('1 ok\nupload changes 0 chunks 0\n', ['upload 2']).first_chunk()
+        )
         self.assertEqual([], Answer('1 refused 23 1 n8\n', ['upload 2']).first_chunk())
 
 
@@ -78,20 +98,32 @@ class Running(unittest.TestCase):
 
     def test_the_real_words_of_its_command_line(self):
         one = self.fake('for word; do echo "$word"; done >&2; cat "$3" >&2; exit 8\n')
-        with self.assertRaisesRegex(Trouble, r'(?s)--max-file=1073741824\n--max-objects=7\n.*script\ncount'):
+        with self.assertRaisesRegex(
+            Trouble, r'(?s)--max-file=1073741824\n--max-objects=7\n.*script\ncount'
+        ):
             Program(one.path, 7).run(['count'])
 
     def test_a_session_is_saved_into_a_file(self):
         replies = 'printf "1 ok n-1\\n2 ok\\ncount nodes 1\\n'
         whole = '3 ok\\nsession 1 2\\nsession end\\n"'
         file = io.BytesIO()
-        answer = self.fake(replies + whole).save(['node x1 y1 T', 'count'], lambda answer: file if answer.replies[0].made() else None)
-        self.assertEqual((b'session 1 2\nsession end\n', ['ok', 'ok']), (file.getvalue(), [reply.word for reply in answer.replies]))
+        answer = self.fake(replies + whole).save(
+            ['node x1 y1 T', 'count'], lambda answer: file if answer.replies[0].made() else None
+        )
+        self.assertEqual(
+            (b'session 1 2\nsession end\n', ['ok', 'ok']),
+            (file.getvalue(), [reply.word for reply in answer.replies]),
+        )
         self.assertEqual({'nodes': 1}, answer.counts())
         self.fake(replies + whole).save(['node x1 y1 T', 'count'], lambda answer: None)
-        for text, said in [(replies + '3 ok\\nsession 1 2\\n"', 'no whole `save`'), (replies + '3 refused 1\\nsession end\\n"', 'no whole `save`'),
-                           (replies + '"', 'no whole `save`'), (replies + whole + '; exit 9', 'memory ran out'),
-                           ('echo hello', 'no program editor'), (replies + whole + '; echo more', 'no whole `save`')]:
+        for text, said in [
+            (replies + '3 ok\\nsession 1 2\\n"', 'no whole `save`'),
+            (replies + '3 refused 1\\nsession end\\n"', 'no whole `save`'),
+            (replies + '"', 'no whole `save`'),
+            (replies + whole + '; exit 9', 'memory ran out'),
+            ('echo hello', 'no program editor'),
+            (replies + whole + '; echo more', 'no whole `save`'),
+        ]:
             with self.assertRaisesRegex(Trouble, said):
                 self.fake(text + '\n').save(['node x1 y1 T', 'count'], lambda answer: io.BytesIO())
 
@@ -102,8 +134,12 @@ class Running(unittest.TestCase):
         self.assertIn('tag n1 a=b', str(raised.exception))
 
     def test_another_status_a_signal_and_another_program(self):
-        for text, said in [('echo "editor: out of memory" >&2; exit 9\n', 'memory ran out'), ('kill -9 $$\n', 'signal 9'), ('echo hello\n', 'no program editor'),
-                           ('echo usage >&2; exit 2\n', 'usage')]:
+        for text, said in [
+            ('echo "editor: out of memory" >&2; exit 9\n', 'memory ran out'),
+            ('kill -9 $$\n', 'signal 9'),
+            ('echo hello\n', 'no program editor'),
+            ('echo usage >&2; exit 2\n', 'usage'),
+        ]:
             with self.assertRaisesRegex(Trouble, said):
                 self.fake(text).run(['count'])
 
@@ -149,14 +185,28 @@ class SavedSessions(unittest.TestCase):
     def test_the_sides_of_each_object(self):
         known = saved.read(SAVED)
         self.assertEqual(['n1', 'n3', 'n6', 'n8', 'n-1', 'w5'], list(known))
-        self.assertEqual([None, 'deleted', None, 'changed', 'new', 'changed'], [one.edit for one in known.values()])
+        self.assertEqual(
+            [None, 'deleted', None, 'changed', 'new', 'changed'],
+            [one.edit for one in known.values()],
+        )
         self.assertEqual(known['n1'].base, known['n1'].mine)
-        self.assertEqual(('changed', 'yes', 'no'), (known['n8'].conflict, known['n8'].mine.tags['backrest'], known['n8'].theirs.tags['backrest']))
-        self.assertEqual((None, None, None), (known['n-1'].base, known['n6'].mine, known['w5'].there))
+        self.assertEqual(
+            ('changed', 'yes', 'no'),
+            (
+                known['n8'].conflict,
+                known['n8'].mine.tags['backrest'],
+                known['n8'].theirs.tags['backrest'],
+            ),
+        )
+        self.assertEqual(
+            (None, None, None), (known['n-1'].base, known['n6'].mine, known['w5'].there)
+        )
         self.assertTrue(known['w5'].base.deleted)
 
     def test_an_own_side_that_is_as_the_base_is_no_edit(self):
-        text = SAVED.replace('backrest=yes', 'x=y').replace('Tamenity=bench x', 'Tamenity=bench,x=y x')
+        text = SAVED.replace('backrest=yes', 'x=y').replace(
+            'Tamenity=bench x', 'Tamenity=bench,x=y x'
+        )
         self.assertIsNone(saved.read(text)['n8'].edit)
 
     def test_what_is_no_saved_session(self):
@@ -170,7 +220,10 @@ class SavedSessions(unittest.TestCase):
             file.flush()
             answer = program().run(['resume ' + file.name, 'count', 'save'])
         self.assertEqual(SAVED, answer.saved())
-        self.assertEqual(answer.counts()['changed'], sum(one.edit is not None for one in saved.read(SAVED).values()))
+        self.assertEqual(
+            answer.counts()['changed'],
+            sum(one.edit is not None for one in saved.read(SAVED).values()),
+        )
 
 
 if __name__ == '__main__':

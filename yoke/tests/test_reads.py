@@ -1,4 +1,6 @@
-"""What of a large session a verb reads: no verb on the way of an edit takes the whole of one into memory."""
+"""What of a large session a verb reads: no verb on the way of an edit takes the whole of one into
+memory.
+"""
 from __future__ import annotations
 
 import unittest
@@ -7,7 +9,10 @@ from unittest import mock
 from yoke.day import State
 from yoke.tests.support import ServerTest
 
-TOWN = ''.join(f'n{number} v1 x13.{number:03} y52\n' for number in range(1, 60)) + 'w5 v3 Thighway=residential Nn1,n2\nr9 v1 T Mw5@\n'
+TOWN = (
+    ''.join(f'n{number} v1 x13.{number:03} y52\n' for number in range(1, 60))
+    + 'w5 v3 Thighway=residential Nn1,n2\nr9 v1 T Mw5@\n'
+)
 
 
 def whole(state: State) -> str:

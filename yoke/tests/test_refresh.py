@@ -13,14 +13,24 @@ class Refresh(ServerTest):
         super().setUp()
         self.asked = []
         once = api.Server._once
-        patch = mock.patch.object(api.Server, '_once', lambda server, method, path, *rest: (self.asked.append(path), once(server, method, path, *rest))[1])
+        patch = mock.patch.object(
+            api.Server,
+            '_once',
+            lambda server, method, path, *rest: (
+                self.asked.append(path),
+                once(server, method, path, *rest),
+            )[1],
+        )
         patch.start()
         self.addCleanup(patch.stop)
 
     def test_it_asks_for_what_is_edited_and_what_that_uses(self):
         self.begin('tag w5 Tsurface=asphalt', 'node x13 y52 T', 'way T Nn3,n-1', 'delete n8')
         self.assertEqual(0, self.ask('refresh'), self.err)
-        self.assertEqual(['/nodes?nodes=1,2,3,8', '/ways?ways=5', '/node/8/ways', '/node/8/relations'], self.asked)
+        self.assertEqual(
+            ['/nodes?nodes=1,2,3,8', '/ways?ways=5', '/node/8/ways', '/node/8/relations'],
+            self.asked,
+        )
         self.assertEqual('5 objects asked for, 0 newer ones merged\n', self.out)
         self.assertEqual('do', self.day.last().verb)
 
@@ -31,11 +41,19 @@ class Refresh(ServerTest):
 
     def test_other_parts_are_joined(self):
         self.begin('tag w5 Tsurface=asphalt')
-        self.server.edit('modify', 'w5', tags={'highway': 'residential', 'name': 'Main Street'}, nodes=[1, 2, 3])
+        self.server.edit(
+            'modify', 'w5', tags={'highway': 'residential', 'name': 'Main Street'}, nodes=[1, 2, 3]
+        )
         self.assertEqual(0, self.ask('refresh'), self.out + self.err)
         self.assertIn('1 newer ones merged', self.out)
         mine = self.session.known()['w5'].mine
-        self.assertEqual(({'highway': 'residential', 'name': 'Main Street', 'surface': 'asphalt'}, ('n1', 'n2', 'n3')), (mine.tags, mine.nodes))
+        self.assertEqual(
+            (
+                {'highway': 'residential', 'name': 'Main Street', 'surface': 'asphalt'},
+                ('n1', 'n2', 'n3'),
+            ),
+            (mine.tags, mine.nodes),
+        )
         self.assertEqual('refresh', self.day.last().verb)
 
     def test_no_file_of_another_name_is_touched_in_the_folder(self):
@@ -44,7 +62,18 @@ class Refresh(ServerTest):
         self.write('day/fresh.opl', 'an extract of somebody\'s own')
         self.assertEqual(0, self.ask('refresh'), self.out + self.err)
         self.assertEqual('an extract of somebody\'s own', self.day.read('fresh.opl'))
-        self.assertEqual(['000001-start.saved', '000002-do.saved', '000003-refresh.saved', 'extracts', 'fresh.opl', 'lock', 'server'], sorted(os.listdir('day')))
+        self.assertEqual(
+            [
+                '000001-start.saved',
+                '000002-do.saved',
+                '000003-refresh.saved',
+                'extracts',
+                'fresh.opl',
+                'lock',
+                'server',
+            ],
+            sorted(os.listdir('day')),
+        )
 
     def test_conflicts_are_shown_and_asked_for_again(self):
         self.begin('tag n8 Tbackrest=yes')
@@ -62,7 +91,10 @@ class Refresh(ServerTest):
         self.server.edit('delete', 'n3')
         self.assertEqual(Clash.code, self.ask('refresh'))
         self.assertIn('2 newer ones merged', self.out)
-        self.assertIn('n3 ref=7: changed here, and somebody deleted it\n    here from version 1; the server has version 2 by somebody, deleted\n    mine ref: 7\n', self.out)
+        self.assertIn(
+            'n3 ref=7: changed here, and somebody deleted it\n    here from version 1; the server has version 2 by somebody, deleted\n    mine ref: 7\n',
+            self.out,
+        )
         known = self.session.known()
         self.assertEqual((None, 3), (known['n8'].edit, known['n8'].base.version))
         self.done('resolve', 'n3', 'theirs')
@@ -86,8 +118,14 @@ class Refresh(ServerTest):
         self.server.edit('modify', 'n1', tags={'ref': '1'})
         self.assertEqual(Clash.code, self.ask('refresh'))
         self.assertIn('6 objects asked for, 2 newer ones merged', self.out)
-        self.assertEqual({'n3': 'withdrawn', 'n8': 'withdrawn', 'w5': 'withdrawn'},
-                         {key: known.conflict for key, known in self.session.known().items() if known.conflict != 'none'})
+        self.assertEqual(
+            {'n3': 'withdrawn', 'n8': 'withdrawn', 'w5': 'withdrawn'},
+            {
+                key: known.conflict
+                for key, known in self.session.known().items()
+                if known.conflict != 'none'
+            },
+        )
         self.assertEqual({'highway': 'path'}, self.session.known()['w1000'].mine.tags)
 
     def test_who_uses_what_is_deleted_here_is_asked_of_what_the_server_has_alone(self):
@@ -98,12 +136,15 @@ class Refresh(ServerTest):
 
     def test_who_uses_them_is_not_asked_of_too_many(self):
         for count, calls in ((50, 101), (51, 1)):
-            town = ''.join('n{} v1 x1 y{}\n'.format(number, number / 1000) for number in range(1, count + 1))
+            town = ''.join(f'n{number} v1 x1 y{number / 1000}\n' for number in range(1, count + 1))
             self.town, self.server = town, None
             self.server = self.serve()
             self.write('town.opl', town)
             self.done('start', 'town.opl', '--day', str(count))
-            self.write('steps.script', 'delete {}\n'.format(','.join('n{}'.format(number) for number in range(1, count + 1))))
+            self.write(
+                'steps.script',
+                'delete {}\n'.format(','.join(f'n{number}' for number in range(1, count + 1))),
+            )
             self.done('do', 'steps.script', '--day', str(count))
             del self.asked[:]
             self.assertEqual(0, self.ask('refresh', '--day', str(count)), self.err)
@@ -130,7 +171,12 @@ class Refresh(ServerTest):
         self.assertNotEqual(0, self.send())
         self.assertIn('yoke refresh w5', self.err)
         self.assertEqual(Clash.code, self.ask('refresh', 'w5'), self.out + self.err)
-        self.assertIn('w5 is deleted at {}, and r9 still refers to it: leave the reference out'.format(self.server.api), self.out)
+        self.assertIn(
+            'w5 is deleted at {}, and r9 still refers to it: leave the reference out'.format(
+                self.server.api
+            ),
+            self.out,
+        )
         self.assertEqual(0, self.ask('refresh'), self.out)
 
     def test_ids_that_never_existed_are_found_by_halves(self):
@@ -143,17 +189,17 @@ class Refresh(ServerTest):
         self.assertIn('1 newer ones merged', self.out)
 
     def test_another_server_than_that_of_the_extract(self):
-        town = ''.join('n{} v1 x1 y{}\n'.format(number, number / 100) for number in range(5000, 5100))
-        self.begin(*('tag n{} Tref=7'.format(number) for number in range(5000, 5100)), town=town)
+        town = ''.join(f'n{number} v1 x1 y{number / 100}\n' for number in range(5000, 5100))
+        self.begin(*(f'tag n{number} Tref=7' for number in range(5000, 5100)), town=town)
         self.assertEqual(Trouble.code, self.ask('refresh'))
         self.assertIn('is it the server that the extract is of?', self.err)
         self.assertLess(len(self.asked), 80)
 
     def test_many_objects_come_in_several_calls(self):
-        town = ''.join('n{} v1 x1 y{}\n'.format(number, number / 1000) for number in range(1, 1001))
+        town = ''.join(f'n{number} v1 x1 y{number / 1000}\n' for number in range(1, 1001))
         self.town, self.server = town, None
         self.server = self.serve()
-        self.begin(*('tag n{} Tref=7'.format(number) for number in range(1, 1001)), town=town)
+        self.begin(*(f'tag n{number} Tref=7' for number in range(1, 1001)), town=town)
         self.assertEqual(0, self.ask('refresh'), self.err)
         self.assertEqual(3, len(self.asked))
         self.assertLess(max(map(len, self.asked)), 6000)
@@ -171,7 +217,9 @@ class Refresh(ServerTest):
         self.assertEqual(0, self.ask('refresh'), self.err)
 
     def test_one_version_told_in_two_ways(self):
-        """A server whose version is another one than the extract has: the versions are alike, so nothing is merged."""
+        """A server whose version is another one than the extract has: the versions are alike, so
+        nothing is merged.
+        """
         self.begin('tag n8 Tbackrest=yes', town=TOWN.replace('n8 v2', 'n8 v3'))
         self.assertEqual(0, self.ask('refresh'), self.err)
         self.assertIn('0 newer ones', self.out)
@@ -187,17 +235,41 @@ class SendAndRefresh(ServerTest):
 
     def test_somebody_was_faster(self):
         self.begin('tag w5 Tsurface=asphalt', 'tag n8 Tbackrest=yes')
-        self.server.before('upload', 1, lambda: self.server.edit('modify', 'w5', tags={'highway': 'residential', 'name': 'Main Street'}))
-        self.server.before('upload', 2, lambda: self.server.edit('modify', 'n8', tags={'amenity': 'bench', 'ref': '7'}))
+        self.server.before(
+            'upload',
+            1,
+            lambda: self.server.edit(
+                'modify', 'w5', tags={'highway': 'residential', 'name': 'Main Street'}
+            ),
+        )
+        self.server.before(
+            'upload',
+            2,
+            lambda: self.server.edit('modify', 'n8', tags={'amenity': 'bench', 'ref': '7'}),
+        )
         self.assertEqual(0, self.send('--refresh'), self.err)
-        self.assertIn('joined w5 Main Street: both sides changed it, in unlike parts; version 4 by somebody\n', self.out)
-        self.assertEqual(self.theirs()['w5'].tags, {'highway': 'residential', 'name': 'Main Street', 'surface': 'asphalt'})
-        self.assertEqual(self.theirs()['n8'].tags, {'amenity': 'bench', 'ref': '7', 'backrest': 'yes'})
-        self.assertEqual((2, 1), (self.server.answers['upload 409'], self.server.answers['upload 200']))
+        self.assertIn(
+            'joined w5 Main Street: both sides changed it, in unlike parts; version 4 by somebody\n',
+            self.out,
+        )
+        self.assertEqual(
+            self.theirs()['w5'].tags,
+            {'highway': 'residential', 'name': 'Main Street', 'surface': 'asphalt'},
+        )
+        self.assertEqual(
+            self.theirs()['n8'].tags, {'amenity': 'bench', 'ref': '7', 'backrest': 'yes'}
+        )
+        self.assertEqual(
+            (2, 1), (self.server.answers['upload 409'], self.server.answers['upload 200'])
+        )
 
     def test_a_conflict_ends_it(self):
         self.begin('tag n8 Tbackrest=yes', 'tag w5 Tsurface=asphalt')
-        self.server.before('upload', 1, lambda: self.server.edit('modify', 'n8', tags={'amenity': 'bench', 'backrest': 'no'}))
+        self.server.before(
+            'upload',
+            1,
+            lambda: self.server.edit('modify', 'n8', tags={'amenity': 'bench', 'backrest': 'no'}),
+        )
         self.assertEqual(Clash.code, self.send('--refresh'))
         self.assertIn('backrest: was (none), mine yes, theirs no', self.out)
         self.assertIn('1 in conflict: yoke resolve, and send again', self.err)
@@ -244,8 +316,12 @@ class SendAndRefresh(ServerTest):
 
     def test_it_ends_where_somebody_never_stops(self):
         self.begin('tag w5 Tsurface=asphalt')
-        self.server.watch = lambda when, operation: (when, operation) == ('before', 'upload') and self.server.edit('modify', 'w5', tags={
-            'highway': 'residential', 'note': str(len(self.server.history))})
+        self.server.watch = lambda when, operation: (when, operation) == (
+            'before',
+            'upload',
+        ) and self.server.edit(
+            'modify', 'w5', tags={'highway': 'residential', 'note': str(len(self.server.history))}
+        )
         self.assertEqual(Clash.code, self.send('--refresh'))
         self.assertEqual(21, self.server.answers['upload 409'])
 

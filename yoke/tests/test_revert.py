@@ -1,4 +1,6 @@
-"""`yoke revert`: what changesets did goes back by the program's merge, and what others did since stays."""
+"""`yoke revert`: what changesets did goes back by the program's merge, and what others did since
+stays.
+"""
 from __future__ import annotations
 
 import itertools
@@ -42,7 +44,9 @@ class RevertTest(ServerTest):
         self.before = {key: element.content for key, element in self.theirs().items()}
 
     def changeset(self, *blocks: str, closed: bool = True) -> str:
-        """The number of a changeset with these parts of an osmChange document, `@` standing for its number."""
+        """The number of a changeset with these parts of an osmChange document, `@` standing for its
+        number.
+        """
         number = self.database.create_changeset(MAPPER, b'<osm><changeset/></osm>')
         for block in blocks:
             self.database.upload(number, MAPPER, document(block.replace('@', str(number))))
@@ -51,7 +55,9 @@ class RevertTest(ServerTest):
         return str(number)
 
     def revert(self, *numbers: str) -> int:
-        """The exit code; `reverted` is what it printed, and `notes` what it said on the error stream."""
+        """The exit code; `reverted` is what it printed, and `notes` what it said on the error
+        stream.
+        """
         code = self.ask('revert', *numbers)
         self.reverted, self.notes = self.out, self.err
         return code
@@ -70,7 +76,9 @@ class RevertTest(ServerTest):
 
 def node(number: int, version: int, lon: str = '13.001', **tags: str) -> str:
     inner = ''.join(f'<tag k="{key}" v="{value}"/>' for key, value in tags.items())
-    return f'<node id="{number}" version="{version}" changeset="@" lat="52" lon="{lon}">{inner}</node>'
+    return (
+        f'<node id="{number}" version="{version}" changeset="@" lat="52" lon="{lon}">{inner}</node>'
+    )
 
 
 def modify(*elements: str) -> str:
@@ -81,7 +89,10 @@ def delete(*keys: str) -> str:
     """The part that deletes elements, each as `n1v1`."""
     kinds = {'n': 'node', 'w': 'way', 'r': 'relation'}
     parts = [(kinds[key[0]], *key[1:].split('v')) for key in keys]
-    inner = ''.join(f'<{kind} id="{number}" version="{version}" changeset="@"/>' for kind, number, version in parts)
+    inner = ''.join(
+        f'<{kind} id="{number}" version="{version}" changeset="@"/>'
+        for kind, number, version in parts
+    )
     return f'<delete>{inner}</delete>'
 
 
@@ -93,7 +104,9 @@ class OneChangeset(RevertTest):
         self.assertIn(f'changeset {number}: 2 objects: 2 as before', self.reverted)
 
     def test_deleted_objects_come_back_under_their_ids(self) -> None:
-        number = self.changeset(delete('r3v1'), delete('w1v1', 'w2v1'), delete('n3v1', 'n4v1', 'n6v1'))
+        number = self.changeset(
+            delete('r3v1'), delete('w1v1', 'w2v1'), delete('n3v1', 'n4v1', 'n6v1')
+        )
         self.sent_back(number)
         self.assert_as_before(*self.before)
         there = self.theirs()
@@ -111,12 +124,17 @@ class OneChangeset(RevertTest):
         number = self.changeset(
             '<create><relation id="-1" version="0" changeset="@"><tag k="type" v="x"/></relation></create>',
             '<create><relation id="-2" version="0" changeset="@"><member type="relation" ref="1000" role=""/></relation></create>',
-            modify('<relation id="1000" version="1" changeset="@"><member type="relation" ref="1001" role=""/></relation>'))
+            modify(
+                '<relation id="1000" version="1" changeset="@"><member type="relation" ref="1001" role=""/></relation>'
+            ),
+        )
         self.sent_back(number)
         self.assertEqual([False, False], [self.theirs()[key].visible for key in ('r1000', 'r1001')])
 
     def test_deleted_relations_in_a_ring_come_back_by_two_uploads(self) -> None:
-        number = self.changeset(modify('<relation id="1" version="1" changeset="@"/>'), delete('r2v1', 'r1v2'))
+        number = self.changeset(
+            modify('<relation id="1" version="1" changeset="@"/>'), delete('r2v1', 'r1v2')
+        )
         self.assertEqual(0, self.revert(number), self.out + self.err)
         self.assertIn('after the send: yoke do day/revert-rest.script', self.out)
         self.assertEqual(0, self.send(), self.out + self.err)
@@ -156,7 +174,9 @@ class OneChangeset(RevertTest):
     def test_what_somebody_uses_by_now_isnt_deleted(self) -> None:
         number = self.changeset('<create>' + node(-1, 0, lon='13.1', shop='junk') + '</create>')
         made = self.database.history[-1].element
-        self.server.edit('create', 'r-1', tags={'type': 'site'}, members=[('node', made.number, '')])
+        self.server.edit(
+            'create', 'r-1', tags={'type': 'site'}, members=[('node', made.number, '')]
+        )
         self.assertEqual(Clash.code, self.revert(number), self.out)
         self.assertIn('the server uses it now', self.out)
 
@@ -168,7 +188,9 @@ class OneChangeset(RevertTest):
         self.assertIn('1 deleted by others since, and needed', self.reverted)
 
     def test_made_and_deleted_in_it(self) -> None:
-        number = self.changeset('<create>' + node(-1, 0, lon='13.1', x='y') + '</create>', delete('n1000v1'))
+        number = self.changeset(
+            '<create>' + node(-1, 0, lon='13.1', x='y') + '</create>', delete('n1000v1')
+        )
         self.assertEqual(0, self.revert(number), self.out)
         self.assertIn('1 made and deleted in them', self.out)
         self.assertIn('0 edited', self.out)
@@ -176,7 +198,9 @@ class OneChangeset(RevertTest):
     def test_another_mappers_version_in_between_is_kept(self) -> None:
         number = self.changeset(modify(node(1, 1, a='2')), closed=False)
         self.server.edit('modify', 'n1', tags={'a': '2', 'b': 'other'})
-        self.database.upload(int(number), MAPPER, document(modify(node(1, 3, a='3', b='other')).replace('@', number)))
+        self.database.upload(
+            int(number), MAPPER, document(modify(node(1, 3, a='3', b='other')).replace('@', number))
+        )
         self.sent_back(number)
         self.assertEqual({'a': '2', 'b': 'other'}, self.theirs()['n1'].tags)
         self.assertIn('others changed it between two changes', self.notes)
@@ -187,7 +211,9 @@ class OneChangeset(RevertTest):
         self.assertIn('is still open', self.err)
 
     def test_a_tag_with_an_empty_value_is_left_out_and_named(self) -> None:
-        number = self.changeset(modify(node(5, 1, lon='13.005', a='2', empty='x'), node(1, 1, a='2')))
+        number = self.changeset(
+            modify(node(5, 1, lon='13.005', a='2', empty='x'), node(1, 1, a='2'))
+        )
         self.assertEqual(Clash.code, self.revert(number))
         self.assertIn('left out n5: no step gives a tag that is there an empty value', self.out)
         self.assertIn('1 as before', self.out)
@@ -207,7 +233,10 @@ class Redacted(RevertTest):
         self.database.versions['n3'].pop(0)
         self.assertEqual(Clash.code, self.revert(number))
         for key, missing in (('w1', 'n3'), ('w2', 'n3'), ('r3', 'w1')):
-            self.assertIn(f'left out {key}: it would refer to {missing}, which is deleted and can\'t come back', self.out)
+            self.assertIn(
+                f'left out {key}: it would refer to {missing}, which is deleted and can\'t come back',
+                self.out,
+            )
         self.assertEqual(0, self.send(), self.err)
         self.assert_as_before('n4')
 
@@ -232,9 +261,15 @@ class SeveralChangesets(RevertTest):
         self.assertEqual('13.0044000', degrees(self.theirs()['n4'].lon))
 
     def test_what_another_changeset_uses_that_is_looked_at_stays(self) -> None:
-        first = self.changeset('<create>' + node(-1, 0, lon='13.1') + node(-2, 0, lon='13.2') + '</create>')
+        first = self.changeset(
+            '<create>' + node(-1, 0, lon='13.1') + node(-2, 0, lon='13.2') + '</create>'
+        )
         way = self.server.edit('create', 'w-1', nodes=[1000, 1])
-        second = self.changeset(modify(f'<relation id="3" version="1" changeset="@"><member type="way" ref="{way[1:]}" role=""/></relation>'))
+        second = self.changeset(
+            modify(
+                f'<relation id="3" version="1" changeset="@"><member type="way" ref="{way[1:]}" role=""/></relation>'
+            )
+        )
         self.assertEqual(4, self.revert(first, second), self.out + self.err)
         self.assertIn(f'left out n1000: it stays, because {way} uses it', self.out)
         self.assertEqual(0, self.send(), self.err)
@@ -266,11 +301,19 @@ class Refusals(RevertTest):
 
 class Stops(RevertTest):
     def left(self) -> tuple[str, ...]:
-        """The verbs of the sessions of the day, the text of the last one, and the script of the rest."""
-        return (*(state.verb for state in self.day.states()), self.day.last().text(), self.day.read('revert-rest.script') or '')
+        """The verbs of the sessions of the day, the text of the last one, and the script of the
+        rest.
+        """
+        return (
+            *(state.verb for state in self.day.states()),
+            self.day.last().text(),
+            self.day.read('revert-rest.script') or '',
+        )
 
     def test_the_same_command_goes_on_after_a_stop_at_each_step(self) -> None:
-        number = self.changeset(modify('<relation id="1" version="1" changeset="@"/>'), delete('r2v1', 'r1v2'))
+        number = self.changeset(
+            modify('<relation id="1" version="1" changeset="@"/>'), delete('r2v1', 'r1v2')
+        )
         self.assertEqual(0, self.revert(number), self.out + self.err)
         whole = self.left()
         for last in itertools.count(1):
@@ -283,17 +326,23 @@ class Stops(RevertTest):
                     pass
             with self.subTest(at=steps.names[-1]):
                 was_done = [state.verb for state in self.day.states()][1:] == ['revert']
-                self.assertEqual(Refused.code if was_done else 0, self.revert(number), self.out + self.err)
+                self.assertEqual(
+                    Refused.code if was_done else 0, self.revert(number), self.out + self.err
+                )
                 self.assertEqual(whole, self.left())
         self.assertIn('after write 000002-revert.saved.new 000002-revert.saved', steps.names)
 
     def test_a_stop_while_what_was_left_is_removed(self) -> None:
-        number = self.changeset(modify('<relation id="1" version="1" changeset="@"/>'), delete('r2v1', 'r1v2'))
+        number = self.changeset(
+            modify('<relation id="1" version="1" changeset="@"/>'), delete('r2v1', 'r1v2')
+        )
         self.assertEqual(0, self.revert(number), self.out + self.err)
         whole = self.left()
         os.remove('day/000002-revert.saved')
         shutil.copytree('day', 'begun')
-        for last in range(1, 7):        # of files that are there: three, with a step before and after each
+        for last in range(
+            1, 7
+        ):  # of files that are there: three, with a step before and after each
             shutil.rmtree('day')
             shutil.copytree('begun', 'day')
             with self.subTest(last=last):
@@ -316,11 +365,22 @@ class Stops(RevertTest):
 
 class Rings(unittest.TestCase):
     def test_keys_that_reach_each_other_have_one_number(self) -> None:
-        ring = plan._rings({'r1': ['r2'], 'r2': ['r3', 'r1'], 'r3': [], 'r4': ['r1', 'r4'], 'r5': ['r6'], 'r6': ['r5']})
+        ring = plan._rings(
+            {
+                'r1': ['r2'],
+                'r2': ['r3', 'r1'],
+                'r3': [],
+                'r4': ['r1', 'r4'],
+                'r5': ['r6'],
+                'r6': ['r5'],
+            }
+        )
         groups: dict[int, set[str]] = {}
         for key, number in ring.items():
             groups.setdefault(number, set()).add(key)
-        self.assertEqual([{'r1', 'r2'}, {'r3'}, {'r4'}, {'r5', 'r6'}], sorted(groups.values(), key=min))
+        self.assertEqual(
+            [{'r1', 'r2'}, {'r3'}, {'r4'}, {'r5', 'r6'}], sorted(groups.values(), key=min)
+        )
 
 
 if __name__ == '__main__':

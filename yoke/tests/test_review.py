@@ -54,7 +54,15 @@ class ReviewTest(FolderTest):
 
 class Items(ReviewTest):
     def test_corners_are_no_items(self) -> None:
-        one = self.review('move w6 0.001 0', 'erase w5', 'begin', 'node x13.1 y52 T', 'node x13.2 y52 T', 'way Thighway=path Nn-1,n-2,n1', 'end')
+        one = self.review(
+            'move w6 0.001 0',
+            'erase w5',
+            'begin',
+            'node x13.1 y52 T',
+            'node x13.2 y52 T',
+            'way Thighway=path Nn-1,n-2,n1',
+            'end',
+        )
         self.assertEqual(['w5', 'w6', 'w-3', 'r9'], one.found.items)
         self.assertEqual({'w6'}, one.found.moved)
         self.assertEqual(['n-1', 'n-2'], one.found.corners['w-3'])
@@ -70,9 +78,18 @@ class Items(ReviewTest):
         one = self.review('tag w5 Tsurface=asphalt,name=', 'place n8 x13.5 y52', 'erase w6')
         items = {item['key']: item for item in json.loads(json.dumps(one.ask_items(None)))['items']}
         self.assertEqual(['name', 'High Street', None, None], items['w5']['tags'][1])
-        self.assertEqual((['tags'], 'name: High Street → (none), surface: (none) → asphalt'), (items['w5']['parts'], items['w5']['kind']))
-        self.assertEqual((['place'], [13.002, 52.002], [13.5, 52.0]), (items['n8']['parts'], items['n8']['before']['points'], items['n8']['after']['points']))
-        self.assertEqual(('deleted', None, 2), (items['w6']['edit'], items['w6']['after'], items['w6']['corners']))
+        self.assertEqual(
+            (['tags'], 'name: High Street → (none), surface: (none) → asphalt'),
+            (items['w5']['parts'], items['w5']['kind']),
+        )
+        self.assertEqual(
+            (['place'], [13.002, 52.002], [13.5, 52.0]),
+            (items['n8']['parts'], items['n8']['before']['points'], items['n8']['after']['points']),
+        )
+        self.assertEqual(
+            ('deleted', None, 2),
+            (items['w6']['edit'], items['w6']['after'], items['w6']['corners']),
+        )
         self.assertEqual('deleted way: building', items['w6']['kind'])
 
     def test_a_tag_that_is_called_as_a_part_is_no_part(self) -> None:
@@ -83,8 +100,20 @@ class Items(ReviewTest):
         self.assertEqual((['place'], ''), (item['clash_tags'], item['clash_part']))
 
     def test_hostile_texts_stay_texts(self) -> None:
-        texts = ['<script>alert(1)</script>', '\u202egnp', '__proto__', '\u0000'[:0] + 'a\tb', '\U0001f6b2' * 40]
-        self.write('new.opl', ''.join(f'n-{at} T{key}={key} x13.1 y52\n' for at, key in enumerate((self.quoted(text) for text in texts), 1)))
+        texts = [
+            '<script>alert(1)</script>',
+            '\u202egnp',
+            '__proto__',
+            '\u0000'[:0] + 'a\tb',
+            '\U0001f6b2' * 40,
+        ]
+        self.write(
+            'new.opl',
+            ''.join(
+                f'n-{at} T{key}={key} x13.1 y52\n'
+                for at, key in enumerate((self.quoted(text) for text in texts), 1)
+            ),
+        )
         one = self.review('import new.opl')
         self.assertEqual(texts, [item['tags'][0][0] for item in one.ask_items(None)['items']])
         self.assertEqual(texts, [item['tags'][0][2] for item in one.ask_items(None)['items']])
@@ -93,13 +122,25 @@ class Items(ReviewTest):
 
     @staticmethod
     def quoted(text: str) -> str:
-        return ''.join(sign if sign.isalnum() and sign < '\u0600' else f'%{ord(sign):x}%' for sign in text)
+        return ''.join(
+            sign if sign.isalnum() and sign < '\u0600' else f'%{ord(sign):x}%' for sign in text
+        )
 
     def test_around(self) -> None:
         found = Around(table.read(self.day.last().text())).within((12.9, 51.9, 13.1, 52.1))
-        self.assertEqual(['building', 'highway', 'node'], sorted(shape[0] for shape in found['shapes']))
-        self.assertEqual((False, []), (found['cut'], Around(table.read(self.day.last().text())).within((20, 10, 20.1, 10.1))['shapes']))
-        self.assertTrue(Around(table.read(self.day.last().text())).within((-180, -90, 180, 90))['cut'])
+        self.assertEqual(
+            ['building', 'highway', 'node'], sorted(shape[0] for shape in found['shapes'])
+        )
+        self.assertEqual(
+            (False, []),
+            (
+                found['cut'],
+                Around(table.read(self.day.last().text())).within((20, 10, 20.1, 10.1))['shapes'],
+            ),
+        )
+        self.assertTrue(
+            Around(table.read(self.day.last().text())).within((-180, -90, 180, 90))['cut']
+        )
         with self.assertRaises(ValueError):
             Around(table.read(self.day.last().text())).within((float('nan'), 0, 1, 1))
 
@@ -134,17 +175,27 @@ class Decide(ReviewTest):
         one.decisions.close()
         whole = (self.folder / 'review.decisions').read_bytes()
         ends = [at + 1 for at, byte in enumerate(whole) if byte == 10]
-        wanted = [{}, {'n8': 'accepted'}, {'n8': 'accepted', 'w5': 'rejected'}, {'n8': 'rejected', 'w5': 'rejected'}]
+        wanted = [
+            {},
+            {'n8': 'accepted'},
+            {'n8': 'accepted', 'w5': 'rejected'},
+            {'n8': 'rejected', 'w5': 'rejected'},
+        ]
         for size in range(len(whole) + 1):
             (self.folder / 'cut').write_bytes(whole[:size])
             found = decided.Decisions('cut', digests)
             done = sum(end <= size for end in ends)
-            self.assertIn(found.how, wanted[max(0, done - 1):done + 1], size)
+            self.assertIn(found.how, wanted[max(0, done - 1) : done + 1], size)
             found.open()
             found.decide([('w5', 'accepted')])
             found.close()
-            self.assertEqual({**found.how, 'w5': 'accepted'}, decided.Decisions('cut', digests).how, size)
-            self.assertIn('"how": "accepted", "at"', (self.folder / 'cut').read_text(encoding='utf-8').splitlines()[-1])
+            self.assertEqual(
+                {**found.how, 'w5': 'accepted'}, decided.Decisions('cut', digests).how, size
+            )
+            self.assertIn(
+                '"how": "accepted", "at"',
+                (self.folder / 'cut').read_text(encoding='utf-8').splitlines()[-1],
+            )
 
     def test_nothing_counts_that_is_not_on_the_disk(self) -> None:
         one = self.review('tag n8 Ta=b')
@@ -156,7 +207,10 @@ class Decide(ReviewTest):
 
     def test_it_is_on_the_disk_before_it_counts(self) -> None:
         one, seen = self.review('tag n8 Ta=b'), []
-        with mock.patch('yoke.review.decisions.os.fsync', lambda handle: seen.append((len(self.lines()), dict(one.decisions.how)))):
+        with mock.patch(
+            'yoke.review.decisions.os.fsync',
+            lambda handle: seen.append((len(self.lines()), dict(one.decisions.how))),
+        ):
             one.decide([('n8', 'rejected')])
         self.assertEqual([(2, {})], seen)
 
@@ -168,7 +222,9 @@ class Decide(ReviewTest):
         one.decide([('n8', 'accepted')])
         one.decisions.close()
         self.done('review', '--reject', 'n8')
-        self.assertEqual('rejected', decided.Decisions('review.decisions', one.decisions.digests).how['n8'])
+        self.assertEqual(
+            'rejected', decided.Decisions('review.decisions', one.decisions.digests).how['n8']
+        )
 
     def test_another_file_is_not_written_to(self) -> None:
         self.do('tag n8 Ta=b')
@@ -179,8 +235,18 @@ class Decide(ReviewTest):
 
     def test_what_is_no_decision(self) -> None:
         one = self.review('tag n8 Ta=b', 'tag w5 Ta=b,name=', 'begin', 'node x13.1 y52 Tb=c', 'end')
-        for key, how in [('n1', 'accepted'), ('n99', 'accepted'), ('n8', 'mine'), ('n8', 'rejected\nundo 1'), ('n8', ''), ('n8', 'without K'),
-                         ('n8', 'without Kamenity'), ('n8', 'without Ka,a'), ('n8', 'without Ka%0a%undo'), ('n8', 'without Knothing')]:
+        for key, how in [
+            ('n1', 'accepted'),
+            ('n99', 'accepted'),
+            ('n8', 'mine'),
+            ('n8', 'rejected\nundo 1'),
+            ('n8', ''),
+            ('n8', 'without K'),
+            ('n8', 'without Kamenity'),
+            ('n8', 'without Ka,a'),
+            ('n8', 'without Ka%0a%undo'),
+            ('n8', 'without Knothing'),
+        ]:
             with self.assertRaises(ValueError, msg=(key, how)):
                 one.decide([('w5', 'accepted'), (key, how)])
         self.assertEqual({}, one.decisions.how)
@@ -200,13 +266,38 @@ class Scripts(ReviewTest):
         return dict(self.session.known())
 
     def test_each_kind_of_edit(self) -> None:
-        one = self.review('tag n8 Ta=b', 'tag w5 Tsurface=asphalt', 'erase w6', 'node x13.1 y52 Tshop=x', 'node x13.2 y52 Tshop=y')
-        one.decide([('w5', 'rejected'), ('w6', 'rejected'), ('n-1', 'rejected'), ('n8', 'accepted'), ('n-2', 'accepted')])
+        one = self.review(
+            'tag n8 Ta=b',
+            'tag w5 Tsurface=asphalt',
+            'erase w6',
+            'node x13.1 y52 Tshop=x',
+            'node x13.2 y52 Tshop=y',
+        )
+        one.decide(
+            [
+                ('w5', 'rejected'),
+                ('w6', 'rejected'),
+                ('n-1', 'rejected'),
+                ('n8', 'accepted'),
+                ('n-2', 'accepted'),
+            ]
+        )
         known = self.after(one)
-        self.assertEqual({'n8': 'changed', 'n-2': 'new'}, {key: thing.edit for key, thing in known.items() if thing.edit})
+        self.assertEqual(
+            {'n8': 'changed', 'n-2': 'new'},
+            {key: thing.edit for key, thing in known.items() if thing.edit},
+        )
 
     def test_what_hangs_together_goes_together(self) -> None:
-        one = self.review('split w5 n2', 'begin', 'node x13.1 y52 Tshop=x', 'node x13.2 y52 T', 'way Thighway=path Nn-2,n-3,n1', 'relation Ttype=site Mw-4@', 'end')
+        one = self.review(
+            'split w5 n2',
+            'begin',
+            'node x13.1 y52 Tshop=x',
+            'node x13.2 y52 T',
+            'way Thighway=path Nn-2,n-3,n1',
+            'relation Ttype=site Mw-4@',
+            'end',
+        )
         one.decide([('w-1', 'rejected')])
         self.assertEqual({'w5': 'w-1', 'r9': 'w-1'}, one.with_others())
         one.decide([('w-1', 'undecided'), ('w-4', 'rejected')])
@@ -225,7 +316,10 @@ class Scripts(ReviewTest):
         one.decide([('w5', 'without Kname,lit'), ('n-1', 'without Kname')])
         self.assertEqual(('accepted', 'accepted'), (one.state_of('w5'), one.state_of('n-1')))
         known = self.after(one)
-        self.assertEqual({'highway': 'residential', 'name': 'High Street', 'surface': 'asphalt'}, known['w5'].mine.tags)
+        self.assertEqual(
+            {'highway': 'residential', 'name': 'High Street', 'surface': 'asphalt'},
+            known['w5'].mine.tags,
+        )
         self.assertEqual({'shop': 'x'}, known['n-1'].mine.tags)
 
     def test_all_tags_of_an_object(self) -> None:
@@ -235,7 +329,9 @@ class Scripts(ReviewTest):
 
     def test_conflicts(self) -> None:
         self.do('tag w5 Tname=Mine,lit=yes', 'tag n8 Ta=b')
-        self.write('newer.opl', 'w5 v4 Thighway=residential,name=Theirs,lit=no Nn1,n2,n3,n4\nn8 v3 dD\n')
+        self.write(
+            'newer.opl', 'w5 v4 Thighway=residential,name=Theirs,lit=no Nn1,n2,n3,n4\nn8 v3 dD\n'
+        )
         one = self.review('download newer.opl')
         self.assertEqual('both sides changed it', shown.item_of(one.found, 'w5')['why'])
         for how in ('accepted', 'parts', 'mix mine', 'parts mine K\nundo 1', 'theirs now'):
@@ -243,7 +339,9 @@ class Scripts(ReviewTest):
                 one.decide([('w5', how)])
         one.decide([('w5', 'parts mine Kname'), ('n8', 'theirs')])
         known = self.after(one)
-        self.assertEqual(('Theirs', 'yes'), (known['w5'].mine.tags['name'], known['w5'].mine.tags['lit']))
+        self.assertEqual(
+            ('Theirs', 'yes'), (known['w5'].mine.tags['name'], known['w5'].mine.tags['lit'])
+        )
         self.assertIsNone(known['n8'].mine)
 
     def test_decisions_that_do_not_go_together(self) -> None:
@@ -286,17 +384,30 @@ class Scripts(ReviewTest):
     def test_without_a_page(self) -> None:
         self.do('tag n8 Ta=b', 'tag w5 Ta=b', 'erase w6')
         self.assertIn('n8: undecided: a: (none) → b: a=b', self.done('review', '--list'))
-        self.assertEqual('1 accepted, 2 rejected, 0 not decided\n', self.done('review', '--accept', 'n8', '--reject', 'others'))
+        self.assertEqual(
+            '1 accepted, 2 rejected, 0 not decided\n',
+            self.done('review', '--accept', 'n8', '--reject', 'others'),
+        )
         self.assertIn('w6: rejected: deleted way: building', self.done('review', '--list'))
-        self.assertIn('yoke do review.script leaves 1 edited and 0 in conflict', self.done('review', '--write'))
+        self.assertIn(
+            'yoke do review.script leaves 1 edited and 0 in conflict',
+            self.done('review', '--write'),
+        )
         self.done('do', 'review.script')
         self.assertIn('1 edited', self.done('diff'))
-        for words, code in [(('--accept', 'n1'), 1), (('--accept', 'n8', '--reject', 'n8'), 2), (('--questions', 'none', '--list'), 3), (('--json',), 2)]:
+        for words, code in [
+            (('--accept', 'n1'), 1),
+            (('--accept', 'n8', '--reject', 'n8'), 2),
+            (('--questions', 'none', '--list'), 3),
+            (('--json',), 2),
+        ]:
             self.assertEqual(code, self.yoke('review', *words), words)
 
 
 class Keys(ReviewTest):
-    """After a part was sent new objects have other keys, and what was decided on others still holds."""
+    """After a part was sent new objects have other keys, and what was decided on others still
+    holds.
+    """
 
     def test_a_decision_on_what_refers_to_a_new_object(self) -> None:
         one = self.review('begin', 'node x13.1 y52 Tshop=x', 'nodes w5 Nn1,n2,n3,n4,n-1', 'end')
@@ -304,7 +415,9 @@ class Keys(ReviewTest):
         one.decisions.close()
         self.day.write('000001.answers', 'create n-1 n1001 v1\n')
         self.write('answers', 'create n-1 n1001 v1\n')
-        answer = self.session.program.run([f'resume {self.day.last().path}', 'upload 1', 'confirm answers', 'save'])
+        answer = self.session.program.run(
+            [f'resume {self.day.last().path}', 'upload 1', 'confirm answers', 'save']
+        )
         self.assertEqual([], answer.refused())
         self.day.keep('send', answer.saved())
         self.assertEqual(('n1', 'n2', 'n3', 'n4', 'n1001'), self.session.known()['w5'].mine.nodes)
@@ -316,23 +429,45 @@ class Question(ReviewTest):
 
     def setUp(self) -> None:
         super().setUp()
-        asked = [{'feature': 'feature 1', 'why': 'two objects are as like', 'tags': [['name', 'A']], 'place': [13.0, 52.0], 'candidates': [['n8', 0.9, 4], ['w6', 0.8, 9]]},
-                 {'feature': 'feature 2', 'why': 'not alike enough', 'tags': [['name', 'B']], 'place': [13.0, 52.0], 'candidates': [['n8', 0.5, 4]]}]
+        asked = [
+            {
+                'feature': 'feature 1',
+                'why': 'two objects are as like',
+                'tags': [['name', 'A']],
+                'place': [13.0, 52.0],
+                'candidates': [['n8', 0.9, 4], ['w6', 0.8, 9]],
+            },
+            {
+                'feature': 'feature 2',
+                'why': 'not alike enough',
+                'tags': [['name', 'B']],
+                'place': [13.0, 52.0],
+                'candidates': [['n8', 0.5, 4]],
+            },
+        ]
         self.write('c.questions', json.dumps(asked))
-        self.write('c.csv', 'feature,what,decision,candidate\nfeature 1,ambiguous,,n8\nfeature 1,ambiguous,,w6\nfeature 2,ambiguous,,n8\nfeature 3,differs,,n8\n')
+        self.write(
+            'c.csv',
+            'feature,what,decision,candidate\nfeature 1,ambiguous,,n8\nfeature 1,ambiguous,,w6\nfeature 2,ambiguous,,n8\nfeature 3,differs,,n8\n',
+        )
 
     def test_answers(self) -> None:
         one = self.review(questions=Questions('c'))
         self.assertEqual(['feature 1', 'feature 2'], one.keys())
         item = one.ask_items(None)['items'][0]
-        self.assertEqual((['n8', '0.90, 4 m'], ['name', 'A', None, None]), (item['candidates'][0][:2], item['tags'][0]))
+        self.assertEqual(
+            (['n8', '0.90, 4 m'], ['name', 'A', None, None]),
+            (item['candidates'][0][:2], item['tags'][0]),
+        )
         for how in ('accepted', 'w5', 'rejected'):
             with self.assertRaises(ValueError):
                 one.decide([('feature 1', how)])
         one.decide([('feature 1', 'w6'), ('feature 2', 'skip')])
         self.assertIn('2 of 2 questions answered', one.finish())
-        self.assertEqual('feature,what,decision,candidate\nfeature 1,ambiguous,w6,n8\nfeature 1,ambiguous,,w6\nfeature 2,ambiguous,skip,n8\nfeature 3,differs,,n8\n',
-                         (self.folder / 'c-decided.csv').read_text(encoding='utf-8'))
+        self.assertEqual(
+            'feature,what,decision,candidate\nfeature 1,ambiguous,w6,n8\nfeature 1,ambiguous,,w6\nfeature 2,ambiguous,skip,n8\nfeature 3,differs,,n8\n',
+            (self.folder / 'c-decided.csv').read_text(encoding='utf-8'),
+        )
 
     def test_no_questions(self) -> None:
         self.write('d.questions', '{"a": 1}')
@@ -350,13 +485,24 @@ class Served(ReviewTest):
         self.served = Server(self.one.calls())
         self.addCleanup(self.served.server_close)
         self.one.stop = self.served.stop
-        threading.Thread(target=self.served.serve_forever, kwargs={'poll_interval': 0.01}, daemon=True).start()
+        threading.Thread(
+            target=self.served.serve_forever, kwargs={'poll_interval': 0.01}, daemon=True
+        ).start()
         self.addCleanup(self.served.shutdown)
-        self.good = {'Host': self.served.host, 'X-Yoke-Token': self.served.token, 'Content-Type': 'application/json'}
+        self.good = {
+            'Host': self.served.host,
+            'X-Yoke-Token': self.served.token,
+            'Content-Type': 'application/json',
+        }
 
-    def ask(self, method: str, path: str, body: bytes | None = None, **changed: str | None) -> tuple[int, bytes, http.client.HTTPMessage]:
+    def ask(
+        self, method: str, path: str, body: bytes | None = None, **changed: str | None
+    ) -> tuple[int, bytes, http.client.HTTPMessage]:
         """The answer to a call with good headers, of which some are changed, or left out."""
-        headers = {**self.good, **{name.replace('_', '-'): value for name, value in changed.items()}}
+        headers = {
+            **self.good,
+            **{name.replace('_', '-'): value for name, value in changed.items()},
+        }
         link = http.client.HTTPConnection('127.0.0.1', self.served.server_address[1], timeout=10)
         link.putrequest(method, path, skip_host=True, skip_accept_encoding=True)
         for name, value in headers.items():
@@ -378,14 +524,18 @@ class Served(ReviewTest):
         for name in self.served.files:
             self.assertEqual(200, self.status('GET', name, X_Yoke_Token=None), name)
         self.assertEqual(2, len(json.loads(self.ask('GET', '/items')[1])['items']))
-        told = json.loads(self.ask('POST', '/decide', b'{"decisions": [["n8", "rejected"]], "heard": 0}')[1])
+        told = json.loads(
+            self.ask('POST', '/decide', b'{"decisions": [["n8", "rejected"]], "heard": 0}')[1]
+        )
         self.assertEqual(([['n8', 'rejected']], 1), (told['decisions'], told['heard']))
         self.assertEqual(['w5'], json.loads(self.ask('POST', '/find', b'{"query": "way"}')[1]))
         self.assertEqual(200, self.status('POST', '/around', b'{"box": [12, 51, 14, 53]}'))
 
     def test_a_second_page_hears_what_the_first_decided(self) -> None:
         self.ask('POST', '/decide', b'{"decisions": [["n8", "rejected"]], "heard": 0}')
-        told = json.loads(self.ask('POST', '/decide', b'{"decisions": [["w5", "accepted"]], "heard": 0}')[1])
+        told = json.loads(
+            self.ask('POST', '/decide', b'{"decisions": [["w5", "accepted"]], "heard": 0}')[1]
+        )
         self.assertEqual([['n8', 'rejected'], ['w5', 'accepted']], told['decisions'])
 
     def test_each_guard(self) -> None:
@@ -393,43 +543,95 @@ class Served(ReviewTest):
         body = b'{"decisions": [["n8", "rejected"]], "heard": 0}'
         port = self.served.server_address[1]
         for status, changed in [
-                (403, {'X_Yoke_Token': None}), (403, {'X_Yoke_Token': ''}), (403, {'X_Yoke_Token': wrong}), (403, {'X_Yoke_Token': 'é'}),
-                (421, {'Host': None}), (421, {'Host': f'evil.example:{port}'}), (421, {'Host': f'localhost:{port}'}), (421, {'Host': '127.0.0.1'}),
-                (403, {'Origin': 'http://evil.example'}), (403, {'Origin': 'null'}), (403, {'Origin': f'http://localhost:{port}'}),
-                (403, {'Sec_Fetch_Site': 'cross-site'}), (403, {'Sec_Fetch_Site': 'same-site'}), (403, {'Sec_Fetch_Site': 'none'}),
-                (415, {'Content_Type': 'text/plain'}), (415, {'Content_Type': None}), (415, {'Content_Type': 'application/x-www-form-urlencoded'}),
-                (413, {'Transfer_Encoding': 'chunked'})]:
+            (403, {'X_Yoke_Token': None}),
+            (403, {'X_Yoke_Token': ''}),
+            (403, {'X_Yoke_Token': wrong}),
+            (403, {'X_Yoke_Token': 'é'}),
+            (421, {'Host': None}),
+            (421, {'Host': f'evil.example:{port}'}),
+            (421, {'Host': f'localhost:{port}'}),
+            (421, {'Host': '127.0.0.1'}),
+            (403, {'Origin': 'http://evil.example'}),
+            (403, {'Origin': 'null'}),
+            (403, {'Origin': f'http://localhost:{port}'}),
+            (403, {'Sec_Fetch_Site': 'cross-site'}),
+            (403, {'Sec_Fetch_Site': 'same-site'}),
+            (403, {'Sec_Fetch_Site': 'none'}),
+            (415, {'Content_Type': 'text/plain'}),
+            (415, {'Content_Type': None}),
+            (415, {'Content_Type': 'application/x-www-form-urlencoded'}),
+            (413, {'Transfer_Encoding': 'chunked'}),
+        ]:
             with self.subTest(changed=changed):
                 self.assertEqual(status, self.status('POST', '/decide', body, **changed))
                 self.assertEqual({}, self.one.decisions.how)
-        self.assertEqual(200, self.status('POST', '/decide', body, Origin=self.served.origin, Sec_Fetch_Site='same-origin'))
+        self.assertEqual(
+            200,
+            self.status(
+                'POST', '/decide', body, Origin=self.served.origin, Sec_Fetch_Site='same-origin'
+            ),
+        )
         self.assertEqual({'n8': 'rejected'}, self.one.decisions.how)
 
     def test_calls_that_are_none(self) -> None:
         for status, method, path, body in [
-                (404, 'POST', '/', b'{}'), (404, 'GET', '/../server.py', None), (404, 'GET', '/%2e%2e/server.py', None), (404, 'GET', '/items?x', None), (404, 'GET', '/decide', None),
-                (404, 'POST', '/items', b'{}'), (400, 'POST', '/decide', b'{'), (400, 'POST', '/decide', b'[]'), (400, 'POST', '/decide', b'{"decisions": [["n8", "rejected\\nundo 1"]], "heard": 0}'),
-                (400, 'POST', '/decide', b'{"decisions": [["n8", 5]], "heard": 0}'), (400, 'POST', '/decide', b'[' * 100000), (400, 'POST', '/find', b'{"query": "way\\nundo 1"}'),
-                (400, 'POST', '/around', b'{"box": [1, 2]}'), (501, 'PUT', '/items', b''), (501, 'OPTIONS', '/decide', None), (501, 'HEAD', '/items', None)]:
+            (404, 'POST', '/', b'{}'),
+            (404, 'GET', '/../server.py', None),
+            (404, 'GET', '/%2e%2e/server.py', None),
+            (404, 'GET', '/items?x', None),
+            (404, 'GET', '/decide', None),
+            (404, 'POST', '/items', b'{}'),
+            (400, 'POST', '/decide', b'{'),
+            (400, 'POST', '/decide', b'[]'),
+            (400, 'POST', '/decide', b'{"decisions": [["n8", "rejected\\nundo 1"]], "heard": 0}'),
+            (400, 'POST', '/decide', b'{"decisions": [["n8", 5]], "heard": 0}'),
+            (400, 'POST', '/decide', b'[' * 100000),
+            (400, 'POST', '/find', b'{"query": "way\\nundo 1"}'),
+            (400, 'POST', '/around', b'{"box": [1, 2]}'),
+            (501, 'PUT', '/items', b''),
+            (501, 'OPTIONS', '/decide', None),
+            (501, 'HEAD', '/items', None),
+        ]:
             with self.subTest(path=path, body=body and body[:40]):
                 self.assertEqual(status, self.status(method, path, body))
         self.assertEqual({}, self.one.decisions.how)
-        self.assertEqual(413, self.status('POST', '/decide', None, Content_Length=str(5 * 1024 * 1024)))
+        self.assertEqual(
+            413, self.status('POST', '/decide', None, Content_Length=str(5 * 1024 * 1024))
+        )
         self.assertEqual(413, self.status('POST', '/decide', None, Content_Length='-1'))
         self.assertEqual(400, self.status('GET', '/items', None, Content_Length='4'))
         self.assertEqual(200, self.status('GET', '/items'))
 
     def test_every_answer_has_the_headers_that_keep_others_out(self) -> None:
-        answers = [self.ask('GET', '/'), self.ask('GET', '/items'), self.ask('GET', '/items', X_Yoke_Token=None), self.ask('GET', '/', Host='evil.example'),
-                   self.ask('PUT', '/'), self.ask('POST', '/decide', b'[')]
+        answers = [
+            self.ask('GET', '/'),
+            self.ask('GET', '/items'),
+            self.ask('GET', '/items', X_Yoke_Token=None),
+            self.ask('GET', '/', Host='evil.example'),
+            self.ask('PUT', '/'),
+            self.ask('POST', '/decide', b'['),
+        ]
         for status, _, headers in answers:
             with self.subTest(status=status):
                 self.assertEqual('same-origin', headers['Cross-Origin-Resource-Policy'])
                 self.assertEqual('same-origin', headers['Cross-Origin-Opener-Policy'])
-                self.assertEqual(('no-store', 'no-referrer', 'nosniff', 'DENY'), tuple(headers[name] for name in (
-                    'Cache-Control', 'Referrer-Policy', 'X-Content-Type-Options', 'X-Frame-Options')))
-                self.assertEqual("default-src 'none'; script-src 'self'; style-src 'self'; connect-src 'self'; img-src 'self'; base-uri 'none'; form-action 'none'; "
-                                 "frame-ancestors 'none'; require-trusted-types-for 'script'; trusted-types 'none'", headers['Content-Security-Policy'])
+                self.assertEqual(
+                    ('no-store', 'no-referrer', 'nosniff', 'DENY'),
+                    tuple(
+                        headers[name]
+                        for name in (
+                            'Cache-Control',
+                            'Referrer-Policy',
+                            'X-Content-Type-Options',
+                            'X-Frame-Options',
+                        )
+                    ),
+                )
+                self.assertEqual(
+                    "default-src 'none'; script-src 'self'; style-src 'self'; connect-src 'self'; img-src 'self'; base-uri 'none'; form-action 'none'; "
+                    "frame-ancestors 'none'; require-trusted-types-for 'script'; trusted-types 'none'",
+                    headers['Content-Security-Policy'],
+                )
                 self.assertIsNone(headers['Access-Control-Allow-Origin'])
 
     def test_the_token_is_of_this_review_alone(self) -> None:
@@ -440,8 +642,14 @@ class Served(ReviewTest):
         self.assertEqual('127.0.0.1', self.served.server_address[0])
 
     def test_the_script_by_a_call(self) -> None:
-        self.ask('POST', '/decide', b'{"decisions": [["n8", "rejected"], ["w5", "accepted"]], "heard": 0}')
-        self.assertIn('1 accepted, 1 rejected', json.loads(self.ask('POST', '/finish', b'{}')[1])['said'])
+        self.ask(
+            'POST',
+            '/decide',
+            b'{"decisions": [["n8", "rejected"], ["w5", "accepted"]], "heard": 0}',
+        )
+        self.assertIn(
+            '1 accepted, 1 rejected', json.loads(self.ask('POST', '/finish', b'{}')[1])['said']
+        )
         self.assertIn('purge n8', (self.folder / 'review.script').read_text(encoding='utf-8'))
 
     def test_a_refusal_names_the_item(self) -> None:
@@ -453,10 +661,21 @@ class Served(ReviewTest):
 
 class Tiles(unittest.TestCase):
     def test_where_tiles_come_from(self) -> None:
-        self.assertEqual('https://*.tile.example:80', tile_source('https://{s}.tile.example:80/{z}/{x}/{y}.png'))
+        self.assertEqual(
+            'https://*.tile.example:80', tile_source('https://{s}.tile.example:80/{z}/{x}/{y}.png')
+        )
         self.assertEqual('', tile_source(''))
-        for address in ('tile.example/{z}/{x}/{y}', 'ftp://tile.example/{z}/{x}/{y}', 'https://tile.example/{z}/{x}', "https://a;script-src 'unsafe-inline'/{z}/{x}/{y}",
-                        'https://a b/{z}/{x}/{y}', 'https:///{z}/{x}/{y}', 'https://user@host/{z}/{x}/{y}', 'https://a\n/{z}/{x}/{y}', 'https://*, x/{z}/{x}/{y}'):
+        for address in (
+            'tile.example/{z}/{x}/{y}',
+            'ftp://tile.example/{z}/{x}/{y}',
+            'https://tile.example/{z}/{x}',
+            "https://a;script-src 'unsafe-inline'/{z}/{x}/{y}",
+            'https://a b/{z}/{x}/{y}',
+            'https:///{z}/{x}/{y}',
+            'https://user@host/{z}/{x}/{y}',
+            'https://a\n/{z}/{x}/{y}',
+            'https://*, x/{z}/{x}/{y}',
+        ):
             with self.assertRaises(Usage, msg=address):
                 tile_source(address)
 
@@ -471,13 +690,18 @@ class Opened(ReviewTest):
 
     def test_by_a_file(self) -> None:
         from yoke.verbs import review
+
         seen: list[str] = []
-        with mock.patch('webbrowser.open', lambda address: bool(seen.append(address)) or True), mock.patch.dict(os.environ, {'XDG_RUNTIME_DIR': str(self.folder)}):
+        with mock.patch(
+            'webbrowser.open', lambda address: bool(seen.append(address)) or True
+        ), mock.patch.dict(os.environ, {'XDG_RUNTIME_DIR': str(self.folder)}):
             path = review.open_browser('http://127.0.0.1:1/#the-secret')
         self.assertEqual([path.as_uri()], seen)
         self.assertNotIn('the-secret', seen[0])
         self.assertEqual(0o600, path.stat().st_mode & 0o777)
-        self.assertIn('location.replace("http://127.0.0.1:1/#the-secret")', path.read_text(encoding='utf-8'))
+        self.assertIn(
+            'location.replace("http://127.0.0.1:1/#the-secret")', path.read_text(encoding='utf-8')
+        )
         self.assertEqual(self.folder, path.parent)
 
 
@@ -485,12 +709,39 @@ class Contrast(unittest.TestCase):
     """Texts of the page have a contrast of 4.5 to what is behind them, and lines of the map 3."""
 
     def test_colors(self) -> None:
-        style = pathlib.Path(decided.__file__).with_name('page').joinpath('review.css').read_text(encoding='utf-8')
-        colors = dict(part.split(':') for part in style[style.index('{') + 1:style.index('}')].replace(' ', '').replace('\n', '').split('/*')[0].split(';') if part)
-        rest = style[style.index('*/'):style.index('}')].replace('*/', '').replace(' ', '').replace('\n', '')
+        style = (
+            pathlib.Path(decided.__file__)
+            .with_name('page')
+            .joinpath('review.css')
+            .read_text(encoding='utf-8')
+        )
+        colors = dict(
+            part.split(':')
+            for part in style[style.index('{') + 1 : style.index('}')]
+            .replace(' ', '')
+            .replace('\n', '')
+            .split('/*')[0]
+            .split(';')
+            if part
+        )
+        rest = (
+            style[style.index('*/') : style.index('}')]
+            .replace('*/', '')
+            .replace(' ', '')
+            .replace('\n', '')
+        )
         colors.update(part.split(':') for part in rest.split(';') if part)
         papers = ['#ffffff', colors['--paper'], colors['--now'], '#fbf6ea']
-        for name in ('--ink', '--soft', '--before-text', '--after-text', '--theirs-text', '--new-text', '--no-text', '--question-text'):
+        for name in (
+            '--ink',
+            '--soft',
+            '--before-text',
+            '--after-text',
+            '--theirs-text',
+            '--new-text',
+            '--no-text',
+            '--question-text',
+        ):
             for paper in papers:
                 self.assertGreaterEqual(contrast(colors[name], paper), 4.5, (name, paper))
         for name in ('--before', '--after', '--theirs', '--new', '--edge'):
@@ -499,10 +750,14 @@ class Contrast(unittest.TestCase):
 
 def contrast(one: str, other: str) -> float:
     """The contrast of two colors, by the rules for accessible pages."""
+
     def light(color: str) -> float:
-        parts = [int(color[at:at + 2], 16) / 255 for at in (1, 3, 5)]
-        linear = [part / 12.92 if part <= 0.03928 else ((part + 0.055) / 1.055) ** 2.4 for part in parts]
+        parts = [int(color[at : at + 2], 16) / 255 for at in (1, 3, 5)]
+        linear = [
+            part / 12.92 if part <= 0.03928 else ((part + 0.055) / 1.055) ** 2.4 for part in parts
+        ]
         return 0.2126 * linear[0] + 0.7152 * linear[1] + 0.0722 * linear[2]
+
     more, less = sorted((light(one), light(other)), reverse=True)
     return (more + 0.05) / (less + 0.05)
 
@@ -532,7 +787,10 @@ class Sent(ServerTest):
         self.done('review', '--accept', 'n8')
         before = self.versions()
         self.assertEqual(Refused.code, self.send('--reviewed'))
-        self.assertIn('nothing is sent: 4 edits are not reviewed, the first is n1: yoke review goes on', self.err)
+        self.assertIn(
+            'nothing is sent: 4 edits are not reviewed, the first is n1: yoke review goes on',
+            self.err,
+        )
         self.assertEqual(Refused.code, self.send('--reviewed', '--decisions', 'none'))
         self.assertIn('5 edits are not reviewed', self.err)
         self.assertEqual(before, self.versions())
@@ -544,7 +802,10 @@ class Sent(ServerTest):
         self.assertIn('2 changes sent', self.out)
         self.assertIn('edits are left, not accepted as they are', self.out)
         self.assertEqual((3, 3, 1), tuple(self.theirs()[key].version for key in ('n8', 'w5', 'w6')))
-        self.assertEqual({'w5': 'changed', 'w6': 'deleted', 'n5': 'deleted', 'n6': 'deleted'}, {key: known.edit for key, known in self.session.known().items() if known.edit})
+        self.assertEqual(
+            {'w5': 'changed', 'w6': 'deleted', 'n5': 'deleted', 'n6': 'deleted'},
+            {key: known.edit for key, known in self.session.known().items() if known.edit},
+        )
 
     def test_with_the_script_first(self) -> None:
         self.do('tag n8 Ta=b', 'tag w5 Ta=b,lit=yes', 'erase w6')
@@ -564,7 +825,10 @@ class Sent(ServerTest):
         self.assertEqual(0, self.send('--reviewed'), self.err)
         self.assertIn('2 changes sent in changeset 2\n', self.out)
         self.assertIn('nothing is left to send\n', self.out)
-        self.assertEqual(({'amenity': 'bench', 'a': 'b'}, 4), (self.theirs()['n8'].tags, self.theirs()['n8'].version))
+        self.assertEqual(
+            ({'amenity': 'bench', 'a': 'b'}, 4),
+            (self.theirs()['n8'].tags, self.theirs()['n8'].version),
+        )
         self.assertNotIn('lit', self.theirs()['w5'].tags)
 
     def test_another_mind_after_the_script_was_written(self) -> None:
@@ -590,9 +854,14 @@ class Sent(ServerTest):
         self.assertEqual(3, self.theirs()['n8'].version)
         self.done('review', '--accept', 'n8')
         self.assertEqual(0, self.send('--reviewed'), self.err)
-        self.assertEqual({'amenity': 'bench', 'material': 'wood', 'a': 'b'}, self.theirs()['n8'].tags)
+        self.assertEqual(
+            {'amenity': 'bench', 'material': 'wood', 'a': 'b'}, self.theirs()['n8'].tags
+        )
 
     def test_dry(self) -> None:
         self.do('tag n8 Ta=b', 'tag w5 Ta=b')
         self.done('review', '--accept', 'n8', '--reject', 'w5')
-        self.assertIn('1 changes would be sent: 0 new, 1 changed, 0 deleted', self.done('send', '--reviewed', '--dry'))
+        self.assertIn(
+            '1 changes would be sent: 0 new, 1 changed, 0 deleted',
+            self.done('send', '--reviewed', '--dry'),
+        )

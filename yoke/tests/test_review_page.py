@@ -1,4 +1,6 @@
-"""The page of `yoke review` in a real browser, which has to be there: Debian's chromium, chromium-driver and python3-selenium."""
+"""The page of `yoke review` in a real browser, which has to be there: Debian's chromium,
+chromium-driver and python3-selenium.
+"""
 
 from __future__ import annotations
 
@@ -20,8 +22,17 @@ from yoke.tests.browser import Browser, Keys
 from yoke.tests.support import FolderTest
 from yoke.tests.test_review import TOWN
 
-HOSTILE = ['<script>document.title="owned"</script>', '"><img src=x onerror=document.title="owned">', '\u202egnp.exe evil', 'a\u200bb\u00a0c', '  blanks  ',
-           '</textarea></style></title><svg onload=document.title="owned">', '{{constructor.constructor("alert(1)")()}}', '\n\tline', 'x' * 255]
+HOSTILE = [
+    '<script>document.title="owned"</script>',
+    '"><img src=x onerror=document.title="owned">',
+    '\u202egnp.exe evil',
+    'a\u200bb\u00a0c',
+    '  blanks  ',
+    '</textarea></style></title><svg onload=document.title="owned">',
+    '{{constructor.constructor("alert(1)")()}}',
+    '\n\tline',
+    'x' * 255,
+]
 AT = 'return document.activeElement'
 
 
@@ -51,7 +62,9 @@ class PageTest(FolderTest):
         self.served = Server(self.one.calls(), tiles=self.one.tiles)
         self.one.stop = self.served.stop
         self.addCleanup(self.served.server_close)
-        threading.Thread(target=self.served.serve_forever, kwargs={'poll_interval': 0.01}, daemon=True).start()
+        threading.Thread(
+            target=self.served.serve_forever, kwargs={'poll_interval': 0.01}, daemon=True
+        ).start()
         self.addCleanup(self.served.shutdown)
         self.page.driver.get('about:blank')
         self.page.messages()
@@ -77,7 +90,9 @@ class PageTest(FolderTest):
 
     def chosen(self) -> str:
         """The key of the edit that is shown."""
-        return str(self.page.js('return document.querySelector("#detail h2").textContent')).split(' ')[0]
+        return str(self.page.js('return document.querySelector("#detail h2").textContent')).split(
+            ' '
+        )[0]
 
 
 class Keyboard(PageTest):
@@ -92,7 +107,13 @@ class Keyboard(PageTest):
         raise AssertionError(f'Tab never comes to {code}')
 
     def test_from_the_first_edit_to_the_script(self) -> None:
-        self.open('tag n8 Ta=b', 'tag w5 Tsurface=asphalt,lit=yes', 'erase w6', 'node x13.1 y52 Tshop=x', 'node x13.2 y52 Tshop=y')
+        self.open(
+            'tag n8 Ta=b',
+            'tag w5 Tsurface=asphalt,lit=yes',
+            'erase w6',
+            'node x13.1 y52 Tshop=x',
+            'node x13.2 y52 Tshop=y',
+        )
         self.assertEqual('list', self.page.js(AT + '.id'))
         self.assertEqual('n8', self.chosen())
         self.page.press('a')
@@ -112,7 +133,10 @@ class Keyboard(PageTest):
         self.heard('w6 rejected; 2 left')
 
         self.page.press('/', *'surface', Keys.ESCAPE)
-        self.assertEqual(('w5', '1 of 5 shown'), (self.chosen(), self.page.js('return document.getElementById("shown").textContent')))
+        self.assertEqual(
+            ('w5', '1 of 5 shown'),
+            (self.chosen(), self.page.js('return document.getElementById("shown").textContent')),
+        )
         self.page.press(Keys.ENTER)
         self.assertEqual('accept (a)', self.page.js(AT + '.textContent'))
         self.tab_to('at.getAttribute("aria-label") === "reject the tag surface"')
@@ -120,7 +144,15 @@ class Keyboard(PageTest):
         self.heard('w5 without Ksurface; 1 left')
         self.assertEqual('reject the tag surface', self.page.js(AT + '.getAttribute("aria-label")'))
         self.assertEqual('true', self.page.js(AT + '.getAttribute("aria-pressed")'))
-        self.page.press(Keys.ESCAPE, '/', *[Keys.BACKSPACE] * 7, Keys.ESCAPE, 'q', *'node and Tshop=y', Keys.ENTER)
+        self.page.press(
+            Keys.ESCAPE,
+            '/',
+            *[Keys.BACKSPACE] * 7,
+            Keys.ESCAPE,
+            'q',
+            *'node and Tshop=y',
+            Keys.ENTER,
+        )
         self.heard('1 found')
         self.assertEqual('n-2', self.chosen())
         self.page.press(Keys.ESCAPE, 'a')
@@ -129,13 +161,19 @@ class Keyboard(PageTest):
         self.tab_to('at.id === "finish"')
         self.page.press(Keys.ENTER)
         self.page.wait('document.getElementById("box").open')
-        self.assertIn('3 accepted, 2 rejected and 2 objects with them, 1 without some tags', self.page.js('return document.getElementById("boxtext").textContent'))
+        self.assertIn(
+            '3 accepted, 2 rejected and 2 objects with them, 1 without some tags',
+            self.page.js('return document.getElementById("boxtext").textContent'),
+        )
         self.page.press(Keys.ESCAPE)
         self.page.wait('!document.getElementById("box").open')
         self.assertEqual('finish', self.page.js(AT + '.id'))
         self.one.decisions.close()
         self.done('do', 'review.script')
-        self.assertEqual({'n8': 'changed', 'n-2': 'new', 'w5': 'changed'}, {key: known.edit for key, known in self.session.known().items() if known.edit})
+        self.assertEqual(
+            {'n8': 'changed', 'n-2': 'new', 'w5': 'changed'},
+            {key: known.edit for key, known in self.session.known().items() if known.edit},
+        )
         self.assertNotIn('surface', self.session.known()['w5'].mine.tags)
         self.assertEqual([], self.page.messages())
 
@@ -143,7 +181,10 @@ class Keyboard(PageTest):
         self.open(*(f'node x13.{at} y52 Tshop=x' for at in range(10, 50)))
         self.page.press('R')
         self.page.wait('document.getElementById("box").open')
-        self.assertEqual('Reject 40 edits?', self.page.js('return document.getElementById("boxhead").textContent'))
+        self.assertEqual(
+            'Reject 40 edits?',
+            self.page.js('return document.getElementById("boxhead").textContent'),
+        )
         self.page.press(Keys.ESCAPE)
         self.assertEqual({}, self.kept())
         self.page.press('R')
@@ -168,7 +209,16 @@ class Keyboard(PageTest):
         self.assertEqual({'w5': 'theirs'}, self.kept())
 
     def test_questions(self) -> None:
-        asked = [{'feature': f'feature {at}', 'why': 'two objects are as like', 'tags': [['name', 'A']], 'place': [13.002, 52.0021], 'candidates': [['n8', 0.9, 4], ['w6', 0.8, 9]]} for at in range(3)]
+        asked = [
+            {
+                'feature': f'feature {at}',
+                'why': 'two objects are as like',
+                'tags': [['name', 'A']],
+                'place': [13.002, 52.0021],
+                'candidates': [['n8', 0.9, 4], ['w6', 0.8, 9]],
+            }
+            for at in range(3)
+        ]
         self.write('c.questions', json.dumps(asked))
         self.write('c.csv', 'feature,what,decision,candidate\n')
         self.open(questions=Questions('c'))
@@ -191,7 +241,9 @@ class Keyboard(PageTest):
         with mock.patch.object(self.one.decisions, 'decide', slow):
             self.page.press('a')
             self.assertTrue(asked.wait(5), 'the page decides nothing')
-            self.assertEqual(none, self.page.js('return document.getElementById("count").textContent'))
+            self.assertEqual(
+                none, self.page.js('return document.getElementById("count").textContent')
+            )
             self.assertEqual({}, self.kept())
             held.set()
             self.counted('1 accepted, 0 rejected, 1 left of 2')
@@ -203,8 +255,12 @@ class Keyboard(PageTest):
         before = self.page.js('return {...review.map.view}')
         self.page.press(Keys.ARROW_RIGHT, Keys.ARROW_DOWN, '+')
         after = self.page.js('return {...review.map.view}')
-        self.assertTrue(after['x'] > before['x'] and after['y'] > before['y'] and after['s'] > before['s'])
-        self.page.wait('document.getElementById("map").getAttribute("aria-label").startsWith("map: ")')
+        self.assertTrue(
+            after['x'] > before['x'] and after['y'] > before['y'] and after['s'] > before['s']
+        )
+        self.page.wait(
+            'document.getElementById("map").getAttribute("aria-label").startsWith("map: ")'
+        )
 
     def test_single_keys_can_be_turned_off(self) -> None:
         self.open('tag n8 Ta=b')
@@ -224,24 +280,49 @@ class Reader(PageTest):
     def test_the_list(self) -> None:
         self.open('tag n8 Ta=b', *(f'node x13.{at} y52 Tshop=x' for at in range(10, 99)))
         self.page.press(Keys.END)
-        row = self.page.js('return document.getElementById(document.getElementById("list").getAttribute("aria-activedescendant"))')
-        self.assertEqual(('option', 'n-89 shop=x; new node: shop; undecided'), (row.aria_role, row.accessible_name))
-        self.assertEqual(('true', '90', '90'), tuple(row.get_attribute(name) for name in ('aria-selected', 'aria-posinset', 'aria-setsize')))
-        self.assertEqual(1, self.page.js('return document.querySelectorAll("[role=option][aria-selected=true]").length'))
+        row = self.page.js(
+            'return document.getElementById(document.getElementById("list").getAttribute("aria-activedescendant"))'
+        )
+        self.assertEqual(
+            ('option', 'n-89 shop=x; new node: shop; undecided'),
+            (row.aria_role, row.accessible_name),
+        )
+        self.assertEqual(
+            ('true', '90', '90'),
+            tuple(
+                row.get_attribute(name)
+                for name in ('aria-selected', 'aria-posinset', 'aria-setsize')
+            ),
+        )
+        self.assertEqual(
+            1,
+            self.page.js(
+                'return document.querySelectorAll("[role=option][aria-selected=true]").length'
+            ),
+        )
         self.assertLess(self.page.js('return document.querySelectorAll(".item").length'), 60)
         self.page.press('r')
-        self.page.wait('document.getElementById("row89").getAttribute("aria-label").endsWith("rejected")')
+        self.page.wait(
+            'document.getElementById("row89").getAttribute("aria-label").endsWith("rejected")'
+        )
 
     def test_everything_has_a_name(self) -> None:
         self.do('tag w5 Tname=Mine,lit=yes')
         self.write('newer.opl', 'w5 v4 Thighway=residential,name=Theirs,lit=no Nn1,n2,n3,n4\n')
         self.open('download newer.opl', 'tag n8 Ta=b')
         self.page.press(Keys.END)
-        found = self.page.js('return [...document.querySelectorAll("button, input, select, canvas, section, nav, [role]")].filter(one => one.offsetParent || one === document.body)')
+        found = self.page.js(
+            'return [...document.querySelectorAll("button, input, select, canvas, section, nav, [role]")].filter(one => one.offsetParent || one === document.body)'
+        )
         for one in found:
             if one.aria_role not in ('none', 'presentation', 'generic', 'status', 'alert', 'group'):
                 self.assertTrue(one.accessible_name, one.get_attribute('outerHTML')[:120])
-        self.assertEqual(['col'] * 4, self.page.js('return [...document.querySelectorAll("#detail thead th")].map(one => one.scope)'))
+        self.assertEqual(
+            ['col'] * 4,
+            self.page.js(
+                'return [...document.querySelectorAll("#detail thead th")].map(one => one.scope)'
+            ),
+        )
         self.assertEqual(1, self.page.js('return document.querySelectorAll("h1").length'))
         self.assertEqual('en', self.page.js('return document.documentElement.lang'))
 
@@ -249,9 +330,14 @@ class Reader(PageTest):
         self.open('tag n8 Ta=b')
         for _ in range(12):
             self.page.press(Keys.TAB)
-            style = self.page.js('const at = document.activeElement, style = getComputedStyle(at); return at === document.body ? null : [style.outlineStyle, parseFloat(style.outlineWidth)]')
+            style = self.page.js(
+                'const at = document.activeElement, style = getComputedStyle(at); return at === document.body ? null : [style.outlineStyle, parseFloat(style.outlineWidth)]'
+            )
             if style:
-                self.assertTrue(style[0] != 'none' and style[1] >= 1, self.page.js(AT + '.outerHTML.slice(0, 100)'))
+                self.assertTrue(
+                    style[0] != 'none' and style[1] >= 1,
+                    self.page.js(AT + '.outerHTML.slice(0, 100)'),
+                )
 
 
 class Texts(PageTest):
@@ -260,20 +346,44 @@ class Texts(PageTest):
     def test_hostile_ones(self) -> None:
         lines = []
         for at, text in enumerate(HOSTILE):
-            tags = opl.tags({'name': text, '__proto__': text[:40], 'constructor': 'x', ('<b>' + text)[:60]: 'key too'})
+            tags = opl.tags(
+                {
+                    'name': text,
+                    '__proto__': text[:40],
+                    'constructor': 'x',
+                    ('<b>' + text)[:60]: 'key too',
+                }
+            )
             lines.append(f'node x13.{at + 10} y52 T{tags}')
         self.open(*lines)
         title = self.page.js('return document.title')
         for at in range(len(HOSTILE)):
             self.page.js('review.pick(arguments[0])', at)
-            self.assertEqual(1, self.page.js('return [...document.querySelectorAll("#detail tbody th")].filter(one => one.textContent === "__proto__").length'), at)
+            self.assertEqual(
+                1,
+                self.page.js(
+                    'return [...document.querySelectorAll("#detail tbody th")].filter(one => one.textContent === "__proto__").length'
+                ),
+                at,
+            )
         self.assertEqual(title, self.page.js('return document.title'))
-        self.assertEqual(0, self.page.js('return document.querySelectorAll("#detail img, #detail script, #detail svg, #rows img, #rows script, #rows svg, #rows b b").length'))
+        self.assertEqual(
+            0,
+            self.page.js(
+                'return document.querySelectorAll("#detail img, #detail script, #detail svg, #rows img, #rows script, #rows svg, #rows b b").length'
+            ),
+        )
         self.page.js('review.pick(2)')
-        self.assertIn('U+202E', self.page.js('return document.querySelector("#detail h2").textContent'))
+        self.assertIn(
+            'U+202E', self.page.js('return document.querySelector("#detail h2").textContent')
+        )
         with self.assertRaisesRegex(Exception, 'TrustedHTML|Trusted Types'):
             self.page.js('document.getElementById("detail").innerHTML = "<img src=x>"')
-        self.assertIsNone(self.page.js('const one = document.createElement("script"); try { one.text = "document.title = 1"; document.body.append(one); } catch (fault) { return null; } return document.title === "1" ? 1 : null'))
+        self.assertIsNone(
+            self.page.js(
+                'const one = document.createElement("script"); try { one.text = "document.title = 1"; document.body.append(one); } catch (fault) { return null; } return document.title === "1" ? 1 : null'
+            )
+        )
 
 
 class Others(PageTest):
@@ -283,7 +393,9 @@ class Others(PageTest):
         """Another server; its address."""
         other = http.server.ThreadingHTTPServer(('127.0.0.1', 0), handler)
         self.addCleanup(other.server_close)
-        threading.Thread(target=other.serve_forever, kwargs={'poll_interval': 0.01}, daemon=True).start()
+        threading.Thread(
+            target=other.serve_forever, kwargs={'poll_interval': 0.01}, daemon=True
+        ).start()
         self.addCleanup(other.shutdown)
         return f'http://127.0.0.1:{other.server_address[1]}'
 
@@ -314,7 +426,10 @@ class Others(PageTest):
 
         self.page.driver.get(self.serve(Evil).replace('127.0.0.1', 'localhost'))
         self.page.wait('out.length === 5')
-        self.assertEqual({(name, 'failed') for name in ('items', 'decide', 'decide with it', 'script', 'image')}, {(name, how) for name, how in self.page.js('return out')})
+        self.assertEqual(
+            {(name, 'failed') for name in ('items', 'decide', 'decide with it', 'script', 'image')},
+            {(name, how) for name, how in self.page.js('return out')},
+        )
         self.page.wait('document.getElementById("frame").contentDocument === null')
         self.assertEqual(({}, {}), (self.kept(), one.decisions.how))
 
@@ -323,13 +438,17 @@ class Others(PageTest):
         self.assertEqual(self.served.origin + '/', self.page.js('return location.href'))
         self.page.js('sessionStorage.clear()')
         self.page.driver.get(self.served.origin + '/')
-        self.page.wait('document.getElementById("count").textContent.startsWith("The secret in the address is wrong")')
+        self.page.wait(
+            'document.getElementById("count").textContent.startsWith("The secret in the address is wrong")'
+        )
 
     def test_nothing_comes_from_elsewhere(self) -> None:
         self.open('tag n8 Ta=b')
         time.sleep(0.3)
         names = self.page.js('return performance.getEntriesByType("resource").map(one => one.name)')
-        self.assertEqual([], [name for name in names if not name.startswith(self.served.origin + '/')])
+        self.assertEqual(
+            [], [name for name in names if not name.startswith(self.served.origin + '/')]
+        )
         self.assertNotIn(self.served.token, ' '.join(names))
 
     def test_tiles(self) -> None:
@@ -347,7 +466,9 @@ class Others(PageTest):
                 self.wfile.write(picture())
 
         self.open('tag n8 Ta=b', tiles=self.serve(Tiles) + '/{z}/{x}/{y}.png')
-        self.page.wait('performance.getEntriesByType("resource").some(one => one.name.endsWith(".png"))')
+        self.page.wait(
+            'performance.getEntriesByType("resource").some(one => one.name.endsWith(".png"))'
+        )
         time.sleep(0.5)
         self.assertTrue(seen)
         self.assertEqual({self.served.origin + '/'}, {referer for _, referer, _ in seen})
@@ -357,32 +478,53 @@ class Others(PageTest):
 
 def picture() -> bytes:
     """A PNG of 8 x 8 pixels."""
+
     def chunk(name: bytes, data: bytes) -> bytes:
-        return struct.pack('>I', len(data)) + name + data + struct.pack('>I', zlib.crc32(name + data))
+        return (
+            struct.pack('>I', len(data)) + name + data + struct.pack('>I', zlib.crc32(name + data))
+        )
+
     rows = b''.join(b'\0' + b'\xc8\xe6\xc8' * 8 for _ in range(8))
-    return b'\x89PNG\r\n\x1a\n' + chunk(b'IHDR', struct.pack('>IIBBBBB', 8, 8, 8, 2, 0, 0, 0)) + chunk(b'IDAT', zlib.compress(rows)) + chunk(b'IEND', b'')
+    return (
+        b'\x89PNG\r\n\x1a\n'
+        + chunk(b'IHDR', struct.pack('>IIBBBBB', 8, 8, 8, 2, 0, 0, 0))
+        + chunk(b'IDAT', zlib.compress(rows))
+        + chunk(b'IEND', b'')
+    )
 
 
 class Sizes(PageTest):
     def test_wide_and_narrow(self) -> None:
-        self.open('tag w5 Tname=' + 'x' * 200, 'tag n8 Ta=b', *(f'node x13.{at} y52 Tshop=x' for at in range(10, 40)))
+        self.open(
+            'tag w5 Tname=' + 'x' * 200,
+            'tag n8 Ta=b',
+            *(f'node x13.{at} y52 Tshop=x' for at in range(10, 40)),
+        )
         for wide, high in ((1400, 900), (1024, 700), (700, 900), (360, 640)):
             self.page.size(wide, high)
             self.page.wait(f'innerWidth === {wide}')
             with self.subTest(wide=wide):
-                self.assertLessEqual(self.page.js('return document.documentElement.scrollWidth'), wide)
+                self.assertLessEqual(
+                    self.page.js('return document.documentElement.scrollWidth'), wide
+                )
                 for name in ('finish', 'list', 'map', 'detail'):
-                    box = self.page.js(f'const one = document.getElementById("{name}"); one.scrollIntoView({{block: "nearest"}}); const box = one.getBoundingClientRect(); return [box.width, box.height, box.left, box.right, box.top, box.bottom]')
+                    box = self.page.js(
+                        f'const one = document.getElementById("{name}"); one.scrollIntoView({{block: "nearest"}}); const box = one.getBoundingClientRect(); return [box.width, box.height, box.left, box.right, box.top, box.bottom]'
+                    )
                     self.assertGreater(min(box[0], box[1]), 20, name)
                     self.assertTrue(0 <= box[2] and box[3] <= wide, (name, box))
                     self.assertTrue(box[4] < high and box[5] > 0, (name, box))
 
     def test_text_twice_as_large(self) -> None:
         self.open('tag n8 Ta=b', *(f'node x13.{at} y52 Tshop=x' for at in range(10, 40)))
-        self.page.js('document.documentElement.style.fontSize = "32px"; dispatchEvent(new Event("resize"))')
+        self.page.js(
+            'document.documentElement.style.fontSize = "32px"; dispatchEvent(new Event("resize"))'
+        )
         self.page.press(Keys.END)
         self.assertEqual('n-30', self.chosen())
-        seen = self.page.js('const row = document.querySelector(".item.now").getBoundingClientRect(), list = document.getElementById("list").getBoundingClientRect(); return row.top >= list.top - 1 && row.bottom <= list.bottom + 1')
+        seen = self.page.js(
+            'const row = document.querySelector(".item.now").getBoundingClientRect(), list = document.getElementById("list").getBoundingClientRect(); return row.top >= list.top - 1 && row.bottom <= list.bottom + 1'
+        )
         self.assertTrue(seen)
         self.page.js('document.documentElement.style.fontSize = ""')
 
@@ -396,8 +538,14 @@ class Faults(PageTest):
         self.addCleanup(self.page.driver.delete_network_conditions)
         self.page.press('r')
         self.page.wait('document.getElementById("box").open')
-        self.assertIn('yoke review doesn\'t answer', self.page.js('return document.getElementById("boxtext").textContent'))
-        self.assertEqual('This decision is not kept', self.page.js('return document.getElementById("boxhead").textContent'))
+        self.assertIn(
+            'yoke review doesn\'t answer',
+            self.page.js('return document.getElementById("boxtext").textContent'),
+        )
+        self.assertEqual(
+            'This decision is not kept',
+            self.page.js('return document.getElementById("boxhead").textContent'),
+        )
         self.counted('1 accepted, 0 rejected, 1 left of 2')
         self.assertEqual({'n8': 'accepted'}, self.kept())
 
@@ -418,5 +566,8 @@ class Faults(PageTest):
         self.heard('w5 mine; 0 left')
         self.page.js('document.getElementById("finish").click()')
         self.page.wait('document.getElementById("box").open')
-        self.assertEqual('The script is not written', self.page.js('return document.getElementById("boxhead").textContent'))
+        self.assertEqual(
+            'The script is not written',
+            self.page.js('return document.getElementById("boxhead").textContent'),
+        )
         self.assertFalse((self.folder / 'review.script').exists())

@@ -1,4 +1,6 @@
-"""Random sessions, random decisions: what is rejected is as its base, all else is as it was, and the upload goes."""
+"""Random sessions, random decisions: what is rejected is as its base, all else is as it was, and
+the upload goes.
+"""
 
 from __future__ import annotations
 
@@ -20,16 +22,30 @@ def town() -> list[str]:
     lines, number = [], SIDE * SIDE
     for at in range(SIDE * SIDE):
         lines.append(f'n{at + 1} v{1 + at % 3} x13.0{at % SIDE}0 y52.0{at // SIDE}0')
-    ways = [f'w{row + 1} v2 Thighway=residential,name=Row%20%{row} N' + ','.join(f'n{row * SIDE + at + 1}' for at in range(SIDE)) for row in range(SIDE)]
-    ways += [f'w{SIDE + row + 1} v1 Thighway=footway N' + ','.join(f'n{row + at * SIDE + 1}' for at in range(SIDE)) for row in range(SIDE)]
+    ways = [
+        f'w{row + 1} v2 Thighway=residential,name=Row%20%{row} N'
+        + ','.join(f'n{row * SIDE + at + 1}' for at in range(SIDE))
+        for row in range(SIDE)
+    ]
+    ways += [
+        f'w{SIDE + row + 1} v1 Thighway=footway N'
+        + ','.join(f'n{row + at * SIDE + 1}' for at in range(SIDE))
+        for row in range(SIDE)
+    ]
     for at in range(6):
         corners = [f'n{number + part}' for part in range(1, 5)]
         for part, (x, y) in enumerate(((2, 2), (6, 2), (6, 6), (2, 6))):
             lines.append(f'{corners[part]} v1 x13.0{at % 4}{x} y52.0{at // 4}{y}')
         number += 4
         ways.append(f'w{2 * SIDE + at + 1} v1 Tbuilding=yes N' + ','.join(corners + corners[:1]))
-    lines += [f'n{number + at} v1 Tshop=kiosk,name=Shop%20%{at} x13.0{at}5 y52.045' for at in range(1, 5)]
-    relations = ['r1 v1 Ttype=route Mw1@forward,w6@,w2@', 'r2 v1 Ttype=multipolygon Mw11@outer,w12@inner', 'r3 v1 Ttype=site Mr1@,n1@entrance']
+    lines += [
+        f'n{number + at} v1 Tshop=kiosk,name=Shop%20%{at} x13.0{at}5 y52.045' for at in range(1, 5)
+    ]
+    relations = [
+        'r1 v1 Ttype=route Mw1@forward,w6@,w2@',
+        'r2 v1 Ttype=multipolygon Mw11@outer,w12@inner',
+        'r3 v1 Ttype=site Mr1@,n1@entrance',
+    ]
     return lines + ways + relations
 
 
@@ -52,11 +68,23 @@ class Edit:
         """Lines of a script, of which some are refused."""
         picks, node, way, place = self.picks, self.node, self.way, self.place
         kinds = [
-            lambda: f'tag {node()} Ta={picks.randint(1, 9)},b=c', lambda: f'tag {way()} Ta=b,name=,highway=path', lambda: f'place {node()} {place()}', lambda: f'move {way()} 0.001 0',
-            lambda: f'erase {way()}', lambda: f'erase {node()}', lambda: f'delete r{picks.randint(1, 3)}', lambda: f'split {way()} n{picks.randint(2, SIDE * SIDE)}',
-            lambda: f'combine w{picks.randint(1, 4)},w{picks.randint(6, 10)}', lambda: f'reverse {way()}', lambda: f'node {place()} T', lambda: f'node {place()} Tshop=x,name=y',
-            lambda: f'way Thighway=path Nn-{picks.randint(1, 4)},{node()}', lambda: f'relation Ttype=site M{way()}@,{node()}@a,r{picks.randint(1, 3)}@',
-            lambda: f'relation Ttype=site Mw-{picks.randint(1, 9)}@', lambda: f'nodes {way()} N{node()},{node()},n-1', lambda: f'members r{picks.randint(1, 3)} M{way()}@,{node()}@x',
+            lambda: f'tag {node()} Ta={picks.randint(1, 9)},b=c',
+            lambda: f'tag {way()} Ta=b,name=,highway=path',
+            lambda: f'place {node()} {place()}',
+            lambda: f'move {way()} 0.001 0',
+            lambda: f'erase {way()}',
+            lambda: f'erase {node()}',
+            lambda: f'delete r{picks.randint(1, 3)}',
+            lambda: f'split {way()} n{picks.randint(2, SIDE * SIDE)}',
+            lambda: f'combine w{picks.randint(1, 4)},w{picks.randint(6, 10)}',
+            lambda: f'reverse {way()}',
+            lambda: f'node {place()} T',
+            lambda: f'node {place()} Tshop=x,name=y',
+            lambda: f'way Thighway=path Nn-{picks.randint(1, 4)},{node()}',
+            lambda: f'relation Ttype=site M{way()}@,{node()}@a,r{picks.randint(1, 3)}@',
+            lambda: f'relation Ttype=site Mw-{picks.randint(1, 9)}@',
+            lambda: f'nodes {way()} N{node()},{node()},n-1',
+            lambda: f'members r{picks.randint(1, 3)} M{way()}@,{node()}@x',
         ]
         return [picks.choice(kinds)() for _ in range(picks.randint(3, 25))]
 
@@ -69,7 +97,11 @@ class Edit:
             if self.picks.random() < 0.3:
                 found[key] = f'{key} v9 dD'
             else:
-                fields = [field for field in base[2:] if field[0] != 'T'] if key[0] == 'n' else [base[-1]]
+                fields = (
+                    [field for field in base[2:] if field[0] != 'T']
+                    if key[0] == 'n'
+                    else [base[-1]]
+                )
                 found[key] = f'{key} v9 Ta=theirs,highway=road ' + ' '.join(fields)
         return list(found.values())
 
@@ -90,7 +122,11 @@ class Random(FolderTest):
                 how = picks.choice(['mine', 'theirs'])
             elif picks.random() < 0.2 and known.mine:
                 before = known.there.tags if known.there else {}
-                names = [name for name in sorted({*before, *known.mine.tags}) if before.get(name) != known.mine.tags.get(name)]
+                names = [
+                    name
+                    for name in sorted({*before, *known.mine.tags})
+                    if before.get(name) != known.mine.tags.get(name)
+                ]
                 some = picks.sample(names, picks.randint(0, len(names)))
                 how = 'without K' + ','.join(map(opl.quote, some)) if some else how
             one.decide([(key, how)])
@@ -101,7 +137,13 @@ class Random(FolderTest):
             return content(known.base)
         how = one.decisions.how.get(key, '')
         if known.conflict != 'none':
-            return content(known.theirs) if how == 'theirs' else None if known.conflict == 'withdrawn' else content(known.mine)
+            return (
+                content(known.theirs)
+                if how == 'theirs'
+                else None
+                if known.conflict == 'withdrawn'
+                else content(known.mine)
+            )
         names = tags_of(how)
         if not names or known.mine is None:
             return content(known.mine)
@@ -131,7 +173,9 @@ class Random(FolderTest):
         try:
             one.finish()
         except Impossible as fault:
-            self.assertTrue(any(known.conflict != 'none' for known in before.values()), (seed, str(fault)))
+            self.assertTrue(
+                any(known.conflict != 'none' for known in before.values()), (seed, str(fault))
+            )
             return 'refused'
         finally:
             one.decisions.close()

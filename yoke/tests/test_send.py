@@ -17,7 +17,13 @@ from yoke.tests.stops import Stopped, stop_at
 from yoke.tests.support import ServerTest
 from yoke.trouble import Busy, Clash, Later, NoAnswer, Refused, ServerRefused, Trouble, Usage
 
-EDITS = ['node x13.004 y52 Tamenity=bench', 'way Thighway=footway Nn3,n-1', 'tag w5 Tsurface=asphalt', 'tag n8 Tbackrest=yes', 'delete r9']
+EDITS = [
+    'node x13.004 y52 Tamenity=bench',
+    'way Thighway=footway Nn3,n-1',
+    'tag w5 Tsurface=asphalt',
+    'tag n8 Tbackrest=yes',
+    'delete r9',
+]
 
 
 class SendTest(ServerTest):
@@ -35,13 +41,18 @@ class SendTest(ServerTest):
     def is_all_there(self):
         """Each change is at the server once, and the session has nothing left to send."""
         self.assertEqual([], self.server.created_twice())
-        self.assertEqual(sorted(['create', 'create', 'modify', 'modify', 'delete']), sorted(change.verb for change in self.server.history))
+        self.assertEqual(
+            sorted(['create', 'create', 'modify', 'modify', 'delete']),
+            sorted(change.verb for change in self.server.history),
+        )
         theirs = self.theirs()
         self.assertFalse(theirs['r9'].visible)
         self.assertEqual('asphalt', theirs['w5'].tags['surface'])
         self.assertEqual('yes', theirs['n8'].tags['backrest'])
-        way, = (element for element in theirs.values() if element.tags.get('highway') == 'footway')
-        self.assertEqual({'amenity': 'bench'}, theirs['n{}'.format(way.nodes[1])].tags)
+        (way,) = (
+            element for element in theirs.values() if element.tags.get('highway') == 'footway'
+        )
+        self.assertEqual({'amenity': 'bench'}, theirs[f'n{way.nodes[1]}'].tags)
         for known in self.session.known().values():
             self.assertIsNone(known.edit, known.key)
             self.assertEqual(theirs[known.key].version, known.base.version)
@@ -67,10 +78,21 @@ class Whole(SendTest):
         self.assertEqual(0, self.send('--source', 'survey', '--tag', 'import=yes'), self.err)
         self.is_all_there()
         self.is_at_rest()
-        self.assertEqual(f'5 changes sent in changeset 1\n{self.server.address}/changeset/1\nnothing is left to send\n', self.out)
+        self.assertEqual(
+            f'5 changes sent in changeset 1\n{self.server.address}/changeset/1\nnothing is left to send\n',
+            self.out,
+        )
         self.assertEqual(3, self.server.requests.count('upload'))
         changeset = self.server.database.changesets[1]
-        self.assertEqual({'created_by': api.CREATED_BY, 'comment': 'a test', 'source': 'survey', 'import': 'yes'}, changeset.tags)
+        self.assertEqual(
+            {
+                'created_by': api.CREATED_BY,
+                'comment': 'a test',
+                'source': 'survey',
+                'import': 'yes',
+            },
+            changeset.tags,
+        )
         self.assertEqual(3, self.err.count('changeset 1: '))
         self.assertEqual(0, self.send())
         self.assertEqual('0 changes sent\nnothing is left to send\n', self.out)
@@ -84,8 +106,14 @@ class Whole(SendTest):
         self.assertIsNone(self.day.pending())
 
     def test_what_the_words_lack(self):
-        for given, said in [((), '-m'), (('-m', ' '), '-m'), (('-m', 'x' * 256), '255'), (('-m', 'x', '--tag', 'a'), 'KEY=VALUE'),
-                            (('-m', 'x', '--chunk', '0'), '10,000'), (('-m', 'x', '--chunk', '10001'), '10,000')]:
+        for given, said in [
+            ((), '-m'),
+            (('-m', ' '), '-m'),
+            (('-m', 'x' * 256), '255'),
+            (('-m', 'x', '--tag', 'a'), 'KEY=VALUE'),
+            (('-m', 'x', '--chunk', '0'), '10,000'),
+            (('-m', 'x', '--chunk', '10001'), '10,000'),
+        ]:
             self.assertEqual(Usage.code, self.ask('send', *given))
             self.assertIn(said, self.err)
         self.assertEqual(Usage.code, self.yoke('send', '-m', 'x'))
@@ -107,7 +135,10 @@ class Whole(SendTest):
         self.is_all_there()
 
     def test_a_server_that_takes_no_edits(self):
-        with mock.patch('yoke.testing.database.Database.capabilities', lambda database: b'<osm><api><changesets maximum_elements="9"/><status api="readonly"/></api></osm>'):
+        with mock.patch(
+            'yoke.testing.database.Database.capabilities',
+            lambda database: b'<osm><api><changesets maximum_elements="9"/><status api="readonly"/></api></osm>',
+        ):
             self.assertEqual(NoAnswer.code, self.send())
         self.assertEqual([], self.server.history)
         self.goes_on()
@@ -158,16 +189,22 @@ class Changesets(SendTest):
         self.assertEqual(0, self.send(), self.err)
         self.is_all_there()
         self.is_at_rest()
-        self.assertEqual([3, 2], [changeset.changes for changeset in self.server.database.changesets.values()])
+        self.assertEqual(
+            [3, 2], [changeset.changes for changeset in self.server.database.changesets.values()]
+        )
 
     def test_one_that_is_full_sooner_than_the_server_says(self):
-        self.server.before('upload', 2, lambda: setattr(self.server.limits, 'changeset_elements', 2))
+        self.server.before(
+            'upload', 2, lambda: setattr(self.server.limits, 'changeset_elements', 2)
+        )
         self.assertEqual(0, self.send(), self.err)
         self.is_all_there()
         self.is_at_rest()
 
     def test_one_that_is_closed_in_between(self):
-        self.server.before('upload', 2, lambda: setattr(self.server.database.changesets[1], 'closed_at', 1.0))
+        self.server.before(
+            'upload', 2, lambda: setattr(self.server.database.changesets[1], 'closed_at', 1.0)
+        )
         self.assertEqual(0, self.send(), self.err)
         self.is_all_there()
         self.is_at_rest()
@@ -175,6 +212,7 @@ class Changesets(SendTest):
     def test_two_that_are_closed_before_they_have_a_change_with_a_silence_between(self):
         def close():
             list(self.server.database.changesets.values())[-1].closed_at = 1.0
+
         self.server.before('upload', 1, close)
         self.server.faults.once('500-before', 'upload', 1)
         self.server.before('upload', 3, close)
@@ -184,7 +222,9 @@ class Changesets(SendTest):
 
     def test_a_document_that_is_too_large_goes_out_in_halves(self):
         self.server.limits.changeset_elements = 100
-        self.server.before('upload', 1, lambda: setattr(self.server.limits, 'changeset_elements', 1))
+        self.server.before(
+            'upload', 1, lambda: setattr(self.server.limits, 'changeset_elements', 1)
+        )
         self.assertEqual(0, self.send(), self.err)
         self.is_all_there()
 
@@ -194,7 +234,10 @@ class Changesets(SendTest):
         self.server.users = {'another': User(7, 'another')}
         with mock.patch.dict(os.environ, YOKE_TOKEN='another'):
             self.assertEqual(0, self.send('--as', 'another'), self.err)
-        self.assertEqual(['mapper', 'another'], [changeset.user.name for changeset in self.server.database.changesets.values()])
+        self.assertEqual(
+            ['mapper', 'another'],
+            [changeset.user.name for changeset in self.server.database.changesets.values()],
+        )
         self.assertEqual(5, len(self.server.history))
         self.assertIsNone(self.day.read('changeset'))
 
@@ -214,7 +257,13 @@ class Changesets(SendTest):
         self.server.edit('modify', 'n8', tags={'amenity': 'bench', 'backrest': 'no'})
         self.assertEqual(Clash.code, self.send())
         number = json.loads(self.day.read('changeset'))['number']
-        self.server.database.upload(int(number), MAPPER, '<osmChange><create><node id="-1" lat="3" lon="3" changeset="{}"/></create></osmChange>'.format(number).encode())
+        self.server.database.upload(
+            int(number),
+            MAPPER,
+            '<osmChange><create><node id="-1" lat="3" lon="3" changeset="{}"/></create></osmChange>'.format(
+                number
+            ).encode(),
+        )
         count = self.server.requests.count('upload')
         self.assertEqual(Trouble.code, self.send())
         self.assertIn('day/changeset', self.err)
@@ -227,7 +276,13 @@ class Changesets(SendTest):
         self.assertEqual(Clash.code, self.ask('refresh'))
         self.done('resolve', 'n8', 'mine')
         self.assertEqual(0, self.ask('send', '-m', 'another one'), self.err)
-        self.assertEqual(['a test', 'another one'], [changeset.tags['comment'] for changeset in list(self.server.database.changesets.values())[1:]])
+        self.assertEqual(
+            ['a test', 'another one'],
+            [
+                changeset.tags['comment']
+                for changeset in list(self.server.database.changesets.values())[1:]
+            ],
+        )
         self.is_at_rest()
 
 
@@ -240,23 +295,37 @@ class Refusals(SendTest):
         self.assertIsNone(self.day.pending())
 
     def test_409(self):
-        self.server.before('upload', 2, lambda: self.server.edit('modify', 'w5', tags={'highway': 'residential', 'name': 'Main Street'}))
+        self.server.before(
+            'upload',
+            2,
+            lambda: self.server.edit(
+                'modify', 'w5', tags={'highway': 'residential', 'name': 'Main Street'}
+            ),
+        )
         self.refused_and_gone_on('Version mismatch')
         self.assertEqual(0, self.ask('refresh'), self.out + self.err)
         self.assertEqual(0, self.send(), self.err)
-        self.assertEqual({'highway': 'residential', 'name': 'Main Street', 'surface': 'asphalt'}, self.theirs()['w5'].tags)
+        self.assertEqual(
+            {'highway': 'residential', 'name': 'Main Street', 'surface': 'asphalt'},
+            self.theirs()['w5'].tags,
+        )
         self.assertEqual([], self.server.created_twice())
         self.is_at_rest()
 
     def test_a_proxy_that_sends_a_document_twice_before_a_download_that_lags_behind(self):
-        """The second time is refused by a 409; the changeset counts the first, which makes a new object."""
+        """The second time is refused by a 409; the changeset counts the first, which makes a new
+        object.
+        """
         act = self.server.database.upload
 
         def twice(*given):
             act(*given)
             return act(*given)
+
         self.chunk = '1000'
-        with mock.patch.object(self.server.database, 'upload', twice), mock.patch.object(self.server.database, 'download', lambda number: b'<osmChange/>'):
+        with mock.patch.object(self.server.database, 'upload', twice), mock.patch.object(
+            self.server.database, 'download', lambda number: b'<osmChange/>'
+        ):
             self.assertEqual(NoAnswer.code, self.send())
         self.assertIn('doesn\'t show them yet', self.err)
         self.assertEqual('000002.osc', self.day.pending())
@@ -322,14 +391,26 @@ class Refusals(SendTest):
         self.goes_on()
 
     def test_an_answer_of_another_server(self):
-        self.server.edit('create', 'n-1', place=('1', '1'))     # id 1000 is given
-        with mock.patch.object(self.server.database, 'last', {'node': 7, 'way': 1000, 'relation': 1000}):
-            self.assertEqual(Trouble.code, self.send())         # and the bench gets n8, which is there already
+        self.server.edit('create', 'n-1', place=('1', '1'))  # id 1000 is given
+        with mock.patch.object(
+            self.server.database, 'last', {'node': 7, 'way': 1000, 'relation': 1000}
+        ):
+            self.assertEqual(
+                Trouble.code, self.send()
+            )  # and the bench gets n8, which is there already
         self.assertIn('n8', self.err)
         self.assertIsNotNone(self.day.pending())
 
 
-FAULTS = ['close-before', 'drop-after', 'half-after', '500-before', '500-after', '504-before', '504-after']
+FAULTS = [
+    'close-before',
+    'drop-after',
+    'half-after',
+    '500-before',
+    '500-after',
+    '504-before',
+    '504-after',
+]
 OPERATIONS = ['capabilities', 'details', 'permissions', 'create', 'upload', 'close']
 
 
@@ -341,7 +422,12 @@ class Silence(SendTest):
     def test_each_fault_at_each_call(self):
         self.assertEqual(0, self.send())
         counts = {operation: self.server.requests.count(operation) for operation in OPERATIONS}
-        cases = [(fault, operation, skip) for operation in OPERATIONS for fault in FAULTS for skip in range(counts[operation])]
+        cases = [
+            (fault, operation, skip)
+            for operation in OPERATIONS
+            for fault in FAULTS
+            for skip in range(counts[operation])
+        ]
         self.assertGreater(len(cases), 50)
         for fault, operation, skip in cases:
             with self.subTest(fault=fault, operation=operation, skip=skip):
@@ -351,7 +437,7 @@ class Silence(SendTest):
                 self.assertIn(code, (0, NoAnswer.code), self.err)
                 if operation == 'upload':
                     self.assertEqual(0, code, self.err)
-                self.assertEqual(['{} {}'.format(fault, operation)], self.server.faults.met)
+                self.assertEqual([f'{fault} {operation}'], self.server.faults.met)
                 self.goes_on()
 
     def again(self):
@@ -387,7 +473,9 @@ class Silence(SendTest):
         self.goes_on()
 
     def test_a_document_still_at_work_when_it_is_looked_for(self):
-        """The answer is a 504, the document is taken after the first look, and the close waits for it."""
+        """The answer is a 504, the document is taken after the first look, and the close waits for
+        it.
+        """
         self.again()
         act = self.server.database.upload
         late = []
@@ -402,6 +490,7 @@ class Silence(SendTest):
 
         def before_close():
             late.pop()()
+
         self.server.database.upload = upload
         self.server.after('download', 1, first_look)
         self.server.before('close', 1, before_close)
@@ -417,6 +506,7 @@ class Silence(SendTest):
             late.append((number, user, text))
             self.server.database.upload = act
             raise ConnectionError()
+
         self.server.database.upload = upload
         self.assertEqual(0, self.send(), self.err)
         with self.assertRaisesRegex(Exception, 'was closed'):
@@ -424,7 +514,9 @@ class Silence(SendTest):
         self.is_all_there()
 
     def test_a_close_that_is_refused_while_a_document_is_at_work(self):
-        """The server answers 409 to the close, which isn't the 409 of a closed changeset, and takes the document after that."""
+        """The server answers 409 to the close, which isn't the 409 of a closed changeset, and takes
+        the document after that.
+        """
         database = self.server.database
         act, close, late = database.upload, database.close_changeset, []
 
@@ -436,8 +528,9 @@ class Silence(SendTest):
             if late:
                 if len(self.waited) == 2:
                     late.pop()()
-                raise Refusal(409, 'Changeset {} is locked by another process'.format(number))
+                raise Refusal(409, f'Changeset {number} is locked by another process')
             close(number, user)
+
         database.upload, database.close_changeset = upload, refuse
         self.server.after('close', 3, lambda: setattr(database, 'upload', act))
         self.assertEqual(0, self.send(), self.err)
@@ -447,7 +540,11 @@ class Silence(SendTest):
 
     def test_a_changeset_that_stays_at_work(self):
         self.server.faults.once('500-before', 'upload')
-        with mock.patch.object(self.server.database, 'close_changeset', side_effect=Refusal(409, 'Changeset 1 is locked by another process')):
+        with mock.patch.object(
+            self.server.database,
+            'close_changeset',
+            side_effect=Refusal(409, 'Changeset 1 is locked by another process'),
+        ):
             self.assertEqual(NoAnswer.code, self.send())
         self.assertIn('still at work', self.err)
         self.assertEqual('000002.osc', self.day.pending())
@@ -457,7 +554,12 @@ class Silence(SendTest):
         self.server.faults.once('500-before', 'upload')
 
         def other():
-            self.server.database.upload(1, MAPPER, b'<osmChange><create><node id="-1" lat="3" lon="3" changeset="1"/></create></osmChange>')
+            self.server.database.upload(
+                1,
+                MAPPER,
+                b'<osmChange><create><node id="-1" lat="3" lon="3" changeset="1"/></create></osmChange>',
+            )
+
         self.server.before('upload', 1, other)
         self.assertEqual(Trouble.code, self.send())
         self.assertIn('has 1 changes, and 0 were confirmed', self.err)
@@ -466,7 +568,12 @@ class Silence(SendTest):
     def test_a_changeset_that_cannot_be_looked_into(self):
         """The version that a change would have made tells; of new objects the changeset alone."""
         self.chunk = '3'
-        for chunk, fault, skip in [('3', 'drop-after', 1), ('3', '500-before', 1), ('3', '500-before', 0), ('2', '500-before', 0)]:
+        for chunk, fault, skip in [
+            ('3', 'drop-after', 1),
+            ('3', '500-before', 1),
+            ('3', '500-before', 0),
+            ('2', '500-before', 0),
+        ]:
             with self.subTest(chunk=chunk, fault=fault, skip=skip):
                 self.again()
                 self.chunk = chunk
@@ -488,7 +595,9 @@ class Silence(SendTest):
         with mock.patch.object(self.server.database, 'download', lambda number: b'<osmChange/>'):
             self.assertEqual(NoAnswer.code, self.send())
         self.assertIn('doesn\'t show them yet', self.err)
-        self.assertEqual((1, '000002.osc'), (self.server.requests.count('upload'), self.day.pending()))
+        self.assertEqual(
+            (1, '000002.osc'), (self.server.requests.count('upload'), self.day.pending())
+        )
         self.goes_on()
 
     def test_a_redirection_in_the_place_of_an_answer(self):
@@ -511,6 +620,7 @@ class Silence(SendTest):
         def twice(*given):
             act(*given)
             return act(*given)
+
         self.yoke('undo')
         self.do('members r9 Mw5@,n1@')
         self.server.database.upload = twice
@@ -529,16 +639,26 @@ class Alike(ServerTest):
         self.assertEqual(0, self.send('--chunk', '2'), self.err)
         theirs = self.theirs()
         self.assertEqual(5, sum(element.tags == {'natural': 'tree'} for element in theirs.values()))
-        way, = (element for element in theirs.values() if element.tags.get('barrier'))
-        mine = next(known.mine for known in self.session.known().values() if known.mine and known.mine.tags.get('barrier'))
-        self.assertEqual(['n{}'.format(number) for number in way.nodes], list(mine.nodes))
+        (way,) = (element for element in theirs.values() if element.tags.get('barrier'))
+        mine = next(
+            known.mine
+            for known in self.session.known().values()
+            if known.mine and known.mine.tags.get('barrier')
+        )
+        self.assertEqual([f'n{number}' for number in way.nodes], list(mine.nodes))
 
 
 class Locks(SendTest):
     def test_two_at_once(self):
         with self.day.locked():
-            for verb in (['send', '-m', 'x', '--api', self.server.api], ['refresh', '--api', self.server.api], ['do', 'steps.script'], ['undo'],
-                         ['resolve', 'n8', 'mine'], ['start', 'town.opl']):
+            for verb in (
+                ['send', '-m', 'x', '--api', self.server.api],
+                ['refresh', '--api', self.server.api],
+                ['do', 'steps.script'],
+                ['undo'],
+                ['resolve', 'n8', 'mine'],
+                ['start', 'town.opl'],
+            ):
                 self.assertEqual(Busy.code, self.yoke(*verb), verb)
                 self.assertIn('another yoke works in day', self.err)
             self.done('status')
@@ -594,7 +714,12 @@ class Stops(SendTest):
 
     def test_at_two_steps(self):
         """The start after the first stop is stopped too."""
-        for first, second in [(first, second) for first in range(1, 70, 3) for second in range(1, 30, 2) if (first + second) % 5 == 0]:
+        for first, second in [
+            (first, second)
+            for first in range(1, 70, 3)
+            for second in range(1, 30, 2)
+            if (first + second) % 5 == 0
+        ]:
             self.again()
             if self.stopped(first) is None:
                 break

@@ -15,7 +15,10 @@ from yoke.tiles.script import Unit
 from yoke.trouble import Refused, Trouble
 from yoke.verbs import expand
 
-LOOKS_AT_OTHER_MEMBERS = ('split', 'combine')   # where a piece goes in a relation depends on the members beside it
+LOOKS_AT_OTHER_MEMBERS = (
+    'split',
+    'combine',
+)  # where a piece goes in a relation depends on the members beside it
 CHUNK = 10_000
 
 Owns = Callable[[str], bool]
@@ -23,7 +26,8 @@ Owns = Callable[[str], bool]
 
 @dataclass
 class Change:
-    """One change of an upload: `create`, `modify` or `delete`, the object, and the number of the group that it hangs together with.
+    """One change of an upload: `create`, `modify` or `delete`, the object, and the number of the
+    group that it hangs together with.
 
     `unit` is the place of the unit whose line made a new object, among those of the session.
     """
@@ -36,9 +40,11 @@ class Change:
 
 @dataclass
 class Edited:
-    """What came of a session: its changes, the steps that were refused, with the cause, and the keys that it left to the seam.
+    """What came of a session: its changes, the steps that were refused, with the cause, and the
+    keys that it left to the seam.
 
-    `sources` has, by the number of a group, the ways that a line named to move or erase their nodes, where the group has such.
+    `sources` has, by the number of a group, the ways that a line named to move or erase their
+    nodes, where the group has such.
     """
 
     changes: list[Change] = field(default_factory=list)
@@ -48,12 +54,18 @@ class Edited:
     objects: int = 0
 
 
-def run(program: Program, extract: str, units: Sequence[Unit], owns: Callable[[Extract], Owns], is_whole: bool) -> Edited:
-    """Edits an extract, a file of OPL. `owns` makes, of what is there, the test which keys the session owns: lines over a query
-    are done to those.
+def run(
+    program: Program,
+    extract: str,
+    units: Sequence[Unit],
+    owns: Callable[[Extract], Owns],
+    is_whole: bool,
+) -> Edited:
+    """Edits an extract, a file of OPL. `owns` makes, of what is there, the test which keys the
+    session owns: lines over a query are done to those.
 
-    An extract that isn't `is_whole` lacks some members of its relations, and some users of the nodes outside of its tile. What
-    an edit would have to know of these is left to the seam.
+    An extract that isn't `is_whole` lacks some members of its relations, and some users of the
+    nodes outside of its tile. What an edit would have to know of these is left to the seam.
     """
     first = f'download {opl.escape(os.path.abspath(extract))}'
     there = Extract.read(extract)
@@ -65,13 +77,21 @@ def run(program: Program, extract: str, units: Sequence[Unit], owns: Callable[[E
     answer = _answer(program, [first, *(line for line, _ in lines), f'upload {CHUNK}'])
     upload = answer.last('upload')
     if upload is None or upload.word != 'ok':
-        raise Refused(f'{extract}: what the script makes can\'t be sent: {upload.rest if upload else "no upload"}')
+        raise Refused(
+            f'{extract}: what the script makes can\'t be sent: {upload.rest if upload else "no upload"}'
+        )
     found.refused = [(reply.step, reply.rest) for reply in answer.refused()]
-    made = {key: lines[reply.line - 2][1] for reply in answer.replies[1:len(lines) + 1] for key in reply.made()}
+    made = {
+        key: lines[reply.line - 2][1]
+        for reply in answer.replies[1 : len(lines) + 1]
+        for key in reply.made()
+    }
     changes = _sent(answer)
     after = _edited(changes, there)
     found.changes = _in_groups(changes, after, made)
-    found.sources = _sources(lines, there, after, {one.thing.key: one.group for one in found.changes})
+    found.sources = _sources(
+        lines, there, after, {one.thing.key: one.group for one in found.changes}
+    )
     return found
 
 
@@ -79,18 +99,29 @@ def _answer(program: Program, steps: Sequence[str]) -> Answer:
     """The Answer to steps of which the first is a download; Trouble where that is refused."""
     answer: Answer = program.run(list(steps))
     if answer.replies[0].word != 'ok':
-        raise Trouble(f'{words.cut(steps[0])} is refused by the program: {words.refusal(answer.replies[0].rest)}')
+        raise Trouble(
+            f'{words.cut(steps[0])} is refused by the program: {words.refusal(answer.replies[0].rest)}'
+        )
     return answer
 
 
-Lines = list[tuple[str, int]]       # each with the place of its unit
+Lines = list[tuple[str, int]]  # each with the place of its unit
 
 
-def _lines(program: Program, first: str, units: Sequence[Unit], there: Extract, mine: Owns, found: Edited, is_whole: bool) -> Lines:
-    """The lines that the session does; `found.left` gets the keys of those that it leaves to the seam.
+def _lines(
+    program: Program,
+    first: str,
+    units: Sequence[Unit],
+    there: Extract,
+    mine: Owns,
+    found: Edited,
+    is_whole: bool,
+) -> Lines:
+    """The lines that the session does; `found.left` gets the keys of those that it leaves to the
+    seam.
 
-    A query finds what the lines before it made. So it is asked after the units that are left are out, and anew where what it
-    finds has to be left and takes further units with it.
+    A query finds what the lines before it made. So it is asked after the units that are left are
+    out, and anew where what it finds has to be left and takes further units with it.
     """
     cut_off = set() if is_whole else _ways_of_relations_with_missing_members(there)
     kept = dict(enumerate(units))
@@ -106,8 +137,12 @@ def _lines(program: Program, first: str, units: Sequence[Unit], there: Extract, 
             return lines
 
 
-def _leave_units(kept: dict[int, Unit], there: Extract, mine: Owns, cut_off: Set[str], found: Edited) -> None:
-    """Takes units out that would have to know more than the extract has, and such as share a key with what is left."""
+def _leave_units(
+    kept: dict[int, Unit], there: Extract, mine: Owns, cut_off: Set[str], found: Edited
+) -> None:
+    """Takes units out that would have to know more than the extract has, and such as share a key
+    with what is left.
+    """
     for at, unit in list(kept.items()):
         if any(_needs_more(line, there, mine, cut_off) for line in unit.lines if not unit.is_query):
             found.left |= unit.keys
@@ -133,6 +168,7 @@ def _written(program: Program, first: str, units: Mapping[int, Unit]) -> Lines:
         for reply in answer.replies:
             reply.line -= 1
         return answer
+
     written = expand.expand('script', lines, 1, look)
     return [(line, places[number - 1]) for line, number in zip(written.lines, written.numbers)]
 
@@ -153,8 +189,13 @@ def _restricted(lines: Lines, units: Sequence[Unit], mine: Owns) -> Lines:
 
 # ---- what is left to the seam ----
 
-def _without_what_needs_more(lines: Lines, units: Sequence[Unit], there: Extract, mine: Owns, cut_off: Set[str]) -> tuple[Lines, set[str]]:
-    """The lines, those over a query without the keys for which the extract has too little; and these keys."""
+
+def _without_what_needs_more(
+    lines: Lines, units: Sequence[Unit], there: Extract, mine: Owns, cut_off: Set[str]
+) -> tuple[Lines, set[str]]:
+    """The lines, those over a query without the keys for which the extract has too little; and
+    these keys.
+    """
     kept: Lines = []
     left: set[str] = set()
     for line, at in lines:
@@ -170,7 +211,9 @@ def _without_what_needs_more(lines: Lines, units: Sequence[Unit], there: Extract
 
 
 def _needs_more(line: str, there: Extract, mine: Owns, cut_off: Set[str]) -> set[str]:
-    """The keys of a line for which the extract has too little; `cut_off` are ways in relations of which it lacks members."""
+    """The keys of a line for which the extract has too little; `cut_off` are ways in relations of
+    which it lacks members.
+    """
     verb, *more = grammar.words_of(line)
     keys = more[0].split(',') if more else []
     if verb == 'erase':
@@ -179,7 +222,9 @@ def _needs_more(line: str, there: Extract, mine: Owns, cut_off: Set[str]) -> set
 
 
 def _is_inside(there: Extract, key: str, mine: Owns) -> bool:
-    """Whether all that an `erase` of an object may take lies in the tile, so that all users of it are known."""
+    """Whether all that an `erase` of an object may take lies in the tile, so that all users of it
+    are known.
+    """
     thing = there.get(key)
     if thing is None or key[0] == 'n':
         return True
@@ -199,7 +244,10 @@ def _ways_of_relations_with_missing_members(there: Extract) -> set[str]:
 
 # ---- what came ----
 
-def _sources(lines: Lines, there: Extract, after: Table, group_of: Mapping[str, int]) -> dict[int, set[str]]:
+
+def _sources(
+    lines: Lines, there: Extract, after: Table, group_of: Mapping[str, int]
+) -> dict[int, set[str]]:
     """The ways by which lines changed nodes that they don't name, by the groups of these nodes."""
     found: dict[int, set[str]] = {}
     for line, _ in lines:
@@ -232,7 +280,9 @@ def _edited(changes: Sequence[tuple[str, str]], there: Extract) -> Table:
     return Table({key: found[key] for key in sorted(found, key=opl.rank)}, set(), 0)
 
 
-def _in_groups(changes: Sequence[tuple[str, str]], after: Table, made: Mapping[str, int]) -> list[Change]:
+def _in_groups(
+    changes: Sequence[tuple[str, str]], after: Table, made: Mapping[str, int]
+) -> list[Change]:
     """The changes, each with its group; `made` has the units of new objects."""
     number = {key: at for at, group in enumerate(groups.divide(after)) for key in group}
     things = ((verb, opl.parse(text)) for verb, text in changes)

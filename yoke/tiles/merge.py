@@ -1,7 +1,8 @@
 """What the sessions of the tiles made, put together.
 
-Where two sessions made one object unlike, or one of them left it, all that hangs together with it is set aside: its groups of
-changes in each tile, and the units of the script that name it. What is set aside is done anew, in one session over the seam.
+Where two sessions made one object unlike, or one of them left it, all that hangs together with it
+is set aside: its groups of changes in each tile, and the units of the script that name it. What is
+set aside is done anew, in one session over the seam.
 """
 from __future__ import annotations
 
@@ -13,7 +14,7 @@ from yoke import opl
 from yoke.tiles.edit import Change, Edited
 from yoke.tiles.script import Unit
 
-Name = str                      # of a session: a tile or the seam
+Name = str  # of a session: a tile or the seam
 Group = tuple[Name, int]
 
 
@@ -23,10 +24,14 @@ class Changes:
 
     by_group: dict[Group, list[Change]] = field(default_factory=dict)
     by_key: dict[str, set[Group]] = field(default_factory=lambda: defaultdict(set))
-    by_source: dict[str, set[Group]] = field(default_factory=lambda: defaultdict(set))  # by ways through which nodes were changed
+    by_source: dict[str, set[Group]] = field(
+        default_factory=lambda: defaultdict(set)
+    )  # by ways through which nodes were changed
     sources: dict[Group, set[str]] = field(default_factory=dict)
-    by_unit: dict[int, set[Group]] = field(default_factory=lambda: defaultdict(set))    # groups with what a unit made
-    alike: int = 0              # objects that two sessions made alike
+    by_unit: dict[int, set[Group]] = field(
+        default_factory=lambda: defaultdict(set)
+    )  # groups with what a unit made
+    alike: int = 0  # objects that two sessions made alike
 
     def add(self, name: Name, edited: Edited, places: Sequence[int]) -> None:
         """Adds the changes of a session; `places` are those of its units among all units."""
@@ -43,7 +48,9 @@ class Changes:
                 self.by_key[one.thing.key].add(group)
 
     def remove(self, group: Group) -> set[str]:
-        """Removes a group; answers with the keys that it touched, and with those through which it did."""
+        """Removes a group; answers with the keys that it touched, and with those through which it
+        did.
+        """
         keys = {one.thing.key for one in self.by_group.pop(group, []) if one.thing.key[1] != '-'}
         sources = self.sources.pop(group, set())
         for key in keys:
@@ -58,13 +65,18 @@ class Changes:
             self.remove(group)
 
     def unlike(self) -> set[str]:
-        """The keys that two sessions changed, and not alike. What they changed alike, alone, is taken once."""
+        """The keys that two sessions changed, and not alike. What they changed alike, alone, is
+        taken once.
+        """
         found = set()
         for key, groups in self.by_key.items():
             if len(groups) < 2:
                 continue
             made = [one for group in groups for one in self.by_group[group] if one.thing.key == key]
-            if all(len(self.by_group[group]) == 1 for group in groups) and len({(one.verb, repr(one.thing.content)) for one in made}) == 1:
+            if (
+                all(len(self.by_group[group]) == 1 for group in groups)
+                and len({(one.verb, repr(one.thing.content)) for one in made}) == 1
+            ):
                 for group in sorted(groups)[1:]:
                     self.by_group.pop(group)
                     groups.discard(group)
@@ -74,7 +86,9 @@ class Changes:
         return found
 
     def in_order(self) -> list[tuple[str, opl.Object]]:
-        """All changes as pairs of verb and object: new ones first, deletions last, and new objects with ids of their own."""
+        """All changes as pairs of verb and object: new ones first, deletions last, and new objects
+        with ids of their own.
+        """
         found: list[tuple[str, opl.Object]] = []
         number = 0
         for group in sorted(self.by_group):
@@ -90,18 +104,28 @@ class Changes:
 def _place(change: tuple[str, opl.Object]) -> tuple[int, int, tuple[int, bool, int]]:
     verb, thing = change
     kind = 'nwr'.index(thing.key[0])
-    return {'create': 0, 'modify': 1, 'delete': 2}[verb], -kind if verb == 'delete' else kind, opl.rank(thing.key)
+    return (
+        {'create': 0, 'modify': 1, 'delete': 2}[verb],
+        -kind if verb == 'delete' else kind,
+        opl.rank(thing.key),
+    )
 
 
 def renamed(thing: opl.Object, names: Mapping[str, str]) -> opl.Object:
     """The object with other keys for new objects."""
     if not names:
         return thing
-    return replace(thing, key=names.get(thing.key, thing.key), nodes=tuple(names.get(node, node) for node in thing.nodes),
-                   members=tuple((names.get(key, key), role) for key, role in thing.members))
+    return replace(
+        thing,
+        key=names.get(thing.key, thing.key),
+        nodes=tuple(names.get(node, node) for node in thing.nodes),
+        members=tuple((names.get(key, key), role) for key, role in thing.members),
+    )
 
 
-def set_aside(changes: Changes, units: Sequence[Unit], seam_units: set[int], keys: Iterable[str]) -> set[str]:
+def set_aside(
+    changes: Changes, units: Sequence[Unit], seam_units: set[int], keys: Iterable[str]
+) -> set[str]:
     """Sets aside all that hangs together with these keys; answers with the keys of all of it.
 
     `changes` loses the groups, and `seam_units` gets the units that are to be done over the seam.

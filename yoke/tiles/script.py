@@ -1,9 +1,10 @@
 """A script taken apart, so that each tile gets its own lines and the others go to the seam.
 
-A *unit* is a line that names keys, or a group from `begin` to `end`: it is done whole, in one session. Units that share a
-key hang together, and are done in the session of one tile, in their order, if that tile owns all their keys. Else they go
-to the seam: one session over just the objects that they touch. A line over a query, as `tag ( Thighway=* ) T..`, is done by
-every session, over the objects that it owns.
+A *unit* is a line that names keys, or a group from `begin` to `end`: it is done whole, in one
+session. Units that share a key hang together, and are done in the session of one tile, in their
+order, if that tile owns all their keys. Else they go to the seam: one session over just the objects
+that they touch. A line over a query, as `tag ( Thighway=* ) T..`, is done by every session, over
+the objects that it owns.
 """
 from __future__ import annotations
 
@@ -14,36 +15,57 @@ from typing import NoReturn
 from yoke.scripts import grammar, names, shorthand
 from yoke.trouble import Refused
 
-LOOKS = {'print', 'count', 'conflicts', 'check', 'find', 'rehearse'}    # lines that change nothing: they are left out
-MAKES = {'node', 'way', 'relation', 'import', 'split'}                  # lines that take ids of new objects
-REACHES_NODES = ('move', 'erase')                                        # of a way, they change nodes that they don't name
+LOOKS = {
+    'print',
+    'count',
+    'conflicts',
+    'check',
+    'find',
+    'rehearse',
+}  # lines that change nothing: they are left out
+MAKES = {'node', 'way', 'relation', 'import', 'split'}  # lines that take ids of new objects
+REACHES_NODES = ('move', 'erase')  # of a way, they change nodes that they don't name
 NOT_HERE = {
-    'download': 'the file of the tiles is named on the command line', 'generate': 'a made-up city belongs to a session of its own',
-    'undo': 'leave out the lines that it takes back', 'redo': 'leave out the lines that it takes back',
-    'resume': 'tiles begin from a file', 'save': 'the tiles write their result by themselves', 'upload': 'yoke send sends the result',
-    'confirm': 'yoke send does that', 'serve': 'a meeting runs by editor itself', 'resolve': 'a file has no conflicts',
+    'download': 'the file of the tiles is named on the command line',
+    'generate': 'a made-up city belongs to a session of its own',
+    'undo': 'leave out the lines that it takes back',
+    'redo': 'leave out the lines that it takes back',
+    'resume': 'tiles begin from a file',
+    'save': 'the tiles write their result by themselves',
+    'upload': 'yoke send sends the result',
+    'confirm': 'yoke send does that',
+    'serve': 'a meeting runs by editor itself',
+    'resolve': 'a file has no conflicts',
 }
 
 
 @dataclass(frozen=True)
 class Unit:
-    """Lines that are done together: their numbers in the script, from 1, and the keys that they name. One over a query has none."""
+    """Lines that are done together: their numbers in the script, from 1, and the keys that they
+    name. One over a query has none.
+    """
 
     lines: tuple[str, ...]
     numbers: tuple[int, ...]
     keys: frozenset[str]
     is_query: bool = False
     makes: bool = False
-    place: tuple[str, str] | None = None    # of a new node on a line of its own: longitude and latitude, as they stand
+    place: tuple[
+        str, str
+    ] | None = None  # of a new node on a line of its own: longitude and latitude, as they stand
 
     @property
     def looks_around(self) -> bool:
-        """Whether it is over a query that looks from an object at those that it refers to, or that refer to it."""
+        """Whether it is over a query that looks from an object at those that it refers to, or that
+        refer to it.
+        """
         return self.is_query and not {'child', 'parent'}.isdisjoint(grammar.words_of(self.lines[0]))
 
 
 def take_apart(name: str, lines: Sequence[str], count: Callable[[str], int]) -> list[Unit]:
-    """The units of a script; Refused where a line can't be done by tiles. `count` tells how many new objects a file has."""
+    """The units of a script; Refused where a line can't be done by tiles. `count` tells how many
+    new objects a file has.
+    """
     try:
         written = names.expand(list(lines), 1, count)
     except names.BadName as fault:
@@ -64,7 +86,9 @@ def take_apart(name: str, lines: Sequence[str], count: Callable[[str], int]) -> 
             group = None
         elif group is not None:
             if _is_query(line):
-                raise Refused(f'{name}:{number}: a line over a query stands in a group; tiles do such lines outside of groups alone')
+                raise Refused(
+                    f'{name}:{number}: a line over a query stands in a group; tiles do such lines outside of groups alone'
+                )
             group += [(line, number)] if verb not in LOOKS else []
         elif verb not in LOOKS:
             found.append(_unit([(line, number)], is_group=False))
@@ -114,7 +138,9 @@ def _unit(lines: list[tuple[str, int]], is_group: bool) -> Unit:
     keys = frozenset(key for line, _ in lines for key in keys_of(line))
     alone = grammar.words_of(lines[0][0]) if not is_group else []
     place = (alone[1][1:], alone[2][1:]) if alone[:1] == ['node'] else None
-    return Unit(texts, numbers, keys, not is_group and _is_query(lines[0][0]), bool(verbs & MAKES), place)
+    return Unit(
+        texts, numbers, keys, not is_group and _is_query(lines[0][0]), bool(verbs & MAKES), place
+    )
 
 
 def keys_of(line: str) -> list[str]:
@@ -152,16 +178,23 @@ def imported(unit: Unit) -> list[str]:
 
 # ---- who does what ----
 
+
 @dataclass
 class Shares:
-    """Which units each tile does, and which go to the seam, as places in the list of units, rising. Those over a query are in all."""
+    """Which units each tile does, and which go to the seam, as places in the list of units, rising.
+    Those over a query are in all.
+    """
 
     tiles: dict[int, list[int]]
     seam: list[int]
 
 
-def share(units: Sequence[Unit], owner: Mapping[str, int], tile_at: Callable[[str, str], int]) -> Shares:
-    """Hands units to tiles. `owner` has the tile of each key that a tile owns; `tile_at` is the tile of a longitude and latitude."""
+def share(
+    units: Sequence[Unit], owner: Mapping[str, int], tile_at: Callable[[str, str], int]
+) -> Shares:
+    """Hands units to tiles. `owner` has the tile of each key that a tile owns; `tile_at` is the
+    tile of a longitude and latitude.
+    """
     together = components(units)
     found = Shares({}, [])
     for places in together:
@@ -187,7 +220,8 @@ def share(units: Sequence[Unit], owner: Mapping[str, int], tile_at: Callable[[st
 def components(units: Sequence[Unit]) -> list[list[int]]:
     """The places of units that hang together; those over queries are left out.
 
-    Where a line names a new object by its id, that counts lines that make objects: then all these hang together too.
+    Where a line names a new object by its id, that counts lines that make objects: then all these
+    hang together too.
     """
     above = list(range(len(units)))
 

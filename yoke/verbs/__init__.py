@@ -7,8 +7,8 @@ To add one write `yoke/verbs/NAME.py` with
     def add_arguments(parser): ...                      # its words and options, by argparse
     def run(arguments) -> int: ...                      # its exit code; raises Trouble
 
-and put its name into NAMES. A name's `-` is `_` in the module, and a word that Python keeps for itself has a `_` at its
-end there: `to-josm` is `to_josm.py`, `import` is `import_.py`.
+and put its name into NAMES. A name's `-` is `_` in the module, and a word that Python keeps for
+itself has a `_` at its end there: `to-josm` is `to_josm.py`, `import` is `import_.py`.
 """
 import importlib
 import keyword
@@ -53,4 +53,6 @@ NAMES = [
 def load(name: str) -> ModuleType:
     """The module of a verb."""
     module = name.replace('-', '_')
-    return importlib.import_module('yoke.verbs.' + module + ('_' if keyword.iskeyword(module) else ''))
+    return importlib.import_module(
+        'yoke.verbs.' + module + ('_' if keyword.iskeyword(module) else '')
+    )

@@ -1,4 +1,6 @@
-"""`yoke conflate`: features of a file beside what the session has: the same, to update, new, ambiguous."""
+"""`yoke conflate`: features of a file beside what the session has: the same, to update, new,
+ambiguous.
+"""
 import argparse
 import pathlib
 from typing import Dict, Iterator, List, Mapping, Sequence, Tuple
@@ -20,7 +22,7 @@ from yoke.session import Session
 from yoke.trouble import Refused, Trouble, Usage
 from yoke.verbs import do, import_
 
-LeftOut = Tuple[str, str]      # where a feature stands, and why it isn't taken
+LeftOut = Tuple[str, str]  # where a feature stands, and why it isn't taken
 
 SUMMARY = 'match the features of a GeoJSON or CSV file with objects that are there already'
 DETAILS = """\
@@ -37,20 +39,42 @@ def add_arguments(parser: argparse.ArgumentParser) -> None:
     """The words of the verb."""
     parser.add_argument('file', metavar='FILE', help='.geojson, .json, .geojsonl or .csv, .tsv')
     parser.add_argument('--rules', metavar='FILE', required=True, help='what is the same')
-    parser.add_argument('--tags', metavar='RULES', help='a file of rules by which properties become tags')
-    parser.add_argument('--columns', metavar='NAMES', action='append',
-                        help='the properties that become tags under their own names')
+    parser.add_argument(
+        '--tags', metavar='RULES', help='a file of rules by which properties become tags'
+    )
+    parser.add_argument(
+        '--columns',
+        metavar='NAMES',
+        action='append',
+        help='the properties that become tags under their own names',
+    )
     do.add_accept(parser)
-    parser.add_argument('--to', metavar='NAME', default='conflate', help='the name of what is written (%(default)s)')
-    parser.add_argument('--do', action='store_true', help='run the script at once, as yoke do would')
+    parser.add_argument(
+        '--to', metavar='NAME', default='conflate', help='the name of what is written (%(default)s)'
+    )
+    parser.add_argument(
+        '--do', action='store_true', help='run the script at once, as yoke do would'
+    )
     parser.add_argument('--decided', metavar='FILE.csv', help='a list with decisions')
-    parser.add_argument('--ids', metavar='FILE.csv', help='which id of the source is which object: read, and written')
-    parser.add_argument('--encoding', metavar='NAME', help='the encoding of FILE, such as cp1252; else UTF-8')
+    parser.add_argument(
+        '--ids',
+        metavar='FILE.csv',
+        help='which id of the source is which object: read, and written',
+    )
+    parser.add_argument(
+        '--encoding', metavar='NAME', help='the encoding of FILE, such as cp1252; else UTF-8'
+    )
     parser.add_argument('--lon', metavar='COLUMN', help='the column of the longitude of a CSV')
     parser.add_argument('--lat', metavar='COLUMN', help='the column of the latitude of a CSV')
-    parser.add_argument('--latitude-first', action='store_true', help='in FILE the latitude stands first')
-    parser.add_argument('--anywhere', action='store_true', help='take features far from all that the session has')
-    parser.add_argument('--force', action='store_true', help='write over files that yoke did not write')
+    parser.add_argument(
+        '--latitude-first', action='store_true', help='in FILE the latitude stands first'
+    )
+    parser.add_argument(
+        '--anywhere', action='store_true', help='take features far from all that the session has'
+    )
+    parser.add_argument(
+        '--force', action='store_true', help='write over files that yoke did not write'
+    )
 
 
 def run(arguments: argparse.Namespace) -> int:
@@ -58,7 +82,9 @@ def run(arguments: argparse.Namespace) -> int:
     session, accepted = Session.of(arguments), Accepted.of(arguments.accept)
     names = [arguments.to + ending for ending in outputs.ENDINGS]
     read = [arguments.file, arguments.rules, arguments.tags, arguments.decided]
-    check_outputs([*names, *filter(None, [arguments.ids])], list(filter(None, read)), session.day.folder)
+    check_outputs(
+        [*names, *filter(None, [arguments.ids])], list(filter(None, read)), session.day.folder
+    )
     outputs.check(arguments.to, arguments.force)
     rules = rules_of(arguments.rules)
     if bool(arguments.ids) != bool(rules.source_id):
@@ -80,8 +106,9 @@ def run(arguments: argparse.Namespace) -> int:
     if shapes.shapely() is None and any(feature.is_area for feature in features):
         note('outlines are compared by a raster: python3-shapely compares them exactly')
     one = outputs.Outcome(rules, found, left, still(once))
-    picture = drawing.Drawing(chosen, bounds, latitude_first=arguments.latitude_first,
-                              there=drawing.shapes_of(there))
+    picture = drawing.Drawing(
+        chosen, bounds, latitude_first=arguments.latitude_first, there=drawing.shapes_of(there)
+    )
     one.draw(picture, {feature.where: feature for feature in source.features})
     gone = outputs.gone_by_tags(rules, found, there)
     if rules.gone:
@@ -104,10 +131,16 @@ def perform(session: Session, arguments: argparse.Namespace, one: outputs.Outcom
     return do.end(session, done.answer, keep=False)
 
 
-def tell(name: str, one: outputs.Outcome, gone: Sequence[Tuple[str, str, str]], is_done: bool) -> None:
+def tell(
+    name: str, one: outputs.Outcome, gone: Sequence[Tuple[str, str, str]], is_done: bool
+) -> None:
     """Says what comes of it, and what is next."""
-    results.put(counts={**one.counts(), 'gone': len(gone)}, steps=[], session=None,
-                files=[name + ending for ending in outputs.ENDINGS if pathlib.Path(name + ending).exists()])
+    results.put(
+        counts={**one.counts(), 'gone': len(gone)},
+        steps=[],
+        session=None,
+        files=[name + ending for ending in outputs.ENDINGS if pathlib.Path(name + ending).exists()],
+    )
     for line in one.report():
         print(line)
     if gone:
@@ -126,12 +159,18 @@ def rules_of(name: str) -> rule_file.Rules:
         raise Trouble(f'{name}: {fault}') from None
 
 
-def tags_of(arguments: argparse.Namespace, source: import_.Source, rules: rule_file.Rules,
-            accepted: Accepted) -> Tags:
+def tags_of(
+    arguments: argparse.Namespace,
+    source: import_.Source,
+    rules: rule_file.Rules,
+    accepted: Accepted,
+) -> Tags:
     """How properties become tags. The source's own id becomes one only if a rule of --tags says so."""
     if rules.source_id and rules.source_id not in source.names:
-        raise Refused(f'{arguments.file} has no column {rules.source_id}, which source-id names: '
-                      f'it has {", ".join(source.names)}')
+        raise Refused(
+            f'{arguments.file} has no column {rules.source_id}, which source-id names: '
+            f'it has {", ".join(source.names)}'
+        )
     named = import_.rules(arguments.tags) if arguments.tags else None
     chosen = import_.tags_of(arguments, source, named, accepted)
     accepted.stop(import_.of_source(source, source.features, chosen))
@@ -140,9 +179,14 @@ def tags_of(arguments: argparse.Namespace, source: import_.Source, rules: rule_f
 
 def still(read: Sequence[Feature]) -> Dict[str, Dict[str, str]]:
     """What tags had when the file was made, by the names of features: its properties `old:KEY`."""
-    return {one.where: {name[len(OLD):]: str(value or '').strip()
-                        for name, value in one.properties.items() if name.startswith(OLD)}
-            for one in read}
+    return {
+        one.where: {
+            name[len(OLD) :]: str(value or '').strip()
+            for name, value in one.properties.items()
+            if name.startswith(OLD)
+        }
+        for one in read
+    }
 
 
 def places_of(there: table.Table) -> Iterator[drawing.Place]:
@@ -168,8 +212,9 @@ def each_once(read: Sequence[Feature]) -> Tuple[List[Feature], List[LeftOut]]:
     return found, left
 
 
-def taken(read: Sequence[Feature], chosen: Tags, latitude_first: bool, bounds: drawing.Box
-          ) -> Tuple[List[Thing], List[LeftOut]]:
+def taken(
+    read: Sequence[Feature], chosen: Tags, latitude_first: bool, bounds: drawing.Box
+) -> Tuple[List[Thing], List[LeftOut]]:
     """The features as Things, and those that are left out, each with the cause."""
     found: List[Thing] = []
     left: List[LeftOut] = []
@@ -184,8 +229,15 @@ def taken(read: Sequence[Feature], chosen: Tags, latitude_first: bool, bounds: d
         except Left as why:
             left.append((feature.where, str(why)))
             continue
-        places = [shape] if kind == 'Point' else shape if kind == 'LineString' else \
-            shape[0] if kind == 'MultiLineString' else shape[0][0]
+        places = (
+            [shape]
+            if kind == 'Point'
+            else shape
+            if kind == 'LineString'
+            else shape[0]
+            if kind == 'MultiLineString'
+            else shape[0][0]
+        )
         path = [(lon / drawing.UNITS, lat / drawing.UNITS) for lon, lat in places]
         found.append(Thing(feature.where, sketch.tags[0], path, kind == 'Polygon'))
     return found, left
@@ -213,17 +265,26 @@ def thing_of(there: table.Table, key: str) -> 'Thing | None':
 def path_of(there: table.Table, thing: opl.Object) -> List[Tuple[float, float]]:
     """Where an object is; of a relation its outer way that spans most."""
     if thing.key[0] == 'n':
-        return [(float(thing.lon), float(thing.lat))] if thing.lon is not None and thing.lat is not None else []
+        return (
+            [(float(thing.lon), float(thing.lat))]
+            if thing.lon is not None and thing.lat is not None
+            else []
+        )
     if thing.key[0] == 'w':
         nodes = [there.mine(key) for key in thing.nodes]
-        return [(float(node.lon), float(node.lat)) for node in nodes
-                if node and node.lon is not None and node.lat is not None]
+        return [
+            (float(node.lon), float(node.lat))
+            for node in nodes
+            if node and node.lon is not None and node.lat is not None
+        ]
     members = [there.mine(key) for key, role in thing.members if key[0] != 'r' and role != 'inner']
     return max((path_of(there, member) for member in members if member), key=span, default=[])
 
 
 def span(path: Sequence[Tuple[float, float]]) -> float:
-    """How much a path spans: the half circumference of the box round it, in degrees; -1 without a place."""
+    """How much a path spans: the half circumference of the box round it, in degrees; -1 without a
+    place.
+    """
     if not path:
         return -1.0
     lons, lats = zip(*path)
@@ -238,7 +299,9 @@ def ids_of(read: Sequence[Feature], rules: rule_file.Rules) -> Dict[str, str]:
         number = str(feature.properties.get(rules.source_id) or '').strip()
         if number:
             if number in seen:
-                raise Refused(f'the id {number} stands twice, in {seen[number]} and {feature.where}')
+                raise Refused(
+                    f'the id {number} stands twice, in {seen[number]} and {feature.where}'
+                )
             seen[number] = feature.where
             found[feature.where] = number
     return found
@@ -259,7 +322,9 @@ def decisions(name: 'str | None', features: Sequence[Thing]) -> Mapping[str, str
     if not name:
         return {}
     try:
-        return outputs.decided_rows(text_of(data_of(name)), {one.name: one.middle for one in features})
+        return outputs.decided_rows(
+            text_of(data_of(name)), {one.name: one.middle for one in features}
+        )
     except ValueError as fault:
         raise Trouble(f'{name}: {fault}') from None
 
@@ -273,7 +338,11 @@ def decide(found: Sequence[Found], decided: Mapping[str, str], there: table.Tabl
         elif how:
             thing = thing_of(there, how) if opl.KEY.fullmatch(how) else None
             if thing is None:
-                raise Refused(f'{one.feature.name}: {how} is no object that is there, '
-                              'and neither new nor skip')
+                raise Refused(
+                    f'{one.feature.name}: {how} is no object that is there, '
+                    'and neither new nor skip'
+                )
             one.kind, one.why = 'update', 'decided'
-            one.candidates.insert(0, Candidate(2.0, shapes.metres(one.feature.middle, thing), thing, 'decided'))
+            one.candidates.insert(
+                0, Candidate(2.0, shapes.metres(one.feature.middle, thing), thing, 'decided')
+            )

@@ -42,7 +42,7 @@ def run(arguments: argparse.Namespace) -> int:
         if not arguments.keys or known.key in arguments.keys:
             show(known)
     results.add('conflicts')
-    print('{} in conflict'.format(len(found)))
+    print(f'{len(found)} in conflict')
     return Clash.code if found else 0
 
 
@@ -52,23 +52,31 @@ def show(known: saved.Known) -> None:
         results.add('conflicts', results.of_known(known))
     theirs, base = known.theirs, known.base
     assert theirs is not None and base is not None
-    print('{}: {}'.format(sides.title(known.shown), why(known)))
-    by = ' by {}'.format(sides.plain(theirs.user)) if theirs.user else ''
-    print('    here from version {}; the server has version {}{}{}'.format(base.version, theirs.version, by, ', deleted' if theirs.deleted else ''))
+    print(f'{sides.title(known.shown)}: {why(known)}')
+    by = f' by {sides.plain(theirs.user)}' if theirs.user else ''
+    print(
+        '    here from version {}; the server has version {}{}{}'.format(
+            base.version, theirs.version, by, ', deleted' if theirs.deleted else ''
+        )
+    )
     side = None if theirs.deleted else theirs
     for name, texts in sides.parts(known.there, known.mine, side) if side else []:
         print('    {}: was {}, mine {}, theirs {}'.format(name, *map(sides.plain, texts)))
     for line in sides.change(known.there, known.mine) if not side else []:
-        print('    mine {}'.format(line))
+        print(f'    mine {line}')
     for way in ways(known, side):
         print('    yoke resolve ' + way)
 
 
 def ways(known: saved.Known, side: Optional[opl.Object]) -> List[str]:
     """The words of `yoke resolve` that settle a conflict."""
-    found = ['{} mine'.format(known.key), '{} theirs'.format(known.key)]
+    found = [f'{known.key} mine', f'{known.key} theirs']
     if known.conflict == 'changed' and known.there and known.mine and side:
-        both = [name for name, (was, mine, theirs) in sides.parts(known.there, known.mine, side) if was != mine and was != theirs and mine != theirs]
+        both = [
+            name
+            for name, (was, mine, theirs) in sides.parts(known.there, known.mine, side)
+            if was != mine and was != theirs and mine != theirs
+        ]
         tags = [name for name in both if name in known.mine.tags or name in side.tags]
-        found.append('{} parts mine{}'.format(known.key, ''.join(' [{}]'.format(name) for name in tags)))
+        found.append('{} parts mine{}'.format(known.key, ''.join(f' [{name}]' for name in tags)))
     return found

@@ -16,9 +16,17 @@ DETAILS = 'It reads the saved session alone: what the server has by now is anoth
 def add_arguments(parser: argparse.ArgumentParser) -> None:
     """The words of the verb."""
     parser.add_argument('keys', metavar='KEY', nargs='*', help='only these objects')
-    parser.add_argument('--short', action='store_true', help='a line for each object, without its parts')
-    parser.add_argument('--svg', metavar='FILE', help='draw the edits on a map, as one picture; - is standard output')
-    parser.add_argument('--force', action='store_true', help='with --svg: also over a file that yoke didn\'t write')
+    parser.add_argument(
+        '--short', action='store_true', help='a line for each object, without its parts'
+    )
+    parser.add_argument(
+        '--svg',
+        metavar='FILE',
+        help='draw the edits on a map, as one picture; - is standard output',
+    )
+    parser.add_argument(
+        '--force', action='store_true', help='with --svg: also over a file that yoke didn\'t write'
+    )
 
 
 def edited(found: Mapping[str, saved.Known]) -> List[saved.Known]:
@@ -38,12 +46,12 @@ def run(arguments: argparse.Namespace) -> int:
         if results.wanted():
             results.add('objects', results.of_known(known))
         conflict = '' if known.conflict == 'none' else ', in conflict'
-        print('{} {}{}'.format(known.edit, sides.title(known.shown), conflict))
+        print(f'{known.edit} {sides.title(known.shown)}{conflict}')
         if known.edit != 'deleted' and not arguments.short:
             for line in sides.change(known.there, known.mine):
                 print('    ' + line)
     results.add('objects')
-    print('{} edited'.format(count))
+    print(f'{count} edited')
     return 0
 
 
@@ -53,10 +61,21 @@ def draw(arguments: argparse.Namespace) -> int:
     last = session.day.last()
     found = collect(table.read(last.text()), session.ask([USERS]).found())
     if arguments.keys:
-        found.items = [key for key in found.items if not set(arguments.keys).isdisjoint([key, *found.parts_of(key)])]
+        found.items = [
+            key
+            for key in found.items
+            if not set(arguments.keys).isdisjoint([key, *found.parts_of(key)])
+        ]
     check_outputs([arguments.svg] if arguments.svg != '-' else [], [], session.day.folder)
-    write_own(arguments.svg, picture.document(found, f'{last.path.stem}: {len(found.items)} edits'), picture.MARK, arguments.force)
-    results.add('objects', *(results.of_known(found.known(key)) for key in found.items if results.wanted()))
+    write_own(
+        arguments.svg,
+        picture.document(found, f'{last.path.stem}: {len(found.items)} edits'),
+        picture.MARK,
+        arguments.force,
+    )
+    results.add(
+        'objects', *(results.of_known(found.known(key)) for key in found.items if results.wanted())
+    )
     if arguments.svg != '-':
         print(f'wrote {arguments.svg}: {len(found.items)} edits')
     return 0

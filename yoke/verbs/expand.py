@@ -34,8 +34,17 @@ script itself has read, and ids count from -1, or from where the session counts 
 
 def add_arguments(parser: argparse.ArgumentParser) -> None:
     parser.add_argument('script', metavar='SCRIPT', help='a file of lines; - is standard input')
-    parser.add_argument('--next', metavar='N', type=int, help='the number of the next new object: 7 stands for the id -7')
-    parser.add_argument('--session', action='store_true', help='as `yoke do` would do it now, over the session of the day')
+    parser.add_argument(
+        '--next',
+        metavar='N',
+        type=int,
+        help='the number of the next new object: 7 stands for the id -7',
+    )
+    parser.add_argument(
+        '--session',
+        action='store_true',
+        help='as `yoke do` would do it now, over the session of the day',
+    )
 
 
 def run(arguments: argparse.Namespace) -> int:
@@ -44,7 +53,7 @@ def run(arguments: argparse.Namespace) -> int:
     try:
         lines = grammar.lines_of(files.data_of(arguments.script).decode('utf-8-sig'))
     except UnicodeDecodeError as error:
-        raise Trouble('{} isn\'t UTF-8, from byte {} on'.format(arguments.script, error.start)) from None
+        raise Trouble(f'{arguments.script} isn\'t UTF-8, from byte {error.start} on') from None
     if arguments.session:
         session = Session.of(arguments)
         with session.day.locked():
@@ -53,46 +62,75 @@ def run(arguments: argparse.Namespace) -> int:
             head = bound.head(last, last.text())
     else:
         head = []
-        expanded = expand(arguments.script, lines, arguments.next or first_number(lines), lambda steps: Program.of(arguments).run(steps))
+        expanded = expand(
+            arguments.script,
+            lines,
+            arguments.next or first_number(lines),
+            lambda steps: Program.of(arguments).run(steps),
+        )
     for number, text in expanded.notes:
-        note('{}:{}: {}'.format(arguments.script, number, text))
+        note(f'{arguments.script}:{number}: {text}')
     for at, (_, why) in expanded.problems.items():
-        raise Refused(': '.join(filter(None, ['{}:{}'.format(arguments.script, expanded.numbers[at]), expanded.rows.get(at), why])))
+        raise Refused(
+            ': '.join(
+                filter(
+                    None,
+                    [
+                        f'{arguments.script}:{expanded.numbers[at]}',
+                        expanded.rows.get(at),
+                        why,
+                    ],
+                )
+            )
+        )
     results.put(script=head + expanded.lines)
     print(''.join(line + '\n' for line in head + expanded.lines), end='')
     return 0
 
 
-def over_session(name: str, lines: List[str], session: Session, accepted: Optional[Accepted] = None) -> names.Expanded:
-    """The lines of a script as the program takes them over the session as it is now; the folder of the day has to be locked."""
+def over_session(
+    name: str, lines: List[str], session: Session, accepted: Optional[Accepted] = None
+) -> names.Expanded:
+    """The lines of a script as the program takes them over the session as it is now; the folder of
+    the day has to be locked.
+    """
     with stored.opened(session.day.last().path) as kept:
         number = kept.next_new
-    return expand(name, lines, number, lambda steps: session.ask(steps, allow_refused=True), accepted)
+    return expand(
+        name, lines, number, lambda steps: session.ask(steps, allow_refused=True), accepted
+    )
 
 
-def expand(name: str, lines: List[str], number: int, look: Callable[[List[str]], Answer], accepted: Optional[Accepted] = None) -> names.Expanded:
-    """The lines of a script as the program takes them; Refused, with the line, where a name can't be written out, BadLine where a line is none.
+def expand(
+    name: str,
+    lines: List[str],
+    number: int,
+    look: Callable[[List[str]], Answer],
+    accepted: Optional[Accepted] = None,
+) -> names.Expanded:
+    """The lines of a script as the program takes them; Refused, with the line, where a name can't
+    be written out, BadLine where a line is none.
 
-    `number` is that of the next new object. `look` answers to lines over what the script begins with. `accepted` is what
-    the user takes although it looks wrong.
+    `number` is that of the next new object. `look` answers to lines over what the script begins
+    with. `accepted` is what the user takes although it looks wrong.
     """
     try:
         script = names.expand(lines, number, lint.count)
     except names.BadName as fault:
-        raise Refused('{}:{}: {}'.format(name, fault.line, fault)) from None
+        raise Refused(f'{name}:{fault.line}: {fault}') from None
     if any(map(shorthand.is_short, script.lines)):
         for found in findings.findings(script.lines, short=True)[:1]:
             raise bad_line(name, script, found.line, findings.told(found))
     try:
         return shorthand.write_out(script, look, accepted)
     except BadLine as bad:
-        raise BadLine('{}:{}: {}'.format(name, bad.line, bad), bad.line) from None
+        raise BadLine(f'{name}:{bad.line}: {bad}', bad.line) from None
 
 
 def bad_line(name: str, script: names.Expanded, line: int, why: str) -> BadLine:
     """What is raised for a line that is none, by its number among those without names."""
     number = script.numbers[line - 1]
-    return BadLine('{}:{}: {}'.format(name, number, why), number)
+    return BadLine(f'{name}:{number}: {why}', number)
 
 
 def first_number(lines: Iterable[str]) -> int:
@@ -104,6 +142,6 @@ def first_number(lines: Iterable[str]) -> int:
     text = files.data_of(opl.unescape(rest[0])).decode('utf-8', 'replace')
     at = re.search('^session ', text, re.M)
     try:
-        return table.next_new(text[at.start():] if at else text)
+        return table.next_new(text[at.start() :] if at else text)
     except Trouble as trouble:
-        raise Trouble('{}: {}'.format(rest[0], trouble)) from None
+        raise Trouble(f'{rest[0]}: {trouble}') from None

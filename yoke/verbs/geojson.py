@@ -13,7 +13,9 @@ after and theirs."""
 
 def add_arguments(parser: argparse.ArgumentParser) -> None:
     parser.add_argument('file', metavar='FILE', help='the file to write, or - for standard output')
-    parser.add_argument('--force', action='store_true', help='also over a file that yoke didn\'t write')
+    parser.add_argument(
+        '--force', action='store_true', help='also over a file that yoke didn\'t write'
+    )
 
 
 def run(arguments: argparse.Namespace) -> int:
@@ -24,5 +26,11 @@ def run(arguments: argparse.Namespace) -> int:
     results.put(file=arguments.file)
     if arguments.file != '-':
         edited = sum(known.edit is not None for known in found.things.values())
-        print('wrote {}: {} edited, {} in conflict'.format(arguments.file, edited, sum(known.conflict != 'none' for known in found.things.values())))
+        print(
+            'wrote {}: {} edited, {} in conflict'.format(
+                arguments.file,
+                edited,
+                sum(known.conflict != 'none' for known in found.things.values()),
+            )
+        )
     return 0

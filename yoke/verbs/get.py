@@ -23,37 +23,62 @@ DETAILS = """\
 The file is whole, or there is none. A download that broke off keeps its parts in FILE.parts,
 and the same command goes on with them. No file is ever written over. The first line of the
 file says of which moment it is. docs/HOWTO/get-data.md shows each of these."""
-OLD = 24 * 3600     # seconds after which data counts as old
+OLD = 24 * 3600  # seconds after which data counts as old
 
 
 def add_arguments(parser: argparse.ArgumentParser) -> None:
     """The words of the verb."""
     api.add_arguments(parser)
     parser.add_argument('--to', metavar='FILE.opl', required=True, help='the extract to write')
-    parser.add_argument('--bbox', metavar='W,S,E,N',
-                        help='a box in degrees; west greater than east crosses the 180th meridian')
-    parser.add_argument('--overpass', metavar='ADDRESS',
-                        help='an Overpass server, such as https://HOST/api/interpreter')
-    parser.add_argument('--query', metavar='FILE',
-                        help='its query, in QL or XML; {{bbox}} in it becomes --bbox')
-    parser.add_argument('--from', dest='from_file', metavar='FILE',
-                        help='a file that osmium reads, such as country.osm.pbf')
+    parser.add_argument(
+        '--bbox',
+        metavar='W,S,E,N',
+        help='a box in degrees; west greater than east crosses the 180th meridian',
+    )
+    parser.add_argument(
+        '--overpass',
+        metavar='ADDRESS',
+        help='an Overpass server, such as https://HOST/api/interpreter',
+    )
+    parser.add_argument(
+        '--query', metavar='FILE', help='its query, in QL or XML; {{bbox}} in it becomes --bbox'
+    )
+    parser.add_argument(
+        '--from',
+        dest='from_file',
+        metavar='FILE',
+        help='a file that osmium reads, such as country.osm.pbf',
+    )
     parser.add_argument('--polygon', metavar='FILE', help='cut out a polygon: .poly or .geojson')
-    parser.add_argument('--strategy', choices=cutting.STRATEGIES, default='complete_ways',
-                        help='what osmium takes with it (%(default)s)')
-    parser.add_argument('--beyond', action='store_true',
-                        help='also if the box reaches beyond the file')
-    parser.add_argument('--max-calls', metavar='N', type=int, default=map_calls.MOST_CALLS,
-                        help='calls of one box (%(default)s)')
-    parser.add_argument('--anew', action='store_true',
-                        help='begin again, without the parts that are kept')
+    parser.add_argument(
+        '--strategy',
+        choices=cutting.STRATEGIES,
+        default='complete_ways',
+        help='what osmium takes with it (%(default)s)',
+    )
+    parser.add_argument(
+        '--beyond', action='store_true', help='also if the box reaches beyond the file'
+    )
+    parser.add_argument(
+        '--max-calls',
+        metavar='N',
+        type=int,
+        default=map_calls.MOST_CALLS,
+        help='calls of one box (%(default)s)',
+    )
+    parser.add_argument(
+        '--anew', action='store_true', help='begin again, without the parts that are kept'
+    )
 
 
 def run(arguments: argparse.Namespace) -> int:
     """Gets the extract; answers with the exit code."""
     ways = {'--api': of_api, '--overpass': of_overpass, '--from': of_file}
-    given = [name for name, value in zip(ways, (
-        arguments.api, arguments.overpass, arguments.from_file)) if value]
+    given = [
+        name
+        for name, value in zip(ways, (arguments.api, arguments.overpass, arguments.from_file))
+        if value
+    ]
     if len(given) != 1:
         raise Usage('one of --api, --overpass and --from says where the data comes from')
     check_words(arguments, given[0])
@@ -63,9 +88,14 @@ def run(arguments: argparse.Namespace) -> int:
         ways[given[0]](arguments, folder)
     except NoAnswer as silence:
         kept = len(folder.all())
-        raise NoAnswer(f'{silence}; ' + (
-            f'{kept} parts are kept: the same command goes on with them' if kept
-            else 'nothing was written')) from None
+        raise NoAnswer(
+            f'{silence}; '
+            + (
+                f'{kept} parts are kept: the same command goes on with them'
+                if kept
+                else 'nothing was written'
+            )
+        ) from None
     finally:
         folder.remove_if_empty()
     results.put(file=arguments.to)
@@ -75,8 +105,10 @@ def run(arguments: argparse.Namespace) -> int:
 
 def check_words(arguments: argparse.Namespace, way: str) -> None:
     """Usage if words don't go with the place from which the data comes."""
-    others = {'--query': (arguments.query, '--overpass'),
-              '--polygon': (arguments.polygon, '--from')}
+    others = {
+        '--query': (arguments.query, '--overpass'),
+        '--polygon': (arguments.polygon, '--from'),
+    }
     for name, (value, wanted) in others.items():
         if value and way != wanted:
             raise Usage(f'{name} goes with {wanted}')
@@ -117,8 +149,10 @@ def of_api(arguments: argparse.Namespace, folder: Parts) -> None:
     several = f', between {found.first} and {found.last}' if found.first != found.last else ''
     print(f'{arguments.to}: {found.whole.counts()}, by {found.calls} calls{several}')
     if found.whole.changed:
-        print(f'{len(found.whole.changed)} objects changed between two calls: the newest version '
-              'of each is in the file')
+        print(
+            f'{len(found.whole.changed)} objects changed between two calls: the newest version '
+            'of each is in the file'
+        )
     if found.fetched_after:
         print(f'{found.fetched_after} nodes of ways were asked for after that')
     tell_whole(found.whole, found.first)
@@ -138,7 +172,7 @@ def of_overpass(arguments: argparse.Namespace, folder: Parts) -> None:
         try:
             whole, moment = overpass.read(path, query)
         except Trouble:
-            pathlib.Path(path).unlink()     # the same answer would be refused again
+            pathlib.Path(path).unlink()  # the same answer would be refused again
             raise
         if not whole.lines:
             folder.remove()
@@ -159,15 +193,18 @@ def of_file(arguments: argparse.Namespace, folder: Parts) -> None:
     request = {'from': arguments.from_file, 'where': arguments.bbox or arguments.polygon}
     with folder.held(request, arguments.anew):
         try:
-            place = cutting.cut(arguments.from_file, wanted, arguments.polygon, arguments.strategy,
-                                folder)
+            place = cutting.cut(
+                arguments.from_file, wanted, arguments.polygon, arguments.strategy, folder
+            )
             source = pathlib.Path(arguments.from_file).name
             counts, newest = cutting.copy(place, arguments.to, moment, source)
         finally:
             folder.remove()
-    print(f'{arguments.to}: {counts["n"]} nodes, {counts["w"]} ways, {counts["r"]} relations, '
-          f'by osmium in {time.monotonic() - began:.1f} s')
-    results.put(missing=None)       # osmium doesn't count them
+    print(
+        f'{arguments.to}: {counts["n"]} nodes, {counts["w"]} ways, {counts["r"]} relations, '
+        f'by osmium in {time.monotonic() - began:.1f} s'
+    )
+    results.put(missing=None)  # osmium doesn't count them
     tell_counts(counts)
     tell_moment(moment, newest)
 
@@ -184,8 +221,12 @@ def tell_whole(whole: Whole, moment: Optional[str]) -> None:
 
 def tell_counts(counts: Dict[str, int]) -> None:
     """Gives the number of objects of each kind as data."""
-    results.put(counts={name: counts.get(letter, 0) for letter, name in (
-        ('n', 'nodes'), ('w', 'ways'), ('r', 'relations'))})
+    results.put(
+        counts={
+            name: counts.get(letter, 0)
+            for letter, name in (('n', 'nodes'), ('w', 'ways'), ('r', 'relations'))
+        }
+    )
 
 
 def tell_moment(moment: Optional[str], newest: Optional[str]) -> None:

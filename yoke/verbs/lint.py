@@ -13,7 +13,9 @@ do` would run it. Nothing is run. A line that is none ends with 1."""
 
 
 def add_arguments(parser: argparse.ArgumentParser) -> None:
-    parser.add_argument('scripts', metavar='SCRIPT', nargs='+', help='a file of lines; - is standard input')
+    parser.add_argument(
+        'scripts', metavar='SCRIPT', nargs='+', help='a file of lines; - is standard input'
+    )
 
 
 def run(arguments: argparse.Namespace) -> int:
@@ -30,19 +32,43 @@ def run(arguments: argparse.Namespace) -> int:
 def findings(data: bytes) -> List[lint.Finding]:
     """What is wrong with a script, with the numbers of its own lines."""
     if len(data) > lint.LARGEST:
-        return [lint.Finding(0, '', 'the script has {} bytes, and {} are the most'.format(len(data), lint.LARGEST), 'put new objects into a file, and import it')]
+        return [
+            lint.Finding(
+                0,
+                '',
+                f'the script has {len(data)} bytes, and {lint.LARGEST} are the most',
+                'put new objects into a file, and import it',
+            )
+        ]
     lines = grammar.lines_of(grammar.text_of(data))
     try:
         expanded = names.expand(lines, 1, count)
     except names.BadName as fault:
-        return [lint.Finding(fault.line, lines[fault.line - 1], str(fault), 'names are explained by yoke expand --help')]
-    return [lint.Finding(expanded.numbers[found.line - 1], lines[expanded.numbers[found.line - 1] - 1], found.cause, found.right, found.is_mend)
-            for found in lint.findings(expanded.lines, short=True)]
+        return [
+            lint.Finding(
+                fault.line,
+                lines[fault.line - 1],
+                str(fault),
+                'names are explained by yoke expand --help',
+            )
+        ]
+    return [
+        lint.Finding(
+            expanded.numbers[found.line - 1],
+            lines[expanded.numbers[found.line - 1] - 1],
+            found.cause,
+            found.right,
+            found.is_mend,
+        )
+        for found in lint.findings(expanded.lines, short=True)
+    ]
 
 
 def count(word: str) -> int:
     """How many new objects the file of an `import` line has; ValueError where that can't be known."""
     try:
-        return names.new_objects(data_of(grammar.check_text(word, 'the file')).decode('utf-8', 'replace'))
+        return names.new_objects(
+            data_of(grammar.check_text(word, 'the file')).decode('utf-8', 'replace')
+        )
     except (Trouble, grammar.Bad) as why:
         raise ValueError(str(why)) from None

@@ -1,4 +1,6 @@
-"""`yoke log`: what a day did: its sessions, what was sent in which changeset, what was reviewed, and what is left."""
+"""`yoke log`: what a day did: its sessions, what was sent in which changeset, what was reviewed,
+and what is left.
+"""
 
 import argparse
 import re
@@ -12,29 +14,35 @@ from yoke.day import Day
 from yoke.review import shown
 from yoke.session import Session
 
-SUMMARY = 'show what the day did: sessions, changesets with their links, what was reviewed, what is left'
+SUMMARY = (
+    'show what the day did: sessions, changesets with their links, what was reviewed, what is left'
+)
 DETAILS = """It reads the folder of the day alone, and asks no server. --kinds counts what was sent by the kind of edit, such as
 `12 × wheelchair: (none) → yes`; where a session is no longer kept, by what was edited."""
 VERBS = {'create': 'new', 'modify': 'changed', 'delete': 'deleted'}
-MOST_KINDS = 30         # kinds that are shown of one changeset
+MOST_KINDS = 30  # kinds that are shown of one changeset
 
 
 @dataclass
 class Sent:
-    """A changeset of the day: its tags if they are known, the times of its first and last document, and what it took."""
+    """A changeset of the day: its tags if they are known, the times of its first and last document,
+    and what it took.
+    """
 
     number: str
     tags: Dict[str, str] = field(default_factory=dict)
     times: List[float] = field(default_factory=list)
     documents: int = 0
-    unknown: int = 0        # documents of which it isn't known whether the server took them
+    unknown: int = 0  # documents of which it isn't known whether the server took them
     counts: 'Counter[str]' = field(default_factory=Counter)
     kinds: 'Counter[str]' = field(default_factory=Counter)
 
 
 def add_arguments(parser: argparse.ArgumentParser) -> None:
     """The words of the verb."""
-    parser.add_argument('--kinds', action='store_true', help='count what was sent by the kind of edit')
+    parser.add_argument(
+        '--kinds', action='store_true', help='count what was sent by the kind of edit'
+    )
 
 
 def run(arguments: argparse.Namespace) -> int:
@@ -54,9 +62,17 @@ def run(arguments: argparse.Namespace) -> int:
         if 'sent' in entry:
             print(ended(entry))
     total = sum(sum(one.counts.values()) for one in found)
-    print(f'{total} changes sent in {len(found)} changesets; left: {counts["changed"]} edited, {counts["conflicts"]} in conflict')
-    results.put(session=results.of_state(last), server=server or None, account=account.name if account else None,
-                changesets=[data(one, server) for one in found], sends=[entry for entry in entries if 'sent' in entry], counts=counts)
+    print(
+        f'{total} changes sent in {len(found)} changesets; left: {counts["changed"]} edited, {counts["conflicts"]} in conflict'
+    )
+    results.put(
+        session=results.of_state(last),
+        server=server or None,
+        account=account.name if account else None,
+        changesets=[data(one, server) for one in found],
+        sends=[entry for entry in entries if 'sent' in entry],
+        counts=counts,
+    )
     return 0
 
 
@@ -65,7 +81,11 @@ def run(arguments: argparse.Namespace) -> int:
 
 def changesets(day: Day, entries: List[journal.Entry], has_kinds: bool) -> List[Sent]:
     """The changesets of a day by its documents, in the order of these."""
-    tags = {str(entry['changeset']): entry.get('tags') or {} for entry in entries if 'changeset' in entry}
+    tags = {
+        str(entry['changeset']): entry.get('tags') or {}
+        for entry in entries
+        if 'changeset' in entry
+    }
     sessions = {state.number: state for state in day.states()}
     found: Dict[str, Sent] = {}
     for path in sorted(day.folder.glob('*.osc')):
@@ -93,7 +113,9 @@ def kind_of(verb: str, thing: opl.Object, known: Optional[saved.Known]) -> str:
     if known is not None and known.edit is not None:
         return shown.kind_between(thing.key, known.edit, known.there, known.mine)
     kind = opl.KINDS[thing.key[0]]
-    return f'{VERBS[verb]} {kind}' + (f': {shown.main_tag(sorted(thing.tags))}' if verb != 'delete' else '')
+    return f'{VERBS[verb]} {kind}' + (
+        f': {shown.main_tag(sorted(thing.tags))}' if verb != 'delete' else ''
+    )
 
 
 def moment(seconds: float) -> str:
@@ -106,7 +128,9 @@ def told(one: Sent, server: str, account: str) -> Iterator[str]:
     yield f'changeset {one.number} {api.link(server, one.number)}'
     by = f' by {printing.line(account)}' if account else ''
     texts = [printing.line(one.tags[name]) for name in ('comment', 'source') if name in one.tags]
-    yield f'    {moment(min(one.times))} to {moment(max(one.times))}{by}' + (f': {", ".join(texts)}' if texts else '')
+    yield f'    {moment(min(one.times))} to {moment(max(one.times))}{by}' + (
+        f': {", ".join(texts)}' if texts else ''
+    )
     parts = ', '.join(f'{one.counts[name]} {name}' for name in VERBS.values())
     yield f'    {sum(one.counts.values())} changes in {one.documents} documents: {parts}'
     if one.unknown:
@@ -122,13 +146,28 @@ def ended(entry: journal.Entry) -> str:
     left = entry.get('left') or {}
     reviewed = entry.get('reviewed')
     parts = [f'{entry["at"].replace("T", " ")} send: {entry["sent"]} changes']
-    parts += [', '.join(f'{count} {how}' for how, count in reviewed.items()) + ' in the review'] if reviewed else []
+    parts += (
+        [', '.join(f'{count} {how}' for how, count in reviewed.items()) + ' in the review']
+        if reviewed
+        else []
+    )
     parts += [f'{count} left, {why}' for why, count in left.items()]
-    parts += [f'ended early: {printing.line(str(entry["trouble"]))}'] if entry.get('trouble') else []
+    parts += (
+        [f'ended early: {printing.line(str(entry["trouble"]))}'] if entry.get('trouble') else []
+    )
     return '; '.join(parts)
 
 
 def data(one: Sent, server: str) -> Dict[str, Any]:
     """A changeset as `--json` has it."""
-    return {'number': one.number, 'link': api.link(server, one.number), 'tags': one.tags, 'documents': one.documents, 'unknown': one.unknown,
-            'counts': dict(one.counts), 'kinds': dict(one.kinds), 'first': moment(min(one.times)), 'last': moment(max(one.times))}
+    return {
+        'number': one.number,
+        'link': api.link(server, one.number),
+        'tags': one.tags,
+        'documents': one.documents,
+        'unknown': one.unknown,
+        'counts': dict(one.counts),
+        'kinds': dict(one.kinds),
+        'first': moment(min(one.times)),
+        'last': moment(max(one.times)),
+    }

@@ -26,8 +26,10 @@ def run(arguments: argparse.Namespace) -> int:
     results.put(server=place.server, revoked=is_revoked)
     print(f'logged out {place.words}')
     if not is_revoked:
-        print('the token may still be good: take it back on the website, where it lists the '
-              'applications that you allowed')
+        print(
+            'the token may still be good: take it back on the website, where it lists the '
+            'applications that you allowed'
+        )
     return 0
 
 
@@ -35,11 +37,13 @@ def revoked(place: accounts.Place) -> bool:
     """Whether the server took the token back."""
     try:
         login = store.read(place.server, place.name)
-    except Refused:         # its time is over
+    except Refused:  # its time is over
         return True
-    except Trouble:         # a file that is broken, or that others can read, has to go all the same
+    except Trouble:  # a file that is broken, or that others can read, has to go all the same
         return False
     try:
         return login is not None and oauth.revoke(login.revoke, login.client_id, login.token)
     except NoAnswer as silence:
-        raise NoAnswer(f'{silence}; the login is kept: the same command again, or --forget') from None
+        raise NoAnswer(
+            f'{silence}; the login is kept: the same command again, or --forget'
+        ) from None

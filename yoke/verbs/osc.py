@@ -24,5 +24,5 @@ def run(arguments: argparse.Namespace) -> int:
         try:
             told = osm_xml.read_osc(data_of(arguments.file))
         except ValueError as error:
-            raise Trouble('{}: {}'.format(arguments.file, error)) from None
+            raise Trouble(f'{arguments.file}: {error}') from None
         return bring_in('osc', session, arguments, told)

@@ -1,4 +1,6 @@
-"""`yoke practice`: a server of API 0.6 on this machine, to try a send on before anything goes to a real map."""
+"""`yoke practice`: a server of API 0.6 on this machine, to try a send on before anything goes to a
+real map.
+"""
 from __future__ import annotations
 
 import argparse
@@ -28,17 +30,31 @@ word practice:
 --dump writes what the server has by now, as OPL."""
 PORT = 8062
 TOKEN = 'practice'
-PATIENCE = 60       # seconds until a server in the background has to answer
+PATIENCE = 60  # seconds until a server in the background has to answer
 PID_FILE = 'practice-{}.pid'
 
 
 def add_arguments(parser: argparse.ArgumentParser) -> None:
-    parser.add_argument('data', metavar='FILE', nargs='?', help='an extract as OPL, or OSM XML where its name ends in .osm')
-    parser.add_argument('--port', metavar='N', type=int, default=PORT, help='the port (%(default)s)')
-    parser.add_argument('--background', action='store_true',
-                        help=f'return once it answers; its process number is in {PID_FILE.format("PORT")}')
-    parser.add_argument('--stop', action='store_true', help='end the one that runs in the background on this port')
-    parser.add_argument('--dump', action='store_true', help='print what the server on this port has now, as OPL')
+    parser.add_argument(
+        'data',
+        metavar='FILE',
+        nargs='?',
+        help='an extract as OPL, or OSM XML where its name ends in .osm',
+    )
+    parser.add_argument(
+        '--port', metavar='N', type=int, default=PORT, help='the port (%(default)s)'
+    )
+    parser.add_argument(
+        '--background',
+        action='store_true',
+        help=f'return once it answers; its process number is in {PID_FILE.format("PORT")}',
+    )
+    parser.add_argument(
+        '--stop', action='store_true', help='end the one that runs in the background on this port'
+    )
+    parser.add_argument(
+        '--dump', action='store_true', help='print what the server on this port has now, as OPL'
+    )
 
 
 def run(arguments: argparse.Namespace) -> int:
@@ -50,7 +66,11 @@ def run(arguments: argparse.Namespace) -> int:
         return stop(arguments.port)
     if arguments.dump:
         return dump(arguments.port)
-    return begin(arguments.data, arguments.port) if arguments.background else serve(arguments.data, arguments.port)
+    return (
+        begin(arguments.data, arguments.port)
+        if arguments.background
+        else serve(arguments.data, arguments.port)
+    )
 
 
 def address(port: int) -> str:
@@ -73,9 +93,14 @@ def serve(data: str, port: int) -> int:
     try:
         server = strict.StrictServer(elements, port, users=users).__enter__()
     except OSError as error:
-        raise Refused(f'port {port} is taken ({error.strerror}): name another one by --port, and in --api too; '
-                      f'if the server there is yours, {stopping(port)} ends it') from None
-    print(f'{address(port)} has {len(elements)} objects; the token is {TOKEN}; Ctrl-C ends it', flush=True)
+        raise Refused(
+            f'port {port} is taken ({error.strerror}): name another one by --port, and in --api too; '
+            f'if the server there is yours, {stopping(port)} ends it'
+        ) from None
+    print(
+        f'{address(port)} has {len(elements)} objects; the token is {TOKEN}; Ctrl-C ends it',
+        flush=True,
+    )
     try:
         threading.Event().wait()
     except KeyboardInterrupt:
@@ -90,12 +115,22 @@ def begin(data: str, port: int) -> int:
         raise Refused(f'{pid_file} is there already: {stopping(port)} ends that server')
     words = [sys.executable, '-m', 'yoke', 'practice', data, '--port', str(port)]
     package = pathlib.Path(__file__).resolve().parents[2]
-    child = subprocess.Popen(words, stdin=subprocess.DEVNULL, stdout=subprocess.PIPE, stderr=subprocess.PIPE, text=True,
-                             start_new_session=True, env={**os.environ, 'PYTHONPATH': str(package)})
+    child = subprocess.Popen(
+        words,
+        stdin=subprocess.DEVNULL,
+        stdout=subprocess.PIPE,
+        stderr=subprocess.PIPE,
+        text=True,
+        start_new_session=True,
+        env={**os.environ, 'PYTHONPATH': str(package)},
+    )
     assert child.stdout is not None and child.stderr is not None
     line = child.stdout.readline()
     if not line:
-        raise Trouble(child.stderr.read().strip().removeprefix('yoke: ') or 'the practice server ended at once')
+        raise Trouble(
+            child.stderr.read().strip().removeprefix('yoke: ')
+            or 'the practice server ended at once'
+        )
     pid_file.write_text(f'{child.pid}\n', encoding='ascii')
     print(f'{line.split(";")[0]}; the token is {TOKEN}; {stopping(port)} ends it')
     return 0
@@ -107,7 +142,9 @@ def stop(port: int) -> int:
     try:
         number = int(pid_file.read_text(encoding='ascii'))
     except FileNotFoundError:
-        raise Refused(f'there is no {pid_file} here: no practice server was started from this folder on port {port}') from None
+        raise Refused(
+            f'there is no {pid_file} here: no practice server was started from this folder on port {port}'
+        ) from None
     except ValueError:
         raise Trouble(f'{pid_file} has no process number in it') from None
     if not is_practice(number):

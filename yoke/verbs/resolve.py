@@ -31,33 +31,45 @@ def add_arguments(parser: argparse.ArgumentParser) -> None:
 def run(arguments: argparse.Namespace) -> int:
     """Resolves; answers with the exit code."""
     named = None if arguments.key == 'all' else arguments.key.split(',')
-    now, keys = settle(Session.of(arguments), named, words(arguments.how, arguments.words), conflicts.show)
+    now, keys = settle(
+        Session.of(arguments), named, words(arguments.how, arguments.words), conflicts.show
+    )
     for key in keys:
-        print('resolved {}: {}'.format(key, outcome(now.get(key))))
-    results.put(resolved={key: outcome(now.get(key)) for key in keys}, left=[key for key, one in now.items() if one.conflict != 'none'])
+        print(f'resolved {key}: {outcome(now.get(key))}')
+    results.put(
+        resolved={key: outcome(now.get(key)) for key in keys},
+        left=[key for key, one in now.items() if one.conflict != 'none'],
+    )
     left = sum(one.conflict != 'none' for one in now.values())
-    print('{} in conflict'.format(left))
+    print(f'{left} in conflict')
     return 0
 
 
-def settle(session: Session, named: Optional[Sequence[str]], step: str, tell: Callable[[Known], object]) -> Tuple[Dict[str, Known], List[str]]:
-    """Ends the conflicts of the objects with these keys, or of all where it is None, by the words of `resolve` after the key.
+def settle(
+    session: Session, named: Optional[Sequence[str]], step: str, tell: Callable[[Known], object]
+) -> Tuple[Dict[str, Known], List[str]]:
+    """Ends the conflicts of the objects with these keys, or of all where it is None, by the words
+    of `resolve` after the key.
 
-    `tell` is called with each before it is resolved. Answers with the objects as they are now, and the keys of those that were
-    resolved.
+    `tell` is called with each before it is resolved. Answers with the objects as they are now, and
+    the keys of those that were resolved.
     """
     for key in named or ():
         if not opl.KEY.fullmatch(key):
-            raise Usage('a key is n, w or r and a number, as w5, and not {}'.format(key))
+            raise Usage(f'a key is n, w or r and a number, as w5, and not {key}')
     with session.day.locked():
         known = session.known()
-        keys = list(named) if named is not None else [key for key, one in known.items() if one.conflict != 'none']
+        keys = (
+            list(named)
+            if named is not None
+            else [key for key, one in known.items() if one.conflict != 'none']
+        )
         if not keys:
             raise Refused('nothing is in conflict')
         for key in keys:
             if key in known and known[key].conflict != 'none':
                 tell(known[key])
-        session.edit('resolve', ['resolve {} {}'.format(key, step) for key in keys])
+        session.edit('resolve', [f'resolve {key} {step}' for key in keys])
         now = session.known()
         chosen = choices.made(known, now, keys)
         choices.keep(session.day, chosen, ledger.name_of_user(None))
@@ -72,11 +84,17 @@ def words(how: str, rest: Sequence[str]) -> str:
         return 'mix {} {}'.format(*rest)
     if how == 'parts' and rest and rest[0] in SIDES:
         return 'parts {} K{}'.format(rest[0], ','.join(map(opl.escape, rest[1:])))
-    raise Usage('resolve KEY mine, KEY theirs, KEY mix SIDE SIDE, or KEY parts SIDE [TAG..], where a SIDE is mine or theirs')
+    raise Usage(
+        'resolve KEY mine, KEY theirs, KEY mix SIDE SIDE, or KEY parts SIDE [TAG..], where a SIDE is mine or theirs'
+    )
 
 
 def outcome(known: Optional[Known]) -> str:
     """What an object is now, in a few words."""
     if known is None or known.mine is None:
         return 'deleted'
-    return 'as the server has it' if known.edit is None else '; '.join(sides.change(known.there, known.mine))
+    return (
+        'as the server has it'
+        if known.edit is None
+        else '; '.join(sides.change(known.there, known.mine))
+    )

@@ -33,18 +33,44 @@ Without a browser: --list shows what is to be decided, --accept and --reject dec
 
 def add_arguments(parser: argparse.ArgumentParser) -> None:
     """The words of the verb."""
-    parser.add_argument('--to', metavar='FILE.script', default='review.script', help='the script (%(default)s)')
-    parser.add_argument('--force', action='store_true', help='write the script also over a file that yoke didn\'t write')
-    parser.add_argument('--decisions', metavar='FILE', default='review.decisions', help='where decisions are kept (%(default)s)')
-    parser.add_argument('--questions', metavar='NAME', help='show what `yoke conflate --to NAME` asks too')
+    parser.add_argument(
+        '--to', metavar='FILE.script', default='review.script', help='the script (%(default)s)'
+    )
+    parser.add_argument(
+        '--force',
+        action='store_true',
+        help='write the script also over a file that yoke didn\'t write',
+    )
+    parser.add_argument(
+        '--decisions',
+        metavar='FILE',
+        default='review.decisions',
+        help='where decisions are kept (%(default)s)',
+    )
+    parser.add_argument(
+        '--questions', metavar='NAME', help='show what `yoke conflate --to NAME` asks too'
+    )
     page = parser.add_argument_group('the page')
     page.add_argument('--open', action='store_true', help='open the browser')
-    page.add_argument('--port', metavar='N', type=int, default=0, help='the port of the page (any that is free)')
-    page.add_argument('--tiles', metavar='URL', default='', help='tiles as the background, as https://HOST/{z}/{x}/{y}.png; '
-                      'without it nothing is fetched from anywhere')
+    page.add_argument(
+        '--port', metavar='N', type=int, default=0, help='the port of the page (any that is free)'
+    )
+    page.add_argument(
+        '--tiles',
+        metavar='URL',
+        default='',
+        help='tiles as the background, as https://HOST/{z}/{x}/{y}.png; '
+        'without it nothing is fetched from anywhere',
+    )
     without = parser.add_argument_group('without a page')
-    without.add_argument('--list', action='store_true', help='print what is to be decided, and how it is decided')
-    without.add_argument('--accept', metavar='KEYS', help='accept these, or `others`: all that is not decided, without conflicts')
+    without.add_argument(
+        '--list', action='store_true', help='print what is to be decided, and how it is decided'
+    )
+    without.add_argument(
+        '--accept',
+        metavar='KEYS',
+        help='accept these, or `others`: all that is not decided, without conflicts',
+    )
     without.add_argument('--reject', metavar='KEYS', help='reject these, or `others`')
     without.add_argument('--write', action='store_true', help='write the script')
 
@@ -52,9 +78,18 @@ def add_arguments(parser: argparse.ArgumentParser) -> None:
 def run(arguments: argparse.Namespace) -> int:
     """Serves the page, or decides, lists and writes without it."""
     questions = Questions(arguments.questions) if arguments.questions else None
-    one = Review(Session.of(arguments), arguments.decisions, arguments.to, arguments.tiles, questions, arguments.force)
+    one = Review(
+        Session.of(arguments),
+        arguments.decisions,
+        arguments.to,
+        arguments.tiles,
+        questions,
+        arguments.force,
+    )
     if one.decisions.stale:
-        note(f'{one.decisions.stale} objects were decided with other contents: they are to be decided anew')
+        note(
+            f'{one.decisions.stale} objects were decided with other contents: they are to be decided anew'
+        )
     if arguments.accept or arguments.reject or arguments.list or arguments.write:
         without_page(one, arguments)
         return 0
@@ -80,7 +115,9 @@ def without_page(one: Review, arguments: argparse.Namespace) -> None:
         print(one.finish())
     one.decisions.close()
     print(counted(one))
-    results.put(items=list(data(one)), counts=dict(one.counts()), script=one.to if arguments.write else None)
+    results.put(
+        items=list(data(one)), counts=dict(one.counts()), script=one.to if arguments.write else None
+    )
 
 
 def data(one: Review) -> Iterator[Dict[str, Optional[str]]]:
@@ -89,8 +126,15 @@ def data(one: Review) -> Iterator[Dict[str, Optional[str]]]:
     for key in one.found.items if results.wanted() else ():
         item = shown.item_of(one.found, key)
         how = one.decisions.how.get(key, UNDECIDED)
-        yield {'key': key, 'state': one.state_of(key), 'decision': how, 'because': others.get(key), 'kind': item['kind'],
-               'title': item['title'], 'of': one.decisions.digests[key]}
+        yield {
+            'key': key,
+            'state': one.state_of(key),
+            'decision': how,
+            'because': others.get(key),
+            'kind': item['kind'],
+            'title': item['title'],
+            'of': one.decisions.digests[key],
+        }
 
 
 def decide(one: Review, arguments: argparse.Namespace) -> None:
@@ -103,12 +147,16 @@ def decide(one: Review, arguments: argparse.Namespace) -> None:
         raise Usage('a key is accepted or rejected, not both')
     for word, how in ((arguments.accept, ACCEPTED), (arguments.reject, REJECTED)):
         if 'others' in (word or '').split(','):
-            pairs += [(key, how) for key in one.found.items if key not in named and is_open(one, key)]
+            pairs += [
+                (key, how) for key in one.found.items if key not in named and is_open(one, key)
+            ]
             named.update(one.found.items)
     try:
         one.decide(pairs)
     except ValueError as fault:
-        raise Refused(f'nothing is decided: {fault}; yoke review --list shows what there is') from None
+        raise Refused(
+            f'nothing is decided: {fault}; yoke review --list shows what there is'
+        ) from None
 
 
 def is_open(one: Review, key: str) -> bool:
@@ -135,7 +183,9 @@ def plain(text: str) -> str:
 def counted(one: Review) -> str:
     """How far the review is."""
     counts = one.counts()
-    return f'{counts[ACCEPTED]} accepted, {counts[REJECTED]} rejected, {counts[UNDECIDED]} not decided'
+    return (
+        f'{counts[ACCEPTED]} accepted, {counts[REJECTED]} rejected, {counts[UNDECIDED]} not decided'
+    )
 
 
 # ---- the page ----
@@ -164,9 +214,13 @@ def serve(one: Review, arguments: argparse.Namespace) -> None:
 
 
 def open_browser(address: str) -> pathlib.Path:
-    """Opens the page by a file that this user alone can read, and gives its name: the words of a command everybody can see."""
+    """Opens the page by a file that this user alone can read, and gives its name: the words of a
+    command everybody can see.
+    """
     folder = os.environ.get('XDG_RUNTIME_DIR')
-    handle, name = tempfile.mkstemp(prefix='yoke-', suffix='.html', dir=folder if folder and os.path.isdir(folder) else None)
+    handle, name = tempfile.mkstemp(
+        prefix='yoke-', suffix='.html', dir=folder if folder and os.path.isdir(folder) else None
+    )
     path = pathlib.Path(name)
     quoted = html.escape(address, quote=True)
     with open(handle, 'w', encoding='utf-8') as file:

@@ -19,7 +19,7 @@ def run(arguments: argparse.Namespace) -> int:
         for key in arguments.keys:
             lines = list(show.lines(session, key)) if opl.KEY.fullmatch(key) else []
             if not lines:
-                raise Refused('there is no {} in the session'.format(key))
+                raise Refused(f'there is no {key} in the session')
             print('\n'.join(lines))
             if results.wanted():
                 results.add('objects', of_object(session, key))
@@ -29,5 +29,16 @@ def run(arguments: argparse.Namespace) -> int:
 def of_object(session: show.Objects, key: str) -> dict[str, Any]:
     """An object with its sides and the keys of its users; one that is only referred to has no side."""
     known = session.get(key)
-    sides = results.of_known(known) if known else {'key': key, 'edit': None, 'conflict': None, 'base': None, 'mine': None, 'theirs': None}
+    sides = (
+        results.of_known(known)
+        if known
+        else {
+            'key': key,
+            'edit': None,
+            'conflict': None,
+            'base': None,
+            'mine': None,
+            'theirs': None,
+        }
+    )
     return {**sides, 'used_by': session.users(key)}

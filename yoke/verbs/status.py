@@ -19,14 +19,24 @@ def run(arguments: argparse.Namespace) -> int:
     day, last = session.day, session.day.last()
     counts, changeset = session.ask(['count']).counts(), noted(day)
     server = (day.read('server') or '').strip()
-    results.put(session=results.of_state(last), counts=counts, server=server or None, pending=day.pending(),
-                changeset=changeset.number if changeset else None, next=advice(day, counts))
-    print('session {} by {}, in {}'.format(last.number, last.verb, day.folder))
-    print('{nodes} nodes, {ways} ways, {relations} relations; {changed} edited, {conflicts} in conflict'.format(**counts))
+    results.put(
+        session=results.of_state(last),
+        counts=counts,
+        server=server or None,
+        pending=day.pending(),
+        changeset=changeset.number if changeset else None,
+        next=advice(day, counts),
+    )
+    print(f'session {last.number} by {last.verb}, in {day.folder}')
+    print(
+        '{nodes} nodes, {ways} ways, {relations} relations; {changed} edited, {conflicts} in conflict'.format(
+            **counts
+        )
+    )
     if server:
-        print('server {}'.format(server))
+        print(f'server {server}')
     if changeset:
-        print('changeset {} is open'.format(changeset.number))
+        print(f'changeset {changeset.number} is open')
     print(advice(day, counts))
     return 0
 
@@ -34,10 +44,14 @@ def run(arguments: argparse.Namespace) -> int:
 def advice(day: Day, counts: Mapping[str, int]) -> str:
     """The next step."""
     if day.pending():
-        return 'it isn\'t known what the server took of {}: yoke send looks, and goes on'.format(day.pending())
+        return 'it isn\'t known what the server took of {}: yoke send looks, and goes on'.format(
+            day.pending()
+        )
     held = day.held()
     if held:
-        return 'a send was stopped while {} edits were held back, which aren\'t counted here: the same yoke send goes on'.format(len(held.keys))
+        return 'a send was stopped while {} edits were held back, which aren\'t counted here: the same yoke send goes on'.format(
+            len(held.keys)
+        )
     if counts['conflicts']:
         return 'yoke conflicts shows what clashes, and yoke resolve settles it'
     if counts['changed']:

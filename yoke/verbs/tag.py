@@ -31,7 +31,20 @@ nothing. A column `old:KEY` has what the tag KEY has to be still: where it is so
 Rows that find no object, or several, are listed too. docs/TABLES.md lists what is taken for suspicious.
 
 With --to FILE nothing is tagged: FILE becomes a script for `yoke do`, which takes it over this session alone."""
-OF_TABLE = ('key', 'rules', 'columns', 'where', 'within', 'among', 'only_if_still', 'lists', 'encoding', 'lon', 'lat', 'keep')
+OF_TABLE = (
+    'key',
+    'rules',
+    'columns',
+    'where',
+    'within',
+    'among',
+    'only_if_still',
+    'lists',
+    'encoding',
+    'lon',
+    'lat',
+    'keep',
+)
 
 
 def add_arguments(parser: argparse.ArgumentParser) -> None:
@@ -40,25 +53,64 @@ def add_arguments(parser: argparse.ArgumentParser) -> None:
     which.add_argument('--find', metavar='QUERY', help='the objects that meet it')
     which.add_argument('--keys', metavar='KEYS', help='these objects, with commas between them')
     which.add_argument('--csv', metavar='FILE', help='a table with a row for each object')
-    parser.add_argument('--to', metavar='FILE', help='tag nothing, and write a script that would; - is standard output')
-    parser.add_argument('--force', action='store_true', help='with --to: also over a file that yoke didn\'t write')
+    parser.add_argument(
+        '--to',
+        metavar='FILE',
+        help='tag nothing, and write a script that would; - is standard output',
+    )
+    parser.add_argument(
+        '--force', action='store_true', help='with --to: also over a file that yoke didn\'t write'
+    )
     do.add_accept(parser)
     of_table = parser.add_argument_group('of a table')
-    of_table.add_argument('--columns', metavar='NAMES', action='append', help='the columns that become tags, with commas between them')
-    of_table.add_argument('--tags', metavar='RULES', dest='rules', help='a file of rules by which columns become tags, as that of import')
+    of_table.add_argument(
+        '--columns',
+        metavar='NAMES',
+        action='append',
+        help='the columns that become tags, with commas between them',
+    )
+    of_table.add_argument(
+        '--tags',
+        metavar='RULES',
+        dest='rules',
+        help='a file of rules by which columns become tags, as that of import',
+    )
     of_table.add_argument('--key', metavar='COLUMN', help='the column that names the object')
-    of_table.add_argument('--where', metavar='KEY=VALUE', action='append',
-                          help='a tag that the object has to have, with {COLUMN} for what the row has; may come again')
-    of_table.add_argument('--within', metavar='METRES', type=float, help='how far it may be from the row\'s longitude and latitude')
-    of_table.add_argument('--among', metavar='QUERY', help='only objects that meet it are looked at by --where')
+    of_table.add_argument(
+        '--where',
+        metavar='KEY=VALUE',
+        action='append',
+        help='a tag that the object has to have, with {COLUMN} for what the row has; may come again',
+    )
+    of_table.add_argument(
+        '--within',
+        metavar='METRES',
+        type=float,
+        help='how far it may be from the row\'s longitude and latitude',
+    )
+    of_table.add_argument(
+        '--among', metavar='QUERY', help='only objects that meet it are looked at by --where'
+    )
     of_table.add_argument('--lon', metavar='COLUMN', help='the column of the longitude')
     of_table.add_argument('--lat', metavar='COLUMN', help='the column of the latitude')
-    of_table.add_argument('--only-if-still', metavar='KEY=VALUE', action='append',
-                          help='only objects whose tag KEY is VALUE now, with {COLUMN} for what the row has; empty: that have none')
-    of_table.add_argument('--lists', metavar='NAME', help='write the rows that found one object, none or several, and those whose '
-                          'object has changed, into NAME-one.csv, NAME-none.csv, NAME-several.csv and NAME-changed.csv')
-    of_table.add_argument('--encoding', metavar='NAME', help='the encoding of the table, such as cp1252; else UTF-8')
-    of_table.add_argument('--keep', action='store_true', help='keep what was done although rows were refused')
+    of_table.add_argument(
+        '--only-if-still',
+        metavar='KEY=VALUE',
+        action='append',
+        help='only objects whose tag KEY is VALUE now, with {COLUMN} for what the row has; empty: that have none',
+    )
+    of_table.add_argument(
+        '--lists',
+        metavar='NAME',
+        help='write the rows that found one object, none or several, and those whose '
+        'object has changed, into NAME-one.csv, NAME-none.csv, NAME-several.csv and NAME-changed.csv',
+    )
+    of_table.add_argument(
+        '--encoding', metavar='NAME', help='the encoding of the table, such as cp1252; else UTF-8'
+    )
+    of_table.add_argument(
+        '--keep', action='store_true', help='keep what was done although rows were refused'
+    )
 
 
 def run(arguments: argparse.Namespace) -> int:
@@ -68,11 +120,21 @@ def run(arguments: argparse.Namespace) -> int:
         return tag_rows(Session.of(arguments), arguments)
     for name in OF_TABLE:
         if getattr(arguments, name):
-            raise Usage('--{} is of a table: --csv'.format('tags' if name == 'rules' else name.replace('_', '-')))
+            raise Usage(
+                '--{} is of a table: --csv'.format(
+                    'tags' if name == 'rules' else name.replace('_', '-')
+                )
+            )
     tags, session = pairs(arguments.tags), Session.of(arguments)
     with session.day.locked():
-        keys, lines = steps(session, tags, arguments.keys.split(',') if arguments.keys else None, arguments.find, arguments.accept,
-                            note if arguments.to == '-' else print)
+        keys, lines = steps(
+            session,
+            tags,
+            arguments.keys.split(',') if arguments.keys else None,
+            arguments.find,
+            arguments.accept,
+            note if arguments.to == '-' else print,
+        )
         results.put(keys=keys, rows=None, listed=[], steps=[], file=None, session=None)
         if arguments.to:
             return write(session, arguments, lines)
@@ -81,15 +143,23 @@ def run(arguments: argparse.Namespace) -> int:
             results.put(session=results.of_state(session.day.last()))
     print('{} object{} tagged'.format(len(keys), '' if len(keys) == 1 else 's'))
     if keys:
-        print('kept as {}'.format(session.day.last().path))
+        print(f'kept as {session.day.last().path}')
     return 0
 
 
-def steps(session: Session, tags: Dict[str, str], named: Optional[Sequence[str]], query: Optional[str], accept: Optional[Iterable[str]],
-          tell: Callable[[str], object]) -> Tuple[List[str], List[str]]:
-    """The keys of the named objects, or of those that a query finds, and the lines that set their tags; the folder of the day has to be locked.
+def steps(
+    session: Session,
+    tags: Dict[str, str],
+    named: Optional[Sequence[str]],
+    query: Optional[str],
+    accept: Optional[Iterable[str]],
+    tell: Callable[[str], object],
+) -> Tuple[List[str], List[str]]:
+    """The keys of the named objects, or of those that a query finds, and the lines that set their
+    tags; the folder of the day has to be locked.
 
-    `tell` gets each line about what is left out. Refused where all objects of a query would get what each has for itself.
+    `tell` gets each line about what is left out. Refused where all objects of a query would get
+    what each has for itself.
     """
     accepted = Accepted.of(accept)
     keys = list(named) if named is not None else found(session, query or '')
@@ -109,7 +179,7 @@ def write(session: Session, arguments: argparse.Namespace, lines: List[str]) -> 
     bound.write(arguments.to, lines, session.day.last(), arguments.force)
     results.put(file=arguments.to)
     if arguments.to != '-':
-        print('wrote {}: yoke do {} tags'.format(arguments.to, arguments.to))
+        print(f'wrote {arguments.to}: yoke do {arguments.to} tags')
     return 0
 
 
@@ -119,7 +189,9 @@ def pairs(words: Sequence[str]) -> Dict[str, str]:
     for word in words:
         key, sign, value = word.partition('=')
         if not key or not sign or key in tags:
-            raise Usage('{} stands twice'.format(key) if key in tags else 'KEY=VALUE is wanted, and not {}'.format(word))
+            raise Usage(
+                f'{key} stands twice' if key in tags else f'KEY=VALUE is wanted, and not {word}'
+            )
         tags[key] = value
     if not tags:
         raise Usage('KEY=VALUE is wanted, or KEY= to take a tag away')
@@ -132,7 +204,7 @@ def pairs(words: Sequence[str]) -> Dict[str, str]:
 
 def found(session: Session, query: str) -> List[str]:
     """The keys of what is there and meets a query."""
-    step = 'find ( {} ) and not deleted and not incomplete'.format(query)
+    step = f'find ( {query} ) and not deleted and not incomplete'
     if '\n' in step:
         raise Usage('a query is one line')
     keys: List[str] = session.ask([step]).found()
@@ -140,9 +212,11 @@ def found(session: Session, query: str) -> List[str]:
 
 
 def alike(session: Session, keys: Sequence[str], tags: Dict[str, str]) -> List[Suspicion]:
-    """Tags that each object has for itself, and that all objects of a query would get or lose, as the same name for all shops.
+    """Tags that each object has for itself, and that all objects of a query would get or lose, as
+    the same name for all shops.
 
-    What has one value in all of them, such as the old name of a street, may be changed in all of them.
+    What has one value in all of them, such as the old name of a street, may be changed in all of
+    them.
     """
     individual = [key for key in tags if suspicions.is_individual(key)]
     if len(keys) < 2 or not individual:
@@ -154,6 +228,7 @@ def alike(session: Session, keys: Sequence[str], tags: Dict[str, str]) -> List[S
 
 # ---- a table ----
 
+
 def tag_rows(session: Session, arguments: argparse.Namespace) -> int:
     """Sets the tags of a table, a step for each row that has any; the exit code."""
     accepted, notes = Accepted.of(arguments.accept), Counter[str]()
@@ -164,17 +239,29 @@ def tag_rows(session: Session, arguments: argparse.Namespace) -> int:
         keys = () if search.keys else tag_table.key_columns(sheet.names, arguments.key)
         places = place_columns(arguments, sheet, search)
     except ValueError as error:
-        raise Trouble('{}: {}'.format(arguments.csv, error)) from None
+        raise Trouble(f'{arguments.csv}: {error}') from None
     guards = tag_table.guards(sheet.names, arguments.only_if_still or ())
-    mapping = mapping_of(arguments, sheet, keys, [*search.columns, *(places or ()), *(name for rule in guards for name in rule.properties)], accepted)
+    mapping = mapping_of(
+        arguments,
+        sheet,
+        keys,
+        [*search.columns, *(places or ()), *(name for rule in guards for name in rule.properties)],
+        accepted,
+    )
     rows = tag_table.rows_of(sheet, keys, mapping, guards, notes)
-    accepted.stop([*tag_plan.of_sheet(sheet, mapping, [*keys, *search.columns]),
-                   *suspicions.of_tags([row.tags for row in rows if row.tags])])
+    accepted.stop(
+        [
+            *tag_plan.of_sheet(sheet, mapping, [*keys, *search.columns]),
+            *suspicions.of_tags([row.tags for row in rows if row.tags]),
+        ]
+    )
     with session.day.locked():
         found_table = table.read(session.day.last().text())
         plan = tag_plan.Plan(tag_table.each_once(rows))
         if search.keys:
-            index = row_search.Index(search, found_table, found(session, search.query(arguments.among or '')))
+            index = row_search.Index(
+                search, found_table, found(session, search.query(arguments.among or ''))
+            )
             plan = tag_plan.matched(rows, index, places, sheet.sign)
         plan = tag_plan.guarded(plan, found_table)
         holding = choices.Choices(choices.of_day(session.day), found_table.things, accepted)
@@ -193,27 +280,51 @@ def check_words(arguments: argparse.Namespace, search: row_search.Search) -> Non
     if (arguments.within is not None or arguments.among) and not search.keys:
         raise Usage('--within and --among go with --where')
     if arguments.lists:
-        check_outputs([f'{arguments.lists}-{name}.csv' for name in tag_plan.LISTS], filter(None, [arguments.csv, arguments.rules]), arguments.day)
+        check_outputs(
+            [f'{arguments.lists}-{name}.csv' for name in tag_plan.LISTS],
+            filter(None, [arguments.csv, arguments.rules]),
+            arguments.day,
+        )
 
 
-def place_columns(arguments: argparse.Namespace, sheet: Sheet, search: row_search.Search) -> Optional[Tuple[str, str]]:
-    """The columns of longitude and latitude, where they are wanted; ValueError where there are none."""
+def place_columns(
+    arguments: argparse.Namespace, sheet: Sheet, search: row_search.Search
+) -> Optional[Tuple[str, str]]:
+    """The columns of longitude and latitude, where they are wanted; ValueError where there are
+    none.
+    """
     if search.metres is None:
         return None
     lon, lat = features.place_columns(sheet.names, arguments.lon, arguments.lat)
     return sheet.names[lon], sheet.names[lat]
 
 
-def mapping_of(arguments: argparse.Namespace, sheet: Sheet, keys: Sequence[str], used: Sequence[str], accepted: Accepted) -> Mapping:
+def mapping_of(
+    arguments: argparse.Namespace,
+    sheet: Sheet,
+    keys: Sequence[str],
+    used: Sequence[str],
+    accepted: Accepted,
+) -> Mapping:
     """The rules by which columns become tags."""
     rules = import_.rules(arguments.rules) if arguments.rules else None
     columns.check_names_used([name for name in used if name not in sheet.names], sheet.names)
     old = [name for name in sheet.names if name.startswith(tag_table.OLD)]
-    return columns.mapping_of(rules, arguments.columns, sheet.names, [*keys, *used, *old], sheet.columns(), accepted)
+    return columns.mapping_of(
+        rules, arguments.columns, sheet.names, [*keys, *used, *old], sheet.columns(), accepted
+    )
 
 
-def tell(plan: tag_plan.Plan, sheet: Sheet, arguments: argparse.Namespace, found_table: table.Table, notes: 'Counter[str]') -> None:
-    """Says what becomes of the rows, and writes the lists; on the error stream where a script goes to standard output."""
+def tell(
+    plan: tag_plan.Plan,
+    sheet: Sheet,
+    arguments: argparse.Namespace,
+    found_table: table.Table,
+    notes: 'Counter[str]',
+) -> None:
+    """Says what becomes of the rows, and writes the lists; on the error stream where a script goes
+    to standard output.
+    """
     lines = list(tag_plan.notes_of(notes))
     if arguments.where:
         lines.append(tag_plan.counts(plan))
@@ -229,31 +340,64 @@ def tell(plan: tag_plan.Plan, sheet: Sheet, arguments: argparse.Namespace, found
         (note if arguments.to == '-' else print)(line)
 
 
-def perform(session: Session, arguments: argparse.Namespace, plan: tag_plan.Plan, count: int) -> int:
+def perform(
+    session: Session, arguments: argparse.Namespace, plan: tag_plan.Plan, count: int
+) -> int:
     """Does the edits of a plan; the exit code. The folder of the day has to be locked."""
-    bad, good = [row for row in plan.rows if row.problem], [row for row in plan.rows if row.tags and not row.problem]
-    rows = {'read': count, 'taken': 0, 'refused': len(bad), **{name: len(plan.listed(name)) for name in tag_plan.LISTS}}
-    results.put(keys=[row.key for row in good], rows=rows, listed=listed(plan, bad), steps=[], file=None, session=None)
+    bad, good = [row for row in plan.rows if row.problem], [
+        row for row in plan.rows if row.tags and not row.problem
+    ]
+    rows = {
+        'read': count,
+        'taken': 0,
+        'refused': len(bad),
+        **{name: len(plan.listed(name)) for name in tag_plan.LISTS},
+    }
+    results.put(
+        keys=[row.key for row in good],
+        rows=rows,
+        listed=listed(plan, bad),
+        steps=[],
+        file=None,
+        session=None,
+    )
     for row in bad:
-        print('{}:{}: refused: {}'.format(arguments.csv, row.line, plain(row.problem)))
+        print(f'{arguments.csv}:{row.line}: refused: {plain(row.problem)}')
     if bad and not arguments.keep:
-        raise Refused('nothing is kept: {} of {} rows can\'t be taken: mend these, or --keep takes the others'.format(len(bad), count))
+        raise Refused(
+            'nothing is kept: {} of {} rows can\'t be taken: mend these, or --keep takes the others'.format(
+                len(bad), count
+            )
+        )
     if not good:
-        raise Refused('nothing is kept: no row has a tag' if not plan.changed and len(plan.rows) == count else 'nothing is kept: no row is left to do')
-    steps = Expanded(['tag {} T{}'.format(row.key, opl.tags(row.tags)) for row in good], [row.line for row in good])
+        raise Refused(
+            'nothing is kept: no row has a tag'
+            if not plan.changed and len(plan.rows) == count
+            else 'nothing is kept: no row is left to do'
+        )
+    steps = Expanded(
+        [f'tag {row.key} T{opl.tags(row.tags)}' for row in good],
+        [row.line for row in good],
+    )
     if arguments.to:
         return write(session, arguments, steps.lines)
     answer = do.perform(session, 'tag', arguments.csv, steps, arguments.keep)
     do.show(arguments.csv, answer, kept=True)
     code = do.end(session, answer, arguments.keep)
     rows['taken'] = len(good) - len(answer.refused())
-    print('{} of {} rows taken'.format(len(good) - len(answer.refused()), count))
+    print(f'{len(good) - len(answer.refused())} of {count} rows taken')
     return 1 if code or bad else 0
 
 
 def listed(plan: tag_plan.Plan, bad: Sequence[tag_table.Row]) -> List[Dict[str, object]]:
-    """The rows that aren't taken as data: the list that has each, its line, and what was found, such as several keys."""
-    found: List[Dict[str, object]] = [{'list': 'refused', 'line': row.line, 'found': row.problem} for row in bad]
+    """The rows that aren't taken as data: the list that has each, its line, and what was found,
+    such as several keys.
+    """
+    found: List[Dict[str, object]] = [
+        {'list': 'refused', 'line': row.line, 'found': row.problem} for row in bad
+    ]
     for name in tag_plan.LISTS[1:]:
-        found += [{'list': name, 'line': row.line, 'found': text} for row, text in plan.listed(name)]
+        found += [
+            {'list': name, 'line': row.line, 'found': text} for row, text in plan.listed(name)
+        ]
     return found

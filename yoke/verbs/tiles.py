@@ -31,17 +31,42 @@ def add_arguments(parser: argparse.ArgumentParser) -> None:
     parser.add_argument('extract', metavar='EXTRACT', help='what osmium reads, best as PBF')
     parser.add_argument('script', metavar='SCRIPT', help='a file of lines; - is standard input')
     parser.add_argument('--to', metavar='NAME', required=True, help='writes NAME.osc and NAME.opl')
-    parser.add_argument('--grid', metavar='NxM', default='4x4', help='columns and rows of tiles (%(default)s)')
-    parser.add_argument('--bbox', metavar='W,S,E,N', help='the box to cut; else that of the extract')
-    parser.add_argument('--workers', metavar='N', type=int, default=4, help='sessions at a time on this machine (%(default)s)')
-    parser.add_argument('--work', metavar='FOLDER', default='tiles', help='where tiles and their results are kept (%(default)s)')
-    parser.add_argument('--since', metavar='EXTRACT', help='an older extract: do only the tiles in which something differs')
-    group = parser.add_argument_group('a cluster of Dask in place of this machine; --work is to be the same folder on all machines')
+    parser.add_argument(
+        '--grid', metavar='NxM', default='4x4', help='columns and rows of tiles (%(default)s)'
+    )
+    parser.add_argument(
+        '--bbox', metavar='W,S,E,N', help='the box to cut; else that of the extract'
+    )
+    parser.add_argument(
+        '--workers',
+        metavar='N',
+        type=int,
+        default=4,
+        help='sessions at a time on this machine (%(default)s)',
+    )
+    parser.add_argument(
+        '--work',
+        metavar='FOLDER',
+        default='tiles',
+        help='where tiles and their results are kept (%(default)s)',
+    )
+    parser.add_argument(
+        '--since',
+        metavar='EXTRACT',
+        help='an older extract: do only the tiles in which something differs',
+    )
+    group = parser.add_argument_group(
+        'a cluster of Dask in place of this machine; --work is to be the same folder on all machines'
+    )
     group.add_argument('--scheduler', metavar='tls://HOST:PORT')
     group.add_argument('--tls-ca-file', metavar='FILE', default='')
     group.add_argument('--tls-cert', metavar='FILE', default='')
     group.add_argument('--tls-key', metavar='FILE', default='')
-    group.add_argument('--in-the-clear', action='store_true', help='a scheduler without TLS: whoever reaches it runs code there')
+    group.add_argument(
+        '--in-the-clear',
+        action='store_true',
+        help='a scheduler without TLS: whoever reaches it runs code there',
+    )
 
 
 def run(arguments: argparse.Namespace) -> int:
@@ -54,10 +79,25 @@ def run(arguments: argparse.Namespace) -> int:
     if not pathlib.Path(arguments.extract).is_file():
         raise Trouble(f'there is no file {arguments.extract}')
     wide, high = grid.read(arguments.grid)
-    where = Where(arguments.workers, arguments.scheduler or '', arguments.tls_ca_file, arguments.tls_cert, arguments.tls_key,
-                  arguments.in_the_clear)
-    asked = engine.Asked(arguments.extract, arguments.script, do.read(arguments.script), wide, high,
-                         pathlib.Path(arguments.work).resolve(), where, arguments.since or '', box(arguments.bbox))
+    where = Where(
+        arguments.workers,
+        arguments.scheduler or '',
+        arguments.tls_ca_file,
+        arguments.tls_cert,
+        arguments.tls_key,
+        arguments.in_the_clear,
+    )
+    asked = engine.Asked(
+        arguments.extract,
+        arguments.script,
+        do.read(arguments.script),
+        wide,
+        high,
+        pathlib.Path(arguments.work).resolve(),
+        where,
+        arguments.since or '',
+        box(arguments.bbox),
+    )
     where.check()
     cluster.library()
     found = engine.run(Program.of(arguments), asked)
@@ -80,15 +120,28 @@ def box(text: str | None) -> tuple[Decimal, Decimal, Decimal, Decimal] | None:
 def show(found: engine.Outcome, name: str, seconds: float) -> int:
     """Says what came; the exit code: 1 where a step was refused."""
     counts = Counter(verb for verb, _ in found.changes)
-    results.put(tiles=found.tiles, skipped=found.skipped, changes=dict(counts), alike=found.alike, seam=found.seam_keys,
-                rounds=found.rounds, refused=[{'session': where, 'step': step, 'why': why} for where, step, why in found.refused],
-                files=[name + '.osc', name + '.opl'])
+    results.put(
+        tiles=found.tiles,
+        skipped=found.skipped,
+        changes=dict(counts),
+        alike=found.alike,
+        seam=found.seam_keys,
+        rounds=found.rounds,
+        refused=[
+            {'session': where, 'step': step, 'why': why} for where, step, why in found.refused
+        ],
+        files=[name + '.osc', name + '.opl'],
+    )
     for where, step, why in found.refused[:20]:
         print(f'{where}: refused: {words.cut(step)}: {words.refusal(why)}')
     if len(found.refused) > 20:
         print(f'... {len(found.refused) - 20} more refused steps')
-    print(f'{found.tiles} tiles, {found.skipped} left out; {found.seam_keys} objects done over the seam, in {found.rounds} rounds; '
-          f'{seconds:.0f} s')
-    print(f'{len(found.changes)} changes in {name}.osc: {counts["create"]} new, {counts["modify"]} changed, {counts["delete"]} deleted')
+    print(
+        f'{found.tiles} tiles, {found.skipped} left out; {found.seam_keys} objects done over the seam, in {found.rounds} rounds; '
+        f'{seconds:.0f} s'
+    )
+    print(
+        f'{len(found.changes)} changes in {name}.osc: {counts["create"]} new, {counts["modify"]} changed, {counts["delete"]} deleted'
+    )
     print(f'next: yoke start {name}.opl; yoke osc {name}.osc; yoke review; yoke send')
     return 1 if found.refused else 0

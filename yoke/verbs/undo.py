@@ -14,7 +14,9 @@ def add_arguments(parser: argparse.ArgumentParser) -> None:
 
 
 def take_back(day: Day) -> Tuple[State, State]:
-    """Takes the last verb back; answers with the session that went, and the one that is the last again."""
+    """Takes the last verb back; answers with the session that went, and the one that is the last
+    again.
+    """
     with day.locked():
         gone = day.take_back()
         last = day.last()
@@ -26,5 +28,9 @@ def run(arguments: argparse.Namespace) -> int:
     """Takes the last verb back; answers with the exit code."""
     gone, last = take_back(Day(arguments.day))
     results.put(taken_back=results.of_state(gone), session=results.of_state(last))
-    print('took back session {} by {}; session {} by {} is the last again'.format(gone.number, gone.verb, last.number, last.verb))
+    print(
+        'took back session {} by {}; session {} by {} is the last again'.format(
+            gone.number, gone.verb, last.number, last.verb
+        )
+    )
     return 0

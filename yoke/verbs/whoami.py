@@ -27,10 +27,16 @@ def run(arguments: argparse.Namespace) -> int:
     except ServerRefused as refused:
         if refused.status != 401:
             raise
-        raise ServerRefused(f'{refused}; if it was given back, yoke logout and yoke login',
-                            401, refused.text) from None
-    results.put(account=name, number=number, server=server.address, may=rights.split(', '),
-                token_from=source(arguments, server.address))
+        raise ServerRefused(
+            f'{refused}; if it was given back, yoke logout and yoke login', 401, refused.text
+        ) from None
+    results.put(
+        account=name,
+        number=number,
+        server=server.address,
+        may=rights.split(', '),
+        token_from=source(arguments, server.address),
+    )
     print(f'{name} ({number}) at {server.address}')
     print(f'may: {rights}')
     print(f'the token is {source(arguments, server.address)}')

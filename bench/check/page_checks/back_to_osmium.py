@@ -11,10 +11,16 @@ osmium sort objects.opl -o town-again.osm.pbf
 
 
 def edited_town(room):
-    """A town of 3,000 objects after 300 random steps of one download, deletions among them; gives the numbers of its `count`."""
+    """A town of 3,000 objects after 300 random steps of one download, deletions among them; gives
+    the numbers of its `count`.
+    """
     room.write('town.opl', town(3000))
     fixes = random_steps(room, 8, 300).decode()
-    steps = [line for line in fixes.splitlines() if line not in ('print', 'count') and not re.match(r'(download\s+town-|resume\s)', line)]
+    steps = [
+        line
+        for line in fixes.splitlines()
+        if line not in ('print', 'count') and not re.match(r'(download\s+town-|resume\s)', line)
+    ]
     said = room.session(*steps, 'count', 'print')
     room.write('out.txt', said)
     return dict(re.findall(r'(\w+) (\d+)', re.search(r'^count (.*)$', said, re.M)[1]))
@@ -30,8 +36,10 @@ def keeps_the_dead_dead(program, recipe, result):
         expect((0, ''), (status, said))
         status, said = room.run(['osmium', 'cat', result, '-f', 'opl'])
         living = [line for line in said.splitlines() if ' dV ' in line]
-        expect([numbers[kind] for kind in ('nodes', 'ways', 'relations')],
-               [str(sum(line.startswith(letter) for line in living)) for letter in 'nwr'])
+        expect(
+            [numbers[kind] for kind in ('nodes', 'ways', 'relations')],
+            [str(sum(line.startswith(letter) for line in living)) for letter in 'nwr'],
+        )
         return said
 
 
@@ -57,10 +65,24 @@ def old_snapshot(program):
 @case('`osmium derive-changes` sees no edit, as its own page says')
 def derive_changes(program):
     with Room(program) as room:
-        room.write('after.opl', ''.join(line + '\n' for line in room.session('download town.opl', 'tag w5 Tref=7', 'print').splitlines()[2:] if line[0] in 'nwr'))
+        room.write(
+            'after.opl',
+            ''.join(
+                line + '\n'
+                for line in room.session(
+                    'download town.opl', 'tag w5 Tref=7', 'print'
+                ).splitlines()[2:]
+                if line[0] in 'nwr'
+            ),
+        )
         expect((0, ''), room.run(['osmium', 'sort', 'town.opl', '-o', 'before.osm.pbf']))
         expect((0, ''), room.run(['osmium', 'sort', 'after.opl', '-o', 'after.osm.pbf']))
-        expect((0, ''), room.run(['osmium', 'derive-changes', 'before.osm.pbf', 'after.osm.pbf', '-o', 'changes.osc']))
+        expect(
+            (0, ''),
+            room.run(
+                ['osmium', 'derive-changes', 'before.osm.pbf', 'after.osm.pbf', '-o', 'changes.osc']
+            ),
+        )
         expect((0, ''), room.run(['osmium', 'cat', 'changes.osc', '-f', 'opl']))
 
 
@@ -69,11 +91,17 @@ def writes_again(room, line):
     expect((0, ''), room.sh(line))
 
 
-@case('what a page has written by osmium it writes a second time, after its section; without -O it does not, and the check sees it')
+@case(
+    'what a page has written by osmium it writes a second time, after its section; without -O it does not, and the check sees it'
+)
 def osmium_again(program):
     for page, _, blocks in all_sections():
-        lines = [line for block in blocks if block.kind == 'sh' and block.words != ['elsewhere']
-                 for line in re.findall(r'^osmium .* -o .*$', block.text, re.M)]
+        lines = [
+            line
+            for block in blocks
+            if block.kind == 'sh' and block.words != ['elsewhere']
+            for line in re.findall(r'^osmium .* -o .*$', block.text, re.M)
+        ]
         if not lines:
             continue
         with room_of(program, page) as room:

@@ -1,4 +1,6 @@
-"""The cases beside the blocks of the pages: a title each, and a function of the program that raises `Wrong`."""
+"""The cases beside the blocks of the pages: a title each, and a function of the program that raises
+`Wrong`.
+"""
 from bench.check.page_checks.page import Wrong
 
 CASES = []
@@ -6,16 +8,18 @@ CASES = []
 
 def case(title):
     """Keeps a function as the case of this title."""
+
     def keep(function):
         CASES.append((title, function))
         return function
+
     return keep
 
 
 def expect(want, got):
     """Both are the same."""
     if want != got:
-        raise Wrong('wanted\n{}got\n{}'.format(indent(str(want)), indent(str(got))))
+        raise Wrong(f'wanted\n{indent(str(want))}got\n{indent(str(got))}')
 
 
 def finds_fault(check):

@@ -18,37 +18,57 @@ def numbers(_):
         try:
             told_right(text_of(page))
         except Wrong as wrong:
-            raise Wrong('{}: {}'.format(page, wrong))
+            raise Wrong(f'{page}: {wrong}')
 
 
 @case('a number that was right once, or that nothing counts, is seen')
 def old_numbers(_):
     counts = counted.numbers()
-    for text in ('tries the {} wrong bodies'.format(counts['edits'] + 1), 'The thirty-two faults that a line can have', 'some 77 crates', '`7 passed, 0 failed`',
-                 '{} runs of 12 whole sessions'.format(counts['runs'])):
+    for text in (
+        'tries the {} wrong bodies'.format(counts['edits'] + 1),
+        'The thirty-two faults that a line can have',
+        'some 77 crates',
+        '`7 passed, 0 failed`',
+        '{} runs of 12 whole sessions'.format(counts['runs']),
+    ):
         finds_fault(lambda: told_right(text))
-    told_right('{} wrong bodies, `{} passed, 0 failed`, two refusals'.format(counts['edits'], counts['passes']))
+    told_right(
+        '{} wrong bodies, `{} passed, 0 failed`, two refusals'.format(
+            counts['edits'], counts['passes']
+        )
+    )
 
 
 @case('the page on installing has the last line of the gate')
 def last_line(_):
     if '`{passes} passed, 0 failed`'.format(**counted.numbers()) not in text_of('docs/INSTALL.md'):
-        raise Wrong('docs/INSTALL.md has no `{passes} passed, 0 failed`'.format(**counted.numbers()))
+        raise Wrong(
+            'docs/INSTALL.md has no `{passes} passed, 0 failed`'.format(**counted.numbers())
+        )
 
 
 def agrees(program, *words):
     """A program of bench/check finds the pages, or the files of which they tell, as they should be."""
-    done = subprocess.run([TOP / 'bench' / 'check' / program, *words], stdout=subprocess.PIPE, stderr=subprocess.STDOUT, text=True)
+    done = subprocess.run(
+        [TOP / 'bench' / 'check' / program, *words],
+        stdout=subprocess.PIPE,
+        stderr=subprocess.STDOUT,
+        text=True,
+    )
     if done.returncode != 0:
         raise Wrong(done.stdout[-4000:])
 
 
-@case('the numbers of definitions are those of `bench/check/believe`, and pages on proofs name only what there is')
+@case(
+    'the numbers of definitions are those of `bench/check/believe`, and pages on proofs name only what there is'
+)
 def definitions(_):
     agrees('believe', '--page')
 
 
-@case('each wrong body of the gate has a promise and each promise one, and pages have readers try only what there is')
+@case(
+    'each wrong body of the gate has a promise and each promise one, and pages have readers try only what there is'
+)
 def promises(_):
     agrees('promises', '--page')
 
@@ -58,18 +78,24 @@ def layers(_):
     agrees('layers')
 
 
-@case('each crate has its row, as `bench/check/crates` makes it, and a promise with names that there are')
+@case(
+    'each crate has its row, as `bench/check/crates` makes it, and a promise with names that there are'
+)
 def entries(_):
     agrees('crates', '--page')
 
 
-@case('the number of calls that are assumed of the system is that of `bench/check/axioms`, and the crates name no other')
+@case(
+    'the number of calls that are assumed of the system is that of `bench/check/axioms`, and the crates name no other'
+)
 def assumed(_):
     agrees('axioms', '--page')
 
 
 @case('each picture of docs/pictures is as `bench/pictures` makes it, and can be read')
 def pictures(_):
-    done = subprocess.run([TOP / 'bench' / 'pictures'], stdout=subprocess.PIPE, stderr=subprocess.STDOUT, text=True)
+    done = subprocess.run(
+        [TOP / 'bench' / 'pictures'], stdout=subprocess.PIPE, stderr=subprocess.STDOUT, text=True
+    )
     if done.returncode != 0:
         raise Wrong(done.stdout[-4000:])

@@ -1,4 +1,6 @@
-"""Pages as their readers have them: headings, links, tables, fenced blocks, and the rules for these that need no program."""
+"""Pages as their readers have them: headings, links, tables, fenced blocks, and the rules for these
+that need no program.
+"""
 import collections
 import functools
 import pathlib
@@ -7,19 +9,25 @@ from collections import namedtuple
 
 TOP = pathlib.Path(__file__).resolve().parents[3]
 FRONT = 'README.md'
-PAGES = [FRONT, 'CONTRIBUTING.md', 'CHANGELOG.md'] + sorted(str(path.relative_to(TOP)) for path in (TOP / 'docs').glob('**/*.md'))
+PAGES = [FRONT, 'CONTRIBUTING.md', 'CHANGELOG.md'] + sorted(
+    str(path.relative_to(TOP)) for path in (TOP / 'docs').glob('**/*.md')
+)
 # pages whose links are tested, but whose blocks aren't run
 OTHERS = ['yoke/README.md']
-COMMANDS = re.compile(r'\s*(\.\.?/editor|yokeorange|yoke|curl|osmium|grep|python3|cd|cp|install|sed|rt) ')
+COMMANDS = re.compile(
+    r'\s*(\.\.?/editor|yokeorange|yoke|curl|osmium|grep|python3|cd|cp|install|sed|rt) '
+)
 # the words of a fence whose block is a file, where a name stands after them
 FILES = ('script', 'opl', 'python', 'answers', 'xml', 'json', 'csv', 'rules')
-MOST_WORDS = 3_500          # of a page that is read at one sitting
+MOST_WORDS = 3_500  # of a page that is read at one sitting
 FEWER_WORDS = {'docs/PROOF.md': 2_800}
 
 Block = namedtuple('Block', 'line kind words text')
 Heading = namedtuple('Heading', 'page line level text anchor')
-Table = namedtuple('Table', 'page line heads rows')         # rows: lists of cells
-Link = namedtuple('Link', 'page line target anchor')        # target: a path from the top, without the anchor
+Table = namedtuple('Table', 'page line heads rows')  # rows: lists of cells
+Link = namedtuple(
+    'Link', 'page line target anchor'
+)  # target: a path from the top, without the anchor
 
 
 class Wrong(Exception):
@@ -27,6 +35,7 @@ class Wrong(Exception):
 
 
 # ---- lines ----
+
 
 @functools.lru_cache(maxsize=None)
 def lines_of(page):
@@ -56,13 +65,18 @@ def text_of(page):
 
 def phrase(pattern):
     """What a pattern's group is, or all of it, in what the pages tell: the same wherever it stands."""
-    found = {hit[hit.lastindex or 0] for page in PAGES for hit in re.finditer(pattern, text_of(page), re.M)}
+    found = {
+        hit[hit.lastindex or 0]
+        for page in PAGES
+        for hit in re.finditer(pattern, text_of(page), re.M)
+    }
     if len(found) != 1:
         raise Wrong('{} unlike places have {}'.format(len(found) or 'no', pattern))
     return found.pop()
 
 
 # ---- blocks ----
+
 
 def sections(page):
     """The sections of a page with fenced blocks: the heading's text and its blocks."""
@@ -75,15 +89,21 @@ def sections(page):
         if fence:
             end = next((i for i in range(at + 1, len(lines)) if lines[i].strip() == '```'), None)
             if end is None:
-                raise Wrong('line {}: the fence is never closed'.format(at + 1))
+                raise Wrong(f'line {at + 1}: the fence is never closed')
             words = fence[2].split() or ['text']
-            text = ''.join(inner[len(fence[1]):] + '\n' for inner in lines[at + 1:end])
+            text = ''.join(inner[len(fence[1]) :] + '\n' for inner in lines[at + 1 : end])
             blocks.append(Block(at + 1, words[0], words[1:], text))
-            shows_its_name(blocks[-1], next((line for line in lines[at - 1::-1] if line.strip()), ''))
+            shows_its_name(
+                blocks[-1], next((line for line in lines[at - 1 :: -1] if line.strip()), '')
+            )
             writes_whole(blocks[-1])
             at = end
-        elif line.startswith('    ') and before == '' and not lines[at - 2].lstrip().startswith(('-', '*', '1')):
-            raise Wrong('line {}: an indented block, which nothing runs'.format(at + 1))
+        elif (
+            line.startswith('    ')
+            and before == ''
+            and not lines[at - 2].lstrip().startswith(('-', '*', '1'))
+        ):
+            raise Wrong(f'line {at + 1}: an indented block, which nothing runs')
         elif line.startswith('#'):
             found.append((heading, blocks))
             heading, blocks = line.strip('# '), []
@@ -93,11 +113,20 @@ def sections(page):
 
 
 def shows_its_name(block, before):
-    """A block that is a file has its name where a reader of the rendered page sees it: in its first line or in the line before."""
+    """A block that is a file has its name where a reader of the rendered page sees it: in its first
+    line or in the line before.
+    """
     if block.kind in FILES and block.words:
         name = block.words[0]
-        if '`{}`'.format(name) not in before and block.text.split('\n')[0] not in ('# ' + name, '<!-- {} -->'.format(name)):
-            raise Wrong('line {}: nobody who reads the rendered page sees that this block is the file {}'.format(block.line, name))
+        if f'`{name}`' not in before and block.text.split('\n')[0] not in (
+            '# ' + name,
+            f'<!-- {name} -->',
+        ):
+            raise Wrong(
+                'line {}: nobody who reads the rendered page sees that this block is the file {}'.format(
+                    block.line, name
+                )
+            )
 
 
 TO_A_FILE = re.compile(r'(?<![0-9&-])(?:1|&)?>>?\|?\s*(?!&|/dev/(?:null|stderr|stdout)\b)[^\s&|;]+')
@@ -109,7 +138,11 @@ def writes_whole(block):
         text = re.sub(r"'[^']*'|\"[^\"]*\"|(?:^|(?<=\s))#.*", '_', block.text, flags=re.M)
         found = TO_A_FILE.search(text)
         if found:
-            raise Wrong('line {}: {} leaves a file that is empty or cut off where the command fails; see examples/python/whole.py'.format(block.line, found[0]))
+            raise Wrong(
+                'line {}: {} leaves a file that is empty or cut off where the command fails; see examples/python/whole.py'.format(
+                    block.line, found[0]
+                )
+            )
 
 
 def all_sections():
@@ -123,14 +156,23 @@ def all_blocks():
 
 
 def blocks_with(text):
-    """The texts of the blocks of commands, in whatever page, that have this text in them; one at least."""
-    found = list(dict.fromkeys(block.text for block in all_blocks() if block.kind == 'sh' and block.words != ['elsewhere'] and text in block.text))
+    """The texts of the blocks of commands, in whatever page, that have this text in them; one at
+    least.
+    """
+    found = list(
+        dict.fromkeys(
+            block.text
+            for block in all_blocks()
+            if block.kind == 'sh' and block.words != ['elsewhere'] and text in block.text
+        )
+    )
     if not found:
-        raise Wrong('no block of commands has {}'.format(text))
+        raise Wrong(f'no block of commands has {text}')
     return found
 
 
 # ---- headings and links ----
+
 
 @functools.lru_cache(maxsize=None)
 def headings(page):
@@ -141,17 +183,29 @@ def headings(page):
         if hit:
             text = re.sub(r'\[([^\]]*)\]\([^)]*\)', r'\1', hit[2])
             name = re.sub(r'[^\w\- ]', '', text.lower()).replace(' ', '-')
-            found.append(Heading(page, number, len(hit[1]), text, '{}-{}'.format(name, times[name]) if times[name] else name))
+            found.append(
+                Heading(
+                    page,
+                    number,
+                    len(hit[1]),
+                    text,
+                    f'{name}-{times[name]}' if times[name] else name,
+                )
+            )
             times[name] += 1
     return found
 
 
 def anchors(page):
     """The names under which places of a page are linked: its headings, and what it names itself."""
-    return {heading.anchor for heading in headings(page)} | set(re.findall(r'<a (?:id|name)="([^"]+)">', text_of(page)))
+    return {heading.anchor for heading in headings(page)} | set(
+        re.findall(r'<a (?:id|name)="([^"]+)">', text_of(page))
+    )
 
 
-LINK = re.compile(r'\]\(([^)\s]*)(?: "[^"]*")?\)|^\[[^\]]+\]: (\S+)|\b(?:src|srcset|href)="([^"]*)"')
+LINK = re.compile(
+    r'\]\(([^)\s]*)(?: "[^"]*")?\)|^\[[^\]]+\]: (\S+)|\b(?:src|srcset|href)="([^"]*)"'
+)
 
 
 def link_of(page, number, written):
@@ -182,9 +236,11 @@ def links_lead(page):
     """Each link of a page leads somewhere, to the place in the page that it names."""
     for link in links(page):
         if not (TOP / link.target).exists():
-            raise Wrong('line {}: there is no {}'.format(link.line, link.target))
-        if link.anchor and (not link.target.endswith('.md') or link.anchor not in anchors(link.target)):
-            raise Wrong('line {}: {} has no place #{}'.format(link.line, link.target, link.anchor))
+            raise Wrong(f'line {link.line}: there is no {link.target}')
+        if link.anchor and (
+            not link.target.endswith('.md') or link.anchor not in anchors(link.target)
+        ):
+            raise Wrong(f'line {link.line}: {link.target} has no place #{link.anchor}')
 
 
 def words(page):
@@ -193,6 +249,7 @@ def words(page):
 
 
 # ---- tables ----
+
 
 def cells_of(line):
     """The cells of a row."""
@@ -208,14 +265,26 @@ def tables(page):
             rows.append((number, line))
         elif rows:
             if len(rows) > 1 and re.fullmatch(r'[|\-: ]+', rows[1][1]):
-                found.append(Table(page, rows[0][0], cells_of(rows[0][1]), [cells_of(row) for _, row in rows[2:]]))
+                found.append(
+                    Table(
+                        page,
+                        rows[0][0],
+                        cells_of(rows[0][1]),
+                        [cells_of(row) for _, row in rows[2:]],
+                    )
+                )
             rows = []
     return found
 
 
 def tables_with(*heads):
     """The tables of all pages whose first heads are these."""
-    return [table for page in PAGES for table in tables(page) if tuple(table.heads[:len(heads)]) == heads]
+    return [
+        table
+        for page in PAGES
+        for table in tables(page)
+        if tuple(table.heads[: len(heads)]) == heads
+    ]
 
 
 def table(*heads):

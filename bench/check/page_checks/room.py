@@ -26,15 +26,23 @@ class Room:
         top = pathlib.Path(self.holder.name)
         (top / 'bin').mkdir()
         (top / 'bin' / 'yokeorange').symlink_to(program)
-        (top / 'bin' / 'yoke').write_text('#!/bin/sh\nexec {} -m yoke "$@"\n'.format(sys.executable))
+        (top / 'bin' / 'yoke').write_text(f'#!/bin/sh\nexec {sys.executable} -m yoke "$@"\n')
         (top / 'bin' / 'yoke').chmod(0o755)
         (top / 'editor').symlink_to(program)
         (top / 'crates' / 'editor' / 'out').mkdir(parents=True)
         (top / 'crates' / 'editor' / 'out' / 'editor').symlink_to(program)
-        shutil.copytree(TOP / 'examples', top / 'examples', ignore=shutil.ignore_patterns('__pycache__'))
+        shutil.copytree(
+            TOP / 'examples', top / 'examples', ignore=shutil.ignore_patterns('__pycache__')
+        )
         self.folder = top if like_checkout else top / 'examples'
-        self.environment = dict(os.environ, PATH='{}:{}'.format(top / 'bin', os.environ['PATH']), LC_ALL='C.UTF-8',
-                                HOME=str(top / 'home'), PYTHONDONTWRITEBYTECODE='1', PYTHONPATH=str(TOP))
+        self.environment = dict(
+            os.environ,
+            PATH='{}:{}'.format(top / 'bin', os.environ['PATH']),
+            LC_ALL='C.UTF-8',
+            HOME=str(top / 'home'),
+            PYTHONDONTWRITEBYTECODE='1',
+            PYTHONPATH=str(TOP),
+        )
 
     def __enter__(self):
         return self
@@ -48,10 +56,21 @@ class Room:
     def run(self, words, text=None, timeout=300):
         """Status and output, the error stream among it, of a command, which has so many seconds."""
         try:
-            done = subprocess.run(words, cwd=self.folder, env=self.environment, input=text, text=True, timeout=timeout,
-                                  stdout=subprocess.PIPE, stderr=subprocess.STDOUT, errors='surrogateescape')
+            done = subprocess.run(
+                words,
+                cwd=self.folder,
+                env=self.environment,
+                input=text,
+                text=True,
+                timeout=timeout,
+                stdout=subprocess.PIPE,
+                stderr=subprocess.STDOUT,
+                errors='surrogateescape',
+            )
         except subprocess.TimeoutExpired as late:
-            raise Wrong('it had not ended after {} seconds: {}'.format(timeout, ' '.join(map(str, words)))) from late
+            raise Wrong(
+                'it had not ended after {} seconds: {}'.format(timeout, ' '.join(map(str, words)))
+            ) from late
         return done.returncode, done.stdout
 
     def sh(self, text, shell='sh -eu'):
@@ -70,12 +89,14 @@ class Room:
         self.write('case.script', ''.join(line + '\n' for line in lines))
         status, said = self.run(['yokeorange', 'case.script'])
         if status != 0:
-            raise Wrong('status {}: {}'.format(status, said[-300:]))
+            raise Wrong(f'status {status}: {said[-300:]}')
         return said
 
 
 def room_of(program, page):
-    """The folder in which a reader of the page stands: that of the checkout for the pages at the top, else examples/."""
+    """The folder in which a reader of the page stands: that of the checkout for the pages at the
+    top, else examples/.
+    """
     return Room(program, like_checkout='/' not in page)
 
 
@@ -84,7 +105,7 @@ def compare(want, got):
     parts = [re.escape(line) for line in want.split('\n')]
     pattern = '\n'.join(parts).replace(re.escape('...') + '\n', r'(?:.*\n)*?')
     if not re.fullmatch(pattern, got):
-        raise Wrong('the page says\n{}and what comes is\n{}'.format(indent(want), indent(got)))
+        raise Wrong(f'the page says\n{indent(want)}and what comes is\n{indent(got)}')
 
 
 def run_section(room, blocks, shell):
@@ -98,7 +119,7 @@ def run_section(room, blocks, shell):
         try:
             said = run_block(room, block, shell, said)
         except Wrong as wrong:
-            raise Wrong('{}, line {}: {}'.format(shell, block.line, wrong))
+            raise Wrong(f'{shell}, line {block.line}: {wrong}')
 
 
 class Missing(Exception):
@@ -109,11 +130,15 @@ def run_block(room, block, shell, said):
     name = block.words[0] if block.words and block.words[0] != 'needs' else None
     if block.kind == 'sh' and name != 'elsewhere':
         ended = pathlib.Path(room.holder.name) / 'bin' / 'ended'
-        status, said = room.sh("trap 'pwd -P > {}' EXIT\n".format(ended) + block.text, shell)
+        status, said = room.sh(f"trap 'pwd -P > {ended}' EXIT\n" + block.text, shell)
         if status != int(name or 0):
-            raise Wrong('status {}\n{}'.format(status, indent(said)))
-        if ended.read_text() != '{}\n'.format(room.folder.resolve()):
-            raise Wrong('it ends in another folder, {}so in one terminal the next block fails'.format(ended.read_text()))
+            raise Wrong(f'status {status}\n{indent(said)}')
+        if ended.read_text() != f'{room.folder.resolve()}\n':
+            raise Wrong(
+                'it ends in another folder, {}so in one terminal the next block fails'.format(
+                    ended.read_text()
+                )
+            )
     elif block.kind == 'output':
         if said is None:
             raise Wrong('nothing was run before this output')
@@ -121,7 +146,7 @@ def run_block(room, block, shell, said):
     elif block.kind in FILES and name:
         path = room.folder / name
         if path.exists() and path.read_text() != block.text:
-            raise Wrong('the file {} is another one'.format(name))
+            raise Wrong(f'the file {name} is another one')
         room.write(name, block.text)
     elif block.kind == 'script':
         said = room.session(*block.text.splitlines())
@@ -133,13 +158,15 @@ def run_block(room, block, shell, said):
         if any(COMMANDS.match(line) for line in block.text.split('\n')):
             raise Wrong('a command that nothing runs')
     elif block.kind != 'sh':
-        raise Wrong('a fence with an unknown word, {}'.format(block.kind))
+        raise Wrong(f'a fence with an unknown word, {block.kind}')
     return said
 
 
 def town(objects):
     """A town of so many objects."""
-    return subprocess.run([MODEL / 'town', str(objects)], stdout=subprocess.PIPE, text=True, check=True).stdout
+    return subprocess.run(
+        [MODEL / 'town', str(objects)], stdout=subprocess.PIPE, text=True, check=True
+    ).stdout
 
 
 def random_steps(room, seed, steps):
