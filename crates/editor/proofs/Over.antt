@@ -27,6 +27,7 @@ module _ {S K : Type 0} (told : S → Option Shelved) (begun : S → Bool) (note
     outcome = right.outcome;
     stopped = right.stopped;
     noted = right.noted;
+    lines = right.lines;
     complete = right.complete;
     read = right.read;
     write = right.write;
